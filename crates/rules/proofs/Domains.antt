@@ -1,0 +1,94 @@
+-- The vertices that a problem's actions make: what each needs, adds and deletes, and which of them interfere.
+-- Assumes nothing.
+use mathlib.Core.Path.{_≡_, sym, ap, subst, _∙_}
+use mathlib.Core.Bool.{So}
+use mathlib.Core.Logic.{⊎-elim}
+use Prim.Native.Nat.{ℕ, _+_, _<_}
+use native.Mathlib.Omega.{arith}
+use Rattle.rules.specs.Test.{_or_, below, choose}
+use Rattle.rules.specs.Word.{bit, union, single}
+use Rattle.rules.specs.Domain.{Actions, persistence, needsOf, addsOf, deletesOf, breaks, domain}
+use Rattle.rules.proofs.Tests.{choose-held, choose-failed, or-at, fails-of, below-of, below-at}
+use Rattle.rules.proofs.Words.{bit-union, no-bit-zero, single-only, width, meets-of, meets-no}
+use Rattle.rules.proofs.Layers.{ordered, paired-at}
+use Rattle.rules.proofs.Order.{Apart, Keeps}
+
+module _ (A : Actions) where
+  -- an action is the vertex of its number, a persistence comes behind all actions
+  action-vertex {ℓ} : {X : Type ℓ} (a : ℕ) (x y : X) → a < A .count → choose (below a (A .count)) x y ≡ x
+  action-vertex a x y h = choose-held _ _ _ (below-of _ _ h)
+
+  persistence-vertex {ℓ} : {X : Type ℓ} (p : ℕ) (x y : X) → choose (below (A .count + p) (A .count)) x y ≡ y
+  persistence-vertex p x y = choose-failed _ _ _ (fails-of _ (λ t. omega (arith, below-at _ _ t)))
+
+  pub persistence-below : (p : ℕ) → p < A .props → persistence A p < domain A .vertices
+  unfolding persistence domain
+  persistence-below p h = omega arith
+
+  pub action-below : (a : ℕ) → a < A .count → a < domain A .vertices
+  unfolding domain
+  action-below a h = omega arith
+
+  pub needs-action : (a : ℕ) → a < A .count → needsOf A a ≡ A .pre a
+  unfolding needsOf
+  needs-action a h = action-vertex a _ _ h
+
+  pub adds-action : (a : ℕ) → a < A .count → addsOf A a ≡ A .add a
+  unfolding addsOf
+  adds-action a h = action-vertex a _ _ h
+
+  pub deletes-action : (a : ℕ) → a < A .count → deletesOf A a ≡ A .del a
+  unfolding deletesOf
+  deletes-action a h = action-vertex a _ _ h
+
+  pub needs-persistence : (p : ℕ) → needsOf A (persistence A p) ≡ single p
+  unfolding needsOf persistence
+  needs-persistence p = persistence-vertex p _ _ ∙ ap (λ (k : ℕ). single k) (omega arith)
+
+  pub adds-persistence : (p : ℕ) → addsOf A (persistence A p) ≡ single p
+  unfolding addsOf persistence
+  adds-persistence p = persistence-vertex p _ _ ∙ ap (λ (k : ℕ). single k) (omega arith)
+
+  pub deletes-persistence : (p : ℕ) → deletesOf A (persistence A p) ≡ 0
+  unfolding deletesOf persistence
+  deletes-persistence p = persistence-vertex p _ _
+
+  -- ---- interference
+
+  -- v breaks w exactly when it 'deletes something the other needs or adds'
+  pub breaks-of : (v w p : ℕ) → So (bit p (deletesOf A v)) → So (bit p (needsOf A w) or bit p (addsOf A w)) → So (breaks A v w)
+  unfolding breaks
+  breaks-of v w p d t = meets-of (deletesOf A v) (union (needsOf A w) (addsOf A w)) p d (bit-union p (needsOf A w) (addsOf A w) ∙ t)
+
+  pub breaks-no : (v w : ℕ) → ((p : ℕ) → So (bit p (deletesOf A v)) → So (bit p (needsOf A w) or bit p (addsOf A w)) → ⊥) → So (breaks A v w) → ⊥
+  unfolding breaks
+  breaks-no v w f t =
+      meets-no (deletesOf A v) (deletesOf A v) (union (needsOf A w) (addsOf A w)) (width (deletesOf A v))
+      (λ p h d e. f p d (sym (bit-union p (needsOf A w) (addsOf A w)) ∙ e)) t
+
+  -- two vertices of which neither breaks the other
+  pub breaks-apart : (v w : ℕ) → (So (breaks A v w) → ⊥) → (So (breaks A w v) → ⊥) → Apart (domain A) v w
+  unfolding domain
+  breaks-apart v w f g c =
+      ordered (λ a b. So (breaks A a b or breaks A b a) → ⊥) v w (λ t. ⊎-elim f g (or-at _ _ t)) (λ t. ⊎-elim g f (or-at _ _ t)) (paired-at _ v w c)
+
+  -- a persistence breaks nothing
+  pub persistence-breaks : (p w : ℕ) → So (breaks A (persistence A p) w) → ⊥
+  persistence-breaks p w = breaks-no (persistence A p) w (λ q d e. no-bit-zero q (ap (bit q) (sym (deletes-persistence p)) ∙ d))
+
+  -- and only what deletes its proposition breaks it
+  pub breaks-persistence : (v p : ℕ) → (So (bit p (deletesOf A v)) → ⊥) → So (breaks A v (persistence A p)) → ⊥
+  breaks-persistence v p f = breaks-no v (persistence A p) (λ q d e. f (subst (λ (x : ℕ). So (bit x (deletesOf A v))) (its q e) d))
+    where
+      its : (q : ℕ) → So (bit q (needsOf A (persistence A p)) or bit q (addsOf A (persistence A p))) → q ≡ p
+      its q e = ⊎-elim (single-only p _ q (needs-persistence p)) (single-only p _ q (adds-persistence p)) (or-at _ _ e)
+
+  pub keeps : Keeps (domain A)
+  unfolding domain
+  keeps = record {
+    persistence = persistence A;
+    below = persistence-below;
+    needs = λ p h. needs-persistence p;
+    adds = λ p h. adds-persistence p;
+    apart = λ p q h l. breaks-apart _ _ (persistence-breaks p _) (persistence-breaks q _);
+  }

@@ -1,0 +1,22 @@
+-- The laws that follow from the definitions, each over P, A, N, the set width and the depth.
+pub mod Tests
+pub mod Words
+pub mod Overs
+pub mod Firsts
+pub mod Layers
+pub mod Order
+pub mod Domains
+pub mod Bounds
+pub mod Levels
+pub mod Agree
+pub mod Layouts
+pub mod Matches
+pub mod Smalls
+pub mod Rests
+pub mod Leaks
+pub mod Extracts
+pub mod Mets
+pub mod Supports
+pub mod Plans
+pub mod Claims
+pub mod Lamp

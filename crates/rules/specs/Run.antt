@@ -1,0 +1,36 @@
+-- Running a sequence of actions from each state of a set.
+use Prim.Native.Nat.{ℕ, suc}
+use mathlib.Core.Bool.{Bool}
+use mathlib.Core.List.{List, [], _∷_}
+use lib.ListN.{getD}
+use Rattle.rules.specs.Test.{_implies_, choose}
+use Rattle.rules.specs.Word.{bit, union, without, within}
+use Rattle.rules.specs.Over.{allBelow}
+use Rattle.rules.specs.Lists.{listOver}
+use Rattle.rules.specs.Domain.{Actions}
+
+-- 'A step needs its precondition in every state of S': of n states, whose sets are xs
+unfoldable pub ready : Actions → ℕ → ℕ → ℕ → List ℕ → Bool
+ready A n set a xs = allBelow n (λ s. bit s set implies within (A .pre a) (getD xs s 0))
+
+-- 'then its adds are joined and after that its deletes removed'
+unfoldable pub after : Actions → ℕ → ℕ → ℕ
+after A a x = without (union x (A .add a)) (A .del a)
+
+-- 'states outside S keep their start'
+unfoldable pub stepped : Actions → ℕ → ℕ → ℕ → List ℕ → List ℕ
+stepped A n set a xs = listOver n (λ s. choose (bit s set) (after A a (getD xs s 0)) (getD xs s 0))
+
+-- the end sets, or the index of the first step that lacks its precondition
+pub data Ran : Type 0 where
+  ended : List ℕ → Ran
+  lacks : ℕ → Ran
+
+-- from step i on
+unfoldable pub runFrom : Actions → ℕ → ℕ → ℕ → List ℕ → List ℕ → Ran
+runFrom A n set i xs [] = ended xs
+runFrom A n set i xs (a ∷ list) = choose (ready A n set a xs) (runFrom A n set (suc i) (stepped A n set a xs) list) (lacks i)
+
+-- 'A list .. runs from each state of S': the list may have any length
+unfoldable pub runOf : Actions → ℕ → (ℕ → ℕ) → ℕ → List ℕ → Ran
+runOf A n start set list = runFrom A n set 0 (listOver n start) list
