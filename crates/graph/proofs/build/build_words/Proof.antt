@@ -1,0 +1,60 @@
+-- `build::build_words` meets its contract: it lends its arrays, cut to size.
+use mathlib.Core.Path.{sym}
+use native.Mathlib.Omega.{arith}
+use borrow.Author.Needs.{needs}
+use Rattle.graph.proofs.Steps.{part-length}
+use Rattle.graph.proofs.build.build_words.Statement.{statement}
+use Rattle.graph.proofs.build.build_words.Tie as tie
+
+add-v : tie.Need-add-v
+add-v c = search needs
+
+array-borrow-prefix-needs : tie.Need-array-borrow-prefix-needs
+array-borrow-prefix-needs c = search needs
+
+slice-aggregate-build-in : tie.Need-slice-aggregate-build-in
+slice-aggregate-build-in c = sym (part-length _ _ (omega arith))
+
+array-borrow-prefix-adds : tie.Need-array-borrow-prefix-adds
+array-borrow-prefix-adds c = search needs
+
+slice-aggregate-build-in-2 : tie.Need-slice-aggregate-build-in-2
+slice-aggregate-build-in-2 c = sym (part-length _ _ (omega arith))
+
+array-borrow-prefix-dels : tie.Need-array-borrow-prefix-dels
+array-borrow-prefix-dels c = search needs
+
+slice-aggregate-build-in-3 : tie.Need-slice-aggregate-build-in-3
+slice-aggregate-build-in-3 c = sym (part-length _ _ (omega arith))
+
+array-borrow-prefix-starts : tie.Need-array-borrow-prefix-starts
+array-borrow-prefix-starts c = search needs
+
+slice-aggregate-build-in-4 : tie.Need-slice-aggregate-build-in-4
+slice-aggregate-build-in-4 c = sym (part-length _ _ (omega arith))
+
+build-in-requires : tie.Need-build-in-requires
+build-in-requires c κs = (c .before .before .before .before .before .before .before .before .pre, (part-length _ _ (omega arith), part-length _ _ (omega arith), part-length _ _ (omega arith), part-length _ _ (omega arith)))
+
+same-length : tie.Need-same-length
+same-length c = search needs
+
+returns : tie.Need-returns
+returns c = c .before .before .before .before .before .before .build-in .ensures
+
+pub build-words-spec : {M : Type 1} → statement M
+build-words-spec =
+    tie.close
+    (tie.spec
+    add-v
+    array-borrow-prefix-needs
+    slice-aggregate-build-in
+    array-borrow-prefix-adds
+    slice-aggregate-build-in-2
+    array-borrow-prefix-dels
+    slice-aggregate-build-in-3
+    array-borrow-prefix-starts
+    slice-aggregate-build-in-4
+    build-in-requires
+    same-length
+    returns)
