@@ -1,31 +1,45 @@
--- What is known of a file that is taken, and of a call that is accepted: each check that was passed.
+-- What is known of a file that was taken, stage by stage of its rule, and of a call whose checks were passed.
 -- Assumes nothing.
-use Prim.Native.Nat.{ℕ, zero, suc, _+_, _*_, _^_, _≤_, _<_}
-use mathlib.Core.Path.{_≡_, refl, sym, ap, subst, _∙_}
-use mathlib.Core.Bool.{Bool, true, false, So, false≢true}
+use mathlib.Core.Path.{_≡_, refl, subst}
+use mathlib.Core.Bool.{Bool, true, false, So}
 use mathlib.Core.List.{List}
-use mathlib.Core.Logic.{⊎-elim}
+use Prim.Native.Nat.{ℕ, zero, suc, _+_, _*_, _^_, _≤_, _<_}
+use native.Mathlib.Nat.{not-suc-le-zero}
 use native.Mathlib.Omega.{arith}
-use lib.ListN.{length, getD}
-use Rattle.rules.specs.Test.{_or_, fails, same, below, choose}
-use Rattle.rules.proofs.Tests.{or-left, or-right, fails-of, fails-at, same-of, same-at, below-of, below-at, below-fails, holds-or}
-use Rattle.graph.specs.Width.{propWidth, stateWidth}
+use lib.ListN.{length}
+use Rattle.rules.specs.Test.{_and_, _or_, fails, choose}
+use Rattle.rules.proofs.Tests.{fails-of, fails-at, or-left, or-right, same-of, same-at, below-at, below-fails}
 use Rattle.graph.specs.Verdict.{Verdict, accepted, refused, andThen}
-use Rattle.graph.specs.File.{setAt, letters, version, countsIn, rightLength, setsRule, lengthRule, countsRule, fileRule, Taken}
+use Rattle.graph.specs.File.{Taken, setAt, letters, version, countsIn, rightLength, setsRule, lengthRule, countsRule, fileRule}
 use Rattle.graph.specs.Calls.{depthRule, setRule, goalRule, memoryRule, outputRule}
 use Rattle.graph.specs.declared.file.Counts.{Counts}
 
--- a check that refuses where its test holds, or where it fails, was passed
-module _ {X : Type 0} (x : Verdict X) (number place : ℕ) (c : X) where
-  pub passed-fails : (b : Bool) → choose b (refused number place) x ≡ accepted c → So (fails b) × (x ≡ accepted c)
-  unfolding choose fails
-  passed-fails true e = (cc, cc)
-  passed-fails false e = (refl, e)
+-- ---- a check that was passed
 
-  pub passed-holds : (b : Bool) → choose b x (refused number place) ≡ accepted c → So b × (x ≡ accepted c)
+module _ {X : Type 0} (b : Bool) (n p : ℕ) (v : Verdict X) (x : X) where
+  pub passed-if-not : choose b (refused n p) v ≡ accepted x → So (fails b) × (v ≡ accepted x)
+  unfolding choose fails
+  passed-if-not e = go b e
+    where
+      go : (b : Bool) → choose b (refused n p) v ≡ accepted x → So (fails b) × (v ≡ accepted x)
+      go true e = (cc, cc)
+      go false e = (refl, e)
+
+  pub passed-if : choose b v (refused n p) ≡ accepted x → So b × (v ≡ accepted x)
   unfolding choose
-  passed-holds true e = (refl, e)
-  passed-holds false e = (cc, cc)
+  passed-if e = go b e
+    where
+      go : (b : Bool) → choose b v (refused n p) ≡ accepted x → So b × (v ≡ accepted x)
+      go true e = (refl, e)
+      go false e = (cc, cc)
+
+so-at : (a : Bool) → So (fails (fails a)) → So a
+unfolding fails
+so-at true t = refl
+so-at false t = t
+
+neither : (a b : Bool) → So (fails (a or b)) → So (fails a) × So (fails b)
+neither a b t = (fails-of a (λ s. fails-at _ t (or-left a b s)), fails-of b (λ s. fails-at _ t (or-right a b s)))
 
 -- a chain of checks was passed one by one
 pub passed-then : {X Y : Type 0} (v : Verdict X) (next : X → Verdict Y) (y : Y) → andThen v next ≡ accepted y → (x : X) × (v ≡ accepted x) × (next x ≡ accepted y)
@@ -33,69 +47,98 @@ unfolding andThen
 passed-then (accepted x) next y e = (x, refl, e)
 passed-then (refused number place) next y e = absurd (let z : _≡_ {A = ℕ} 0 1 = cc in omega arith)
 
-module _ (file : List ℕ) where
-  sets-taken : (c c' : Counts) (n at : ℕ) → setsRule file c n at ≡ accepted c' → (c ≡ c') × ((i : ℕ) → i < n → setAt file (at + 4 * i) < 2 ^ c .props)
+pub accepted-is : {X : Type 0} (x y : X) → accepted x ≡ accepted y → x ≡ y
+accepted-is x y e = cc
+
+-- ---- the stages
+
+module _ (file : List ℕ) (c d : Counts) where
+  sets-passed : (left at : ℕ) → setsRule file c left at ≡ accepted d → (c ≡ d) × ((i : ℕ) → i < left → setAt file (at + 4 * i) < 2 ^ c .props)
   unfolding setsRule
-  sets-taken c c' zero at e = (cc, λ i h. absurd (omega arith))
-  sets-taken c c' (suc n) at e =
-      let (b, q) = passed-holds (setsRule file c n (at + 4)) 5 at c' (below (setAt file at) (2 ^ c .props)) e in
-      let (r, more) = sets-taken c c' n (at + 4) q in
-      (r, each (below-at _ _ b) more)
+  sets-passed zero at e = (accepted-is c d e, λ i h. absurd (not-suc-le-zero h))
+  sets-passed (suc left) at e =
+      let (t, r) = passed-if _ _ _ _ _ e in
+      let (q, more) = sets-passed left (at + 4) r in
+      (q, each (below-at _ _ t) more)
     where
-      each : setAt file at < 2 ^ c .props → ((i : ℕ) → i < n → setAt file (at + 4 + 4 * i) < 2 ^ c .props)
-          → (i : ℕ) → i < suc n → setAt file (at + 4 * i) < 2 ^ c .props
-      each b more zero h = let e : at ≡ at + 4 * 0 = omega arith in subst (λ (x : ℕ). setAt file x < 2 ^ c .props) e b
-      each b more (suc i) h =
-          let e : at + 4 + 4 * i ≡ at + 4 * suc i = omega arith in
-          subst (λ (x : ℕ). setAt file x < 2 ^ c .props) e (more i (omega arith))
+      each : setAt file at < 2 ^ c .props → ((i : ℕ) → i < left → setAt file (at + 4 + 4 * i) < 2 ^ c .props)
+          → (i : ℕ) → i < suc left → setAt file (at + 4 * i) < 2 ^ c .props
+      each here more zero h = subst (λ (x : ℕ). setAt file x < 2 ^ c .props) (omega arith) here
+      each here more (suc i) h = subst (λ (x : ℕ). setAt file x < 2 ^ c .props) (omega arith) (more i (omega arith))
 
-  -- the file's rule gives all that later calls rely on
-  pub taken-means : (c : Counts) → fileRule file ≡ accepted c → Taken file c
-  unfolding fileRule countsRule lengthRule rightLength
-  taken-means c e =
-      let f : Counts = countsIn file in
-      let (t1, e1) = passed-fails _ 1 0 c (below (length file) 8) e in
-      let (t2, e2) = passed-fails _ 1 0 c (fails (letters file)) e1 in
-      let (t3, e3) = passed-fails _ 2 3 c (fails (same (version file) 1)) e2 in
-      let (t4, e4) = passed-fails _ 3 5 c (below (f .props) 1 or below propWidth (f .props)) e3 in
-      let (t5, e5) = passed-fails _ 3 6 c (below 32 (f .actions)) e4 in
-      let (t6, e6) = passed-fails _ 3 7 c (below (f .states) 1 or below stateWidth (f .states)) e5 in
-      let (t7, e7) = passed-holds _ 4 (8 + 12 * f .actions + 4 * f .states) c (same (length file) (8 + 12 * f .actions + 4 * f .states)) e6 in
-      let (q, sets) = sets-taken f c (3 * f .actions + f .states) 8 e7 in
-      subst (Taken file) q
-      (record {
-        some-props = not-less (f .props) 1 (λ h. fails-at _ t4 (or-left _ _ h));
-        props = not-less propWidth (f .props) (λ h. fails-at _ t4 (or-right _ _ h));
-        actions = not-less 32 (f .actions) (fails-at _ t5);
-        some-states = not-less (f .states) 1 (λ h. fails-at _ t6 (or-left _ _ h));
-        states = not-less stateWidth (f .states) (λ h. fails-at _ t6 (or-right _ _ h));
-        long = same-at _ _ t7;
-        sets = sets;
-        counts = refl;
-      })
-    where
-      not-less : (i j : ℕ) → (So (below i j) → ⊥) → j ≤ i
-      not-less i j f = below-fails i j (fails-of _ f)
+  length-passed : lengthRule file c ≡ accepted d
+      → (length file ≡ rightLength c) × (c ≡ d) × ((i : ℕ) → i < 3 * c .actions + c .states → setAt file (8 + 4 * i) < 2 ^ c .props)
+  unfolding lengthRule
+  length-passed e =
+      let (t, r) = passed-if _ _ _ _ _ e in
+      let (q, each) = sets-passed (3 * c .actions + c .states) 8 r in
+      (same-at _ _ t, q, each)
 
--- what the caller's checks give
+-- what the counts of a file that was taken are, and all else that is known of it
+pub counts-passed : (file : List ℕ) (c d : Counts) → c ≡ countsIn file → countsRule file c ≡ accepted d → (c ≡ d) × Taken file c
+unfolding countsRule rightLength
+counts-passed file c d o e =
+    let (p, e₁) = passed-if-not _ _ _ _ _ e in
+    let (a, e₂) = passed-if-not _ _ _ _ _ e₁ in
+    let (n, e₃) = passed-if-not _ _ _ _ _ e₂ in
+    let (long, q, each) = length-passed file c d e₃ in
+    let (p₁, p₂) = neither _ _ p in
+    let (n₁, n₂) = neither _ _ n in (
+      q,
+      record {
+        some-props = below-fails _ _ p₁;
+        props = below-fails _ _ p₂;
+        actions = below-fails _ _ a;
+        some-states = below-fails _ _ n₁;
+        states = below-fails _ _ n₂;
+        long = long;
+        sets = each;
+        counts = o;
+      },
+    )
+
+module _ (file : List ℕ) (c : Counts) (e : fileRule file ≡ accepted c) where
+  -- the head of the file, and the counts in it
+  head-passed : (8 ≤ length file) × So (letters file) × (version file ≡ 1) × (countsRule file (countsIn file) ≡ accepted c)
+  unfolding fileRule
+  head-passed =
+      let (h, e₁) = passed-if-not _ _ _ _ _ e in
+      let (l, e₂) = passed-if-not _ _ _ _ _ e₁ in
+      let (v, e₃) = passed-if-not _ _ _ _ _ e₂ in
+      (below-fails _ _ h, so-at _ l, same-at _ _ (so-at _ v), e₃)
+
+  pub taken-letters : So (letters file)
+  taken-letters = let (h, l, v, r) = head-passed in l
+
+  pub taken-version : version file ≡ 1
+  taken-version = let (h, l, v, r) = head-passed in v
+
+  pub taken-means : Taken file c
+  taken-means =
+      let (h, l, v, r) = head-passed in
+      let (q, taken) = counts-passed file (countsIn file) c refl r in
+      subst (λ (x : Counts). Taken file x) q taken
+
+-- ---- the caller's checks
+
 pub depth-means : (depth : ℕ) → depthRule depth ≡ accepted tt → depth ≤ 255
 unfolding depthRule
-depth-means depth e = below-fails 255 depth (passed-fails _ 6 255 tt (below 255 depth) e .0)
+depth-means depth e = below-fails _ _ (passed-if-not _ _ _ _ _ e .0)
 
 pub set-means : (n set : ℕ) → setRule n set ≡ accepted tt → (set ≡ 0 → ⊥) × (set < 2 ^ n)
 unfolding setRule
 set-means n set e =
-    let t = passed-fails _ 7 0 tt (same set 0 or fails (below set (2 ^ n))) e .0 in
-    (λ z. fails-at _ t (or-left _ _ (same-of _ _ z)), ⊎-elim (λ h. below-at _ _ h) (λ h. absurd (fails-at _ t (or-right _ _ h))) (holds-or (below set (2 ^ n))))
+    let (none, wide) = neither _ _ (passed-if-not _ _ _ _ _ e .0) in
+    (λ z. fails-at _ none (same-of _ _ z), below-at _ _ (so-at _ wide))
 
 pub goal-means : (n goal : ℕ) → goalRule n goal ≡ accepted tt → goal < 2 ^ n
 unfolding goalRule
-goal-means n goal e = below-at _ _ (passed-holds (accepted tt) 8 0 tt (below goal (2 ^ n)) e .0)
+goal-means n goal e = below-at _ _ (passed-if _ _ _ _ _ e .0)
 
 pub memory-means : (wanted have : ℕ) → memoryRule wanted have ≡ accepted tt → wanted ≤ have
 unfolding memoryRule
-memory-means wanted have e = below-fails have wanted (passed-fails _ 9 wanted tt (below have wanted) e .0)
+memory-means wanted have e = below-fails _ _ (passed-if-not _ _ _ _ _ e .0)
 
 pub output-means : (wanted have : ℕ) → outputRule wanted have ≡ accepted tt → wanted ≤ have
 unfolding outputRule
-output-means wanted have e = below-fails have wanted (passed-fails _ 10 wanted tt (below have wanted) e .0)
+output-means wanted have e = below-fails _ _ (passed-if-not _ _ _ _ _ e .0)

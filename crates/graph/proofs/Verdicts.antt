@@ -8,6 +8,10 @@ use lib.ListN.{length, drop}
 use Rattle.graph.specs.Verdict.{Verdict, accepted, refused, andThen, laid, written}
 use Rattle.graph.specs.Memory.{putAt}
 
+-- an answer in hand, which is known to be j, says what j says
+pub told : {K X : Type 0} (says : K → X) {k j : K} {v : X} → says k ≡ v → k ≡ j → v ≡ says j
+told says e q = sym e ∙ ap says q
+
 -- a check that is refused ends the chain; one that is passed leaves the rest
 pub then-refused : {X Y : Type 0} (v : Verdict X) (next : X → Verdict Y) (number place : ℕ) → v ≡ refused number place → andThen v next ≡ refused number place
 unfolding andThen

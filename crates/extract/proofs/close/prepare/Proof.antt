@@ -1,0 +1,59 @@
+-- The loop writes one mask after the other.
+use Rattle.extract.specs.Moves.{moving}
+use Rattle.graph.proofs.Writes.{Lists, list-none, list-more, list-whole}
+use Rattle.graph.specs.Width.{stateWidth}
+use native.Mathlib.Omega.{arith}
+use native.Mathlib.Nat.{zero-add}
+use Prim.Native.Nat.{_-_}
+use mathlib.Core.Path.{sym}
+use Rattle.extract.proofs.close.prepare.Statement.{statement}
+use Rattle.extract.proofs.close.prepare.Tie as tie
+
+abbrev Inv-loop : tie.InvT-loop
+Inv-loop set masks₀ i₀ masks i = Lists (moving stateWidth (set .0)) 0 6 masks₀ i masks
+
+abbrev μ-loop : tie.MeasureT-loop
+μ-loop set masks₀ i₀ masks i = 6 - i
+
+loop-holds : tie.Need-loop-holds Inv-loop μ-loop
+loop-holds c = list-none (omega arith)
+
+move-mask-requires : tie.Need-move-mask-requires Inv-loop μ-loop
+move-mask-requires c κs = omega arith
+
+mul-masks : tie.Need-mul-masks Inv-loop μ-loop
+mul-masks c = omega arith
+
+slice-write-masks : tie.Need-slice-write-masks Inv-loop μ-loop
+slice-write-masks c = omega (arith, c .before .before .loop .inv .long)
+
+add-i : tie.Need-add-i Inv-loop μ-loop
+add-i c = omega arith
+
+loop-less : tie.Need-loop-less Inv-loop μ-loop
+loop-less c = omega arith
+
+loop-again : tie.Need-loop-again Inv-loop μ-loop
+loop-again c = list-more (c .before .before .loop .inv) (omega arith) (sym (zero-add _)) (c .move-mask .ensures)
+
+same-length : tie.Need-same-length Inv-loop μ-loop
+same-length c = c .before .loop .inv .long
+
+returns : tie.Need-returns Inv-loop μ-loop
+returns c = list-whole (c .before .loop .inv) (omega arith) (c .before .before .before .pre)
+
+pub prepare-spec : {M : Type 1} → statement M
+prepare-spec =
+    tie.close
+    (tie.spec
+    Inv-loop
+    μ-loop
+    loop-holds
+    move-mask-requires
+    mul-masks
+    slice-write-masks
+    add-i
+    loop-less
+    loop-again
+    same-length
+    returns)

@@ -1,0 +1,30 @@
+-- 'bits closed up in order' by moves: in move i the states that have 2 ^ i to go, of all they have to go, go down by so much at once.
+use Prim.Native.Nat.{ℕ, _-_, _%_, _^_}
+use mathlib.Core.List.{List}
+use lib.ListN.{getD}
+use Rattle.rules.specs.Test.{_and_}
+use Rattle.rules.specs.Word.{bit, single}
+use Rattle.rules.specs.Over.{keep, joinOver}
+use Rattle.rules.specs.Lists.{listOver}
+use Rattle.rules.specs.Extract.{rank, closeUp}
+use Rattle.graph.specs.Width.{stateWidth}
+
+-- how far state s has to go down: the number of states below it that are not in S
+unfoldable pub gap : ℕ → ℕ → ℕ
+gap set s = s - rank set s
+
+-- where state s stands before move i
+unfoldable pub place : ℕ → ℕ → ℕ → ℕ
+place set i s = s - gap set s % 2 ^ i
+
+-- of n states those of S that go down in move i, where they stand
+unfoldable pub moving : ℕ → ℕ → ℕ → ℕ
+moving n set i = joinOver n (λ s. keep (bit s set and bit i (gap set s)) (single (place set i s)))
+
+-- the word w cut to S, before move i
+unfoldable pub closing : ℕ → ℕ → ℕ → ℕ → ℕ
+closing n set w i = joinOver n (λ s. keep (bit s set and bit s w) (single (place set i s)))
+
+-- the first `count` words, each cut to S and closed up
+unfoldable pub cutWords : ℕ → List ℕ → ℕ → List ℕ
+cutWords set words count = listOver count (λ j. closeUp stateWidth set (getD words j 0))

@@ -1,0 +1,5 @@
+-- Laws that the proofs of the functions cite, and what the rules come to.
+pub mod Searches
+pub mod Parts
+pub mod Stages
+pub mod Built

@@ -1,0 +1,24 @@
+-- The two searches decide the answer as the rule does.
+use borrow.Author.Needs.{needs}
+use Rattle.level.proofs.Stages.{level-at, level-never, level-not-by-depth}
+use Rattle.level.proofs.level_over.Statement.{statement}
+use Rattle.level.proofs.level_over.Tie as tie
+
+first-met-requires : tie.Need-first-met-requires
+first-met-requires c κs = search needs
+
+returns : tie.Need-returns
+returns c = level-at _ _ _ _ _ _ (c .before .first-met .ensures) (c .if1 .taken)
+
+first-rest-requires : tie.Need-first-rest-requires
+first-rest-requires c κs = search needs
+
+returns-2 : tie.Need-returns-2
+returns-2 c = level-never _ _ _ _ _ _ (c .before .before .before .first-met .ensures) _ (c .before .first-rest .ensures) (search needs) (c .if2 .taken)
+
+returns-3 : tie.Need-returns-3
+returns-3 c = level-not-by-depth _ _ _ _ _ _ (c .before .before .before .first-met .ensures) _ (c .before .first-rest .ensures) (search needs) (c .if2 .left)
+
+pub level-over-spec : {M : Type 1} → statement M
+level-over-spec =
+    tie.close (tie.spec first-met-requires returns first-rest-requires returns-2 returns-3)

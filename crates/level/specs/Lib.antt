@@ -1,0 +1,3 @@
+-- Level and rest, as calls.
+pub mod Meets
+pub mod Rule
