@@ -50,7 +50,8 @@ module _ (file : List ℕ) (depth set : ℕ) (words : List ℕ) (room : ℕ) whe
       module _ (s : setRule (c .states) set ≡ accepted tt) (wanted : ℕ) (w : wanted ≡ wordsOf file c depth) where
         pub by-memory : (n p : ℕ) → memoryRule wanted (length words) ≡ refused n p → extractRule file depth set words room ≡ refused n p
         unfolding extractRule
-        by-memory n p e = then-accepted _ _ c f ∙ then-accepted _ _ tt d ∙ then-accepted _ _ tt s ∙ then-refused _ _ n p (ap (λ (x : ℕ). memoryRule x (length words)) (sym w) ∙ e)
+        by-memory n p e = then-accepted _ _ c f ∙ then-accepted _ _ tt d ∙ then-accepted _ _ tt s ∙ then-refused _ _ n p
+            (ap (λ (x : ℕ). memoryRule x (length words)) (sym w) ∙ e)
 
         module _ (m : memoryRule wanted (length words) ≡ accepted tt) where
           memory : memoryRule (wordsOf file c depth) (length words) ≡ accepted tt

@@ -15,7 +15,8 @@ use Rattle.graph.proofs.Verdicts.{then-refused, then-accepted}
 
 module _ (file : List ℕ) (c : Counts) (depth : ℕ) where
   -- the code's count of words is the paper's
-  pub count-is : (wanted : ℕ) → wanted ≡ suc depth * size (c .props) + depth * size (c .actions + c .props) → wanted ≡ wordCount (domain (actionsOf file c)) depth
+  pub count-is : (wanted : ℕ) → wanted ≡ suc depth * size (c .props) + depth * size (c .actions + c .props)
+      → wanted ≡ wordCount (domain (actionsOf file c)) depth
   unfolding wordCount domain actionsOf
   count-is wanted e = e
 

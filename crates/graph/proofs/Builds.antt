@@ -105,7 +105,8 @@ step-put n all at needs adds dels w₀ w₁ p sizes room q e₁ ep =
     ap (λ (x : ℕ). take x (take (length w₁ - size n) (drop (size n) w₁))) (m ∙ sym la) ∙ put-part (size n) a w₀ w₁ (omega arith) e₁ in
     let ep' : p ≡ putAt (size (length needs)) (nextLayer (listed n needs adds dels) a) (take (length w₁ - size n) (drop (size n) w₁)) =
     ep
-    ∙ ap (λ (x : ℕ). putAt (size (length adds)) (layerAfter n adds (take (size (length adds)) (take (length w₁ - x) (drop x w₁)))) (take (length w₁ - x) (drop x w₁))) q
+    ∙ ap (λ (x : ℕ). putAt (size (length adds)) (layerAfter n adds (take (size (length adds)) (take (length w₁ - x) (drop x w₁))))
+    (take (length w₁ - x) (drop x w₁))) q
     ∙ ap₂ (λ (x : ℕ) (l : List ℕ). putAt x l (take (length w₁ - size n) (drop (size n) w₁))) m
     (ap (layerAfter n adds) front ∙ after-is n needs adds dels a (sizes .adders)) in
     ap (λ (x : ℕ). putMid x (length w₁ - x) w₁ p) q

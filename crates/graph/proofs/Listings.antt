@@ -12,7 +12,8 @@ use Rattle.rules.specs.Over.{keep, joinOver, removeOver}
 use Rattle.rules.specs.Lists.{listOver}
 use Rattle.rules.specs.Domain.{Domain, Actions, needsOf, addsOf, deletesOf, breaks, domain}
 use Rattle.rules.specs.Layer.{size, labelIn, mutexIn, wordCount}
-use Rattle.rules.specs.Shared.{startLayer, vertexLabel, vertexMutex, actionLayer, nextLabel, oneAdds, twoAdd, nextMutex, nextLayer, propLayer, vertexLayer, graphWords}
+use Rattle.rules.specs.Shared.{startLayer, vertexLabel, vertexMutex, actionLayer, nextLabel, oneAdds}
+use Rattle.rules.specs.Shared.{twoAdd, nextMutex, nextLayer, propLayer, vertexLayer, graphWords}
 use Rattle.rules.proofs.Overs.{joinOver-eq}
 use Rattle.rules.proofs.Layers.{getD-listOver, length-listOver, layer-eq, runOver-eq}
 use Rattle.rules.proofs.Leaks.{graph-eq}
@@ -39,7 +40,8 @@ module _ (p m : ℕ) (needs needs' adds adds' : ℕ → ℕ) (inter inter' : ℕ
       layer-eq m _ _ _ _ (label-eq all l) (λ v w h k.
       ap₂ (λ (b : Bool) (both : ℕ). vertexMutex p l b both (needs v) (needs w)) (i-eq v w (omega arith) k)
       (ap₂ common (label-eq all l v (omega arith)) (label-eq all l w k))
-      ∙ ap₂ (λ (x y : ℕ). vertexMutex p l (inter' v w) (common (vertexLabel p all l (needs' v)) (vertexLabel p all l (needs' w))) x y) (n-eq v (omega arith)) (n-eq w k))
+      ∙ ap₂ (λ (x y : ℕ). vertexMutex p l (inter' v w) (common (vertexLabel p all l (needs' v)) (vertexLabel p all l (needs' w))) x y) (n-eq v (omega arith))
+      (n-eq w k))
 
   next-label-eq : (a : List ℕ) (q : ℕ) → nextLabel m adds a q ≡ nextLabel m adds' a q
   unfolding nextLabel
@@ -93,7 +95,8 @@ pub listed-graph : (A : Actions) (needs adds dels starts : List ℕ) (n : ℕ) (
     → graphWords (listed (A .props) needs adds dels) (length starts) (λ s. getD starts s 0) k ≡ graphWords (domain A) n start k
 unfolding listed domain
 listed-graph A needs adds dels starts n start k en ea ed es =
-    ap₂ (λ (x y : ℕ). graphWords (domainWith (A .props) x (λ v. getD needs v 0) (λ v. getD adds v 0) (λ v w. hurts needs adds dels v w or hurts needs adds dels w v))
+    ap₂ (λ (x y : ℕ). graphWords (domainWith (A .props) x (λ v. getD needs v 0) (λ v. getD adds v 0)
+    (λ v w. hurts needs adds dels v w or hurts needs adds dels w v))
     y (λ s. getD starts s 0) k) (ap length en ∙ length-listOver m (needsOf A)) (ap length es ∙ length-listOver n start)
     ∙ same-graph (A .props) m _ _ _ _ _ _ n-eq a-eq (λ v w h l. ap₂ _or_ (hurt-eq v w h l) (hurt-eq w v l h)) n (λ s. getD starts s 0) k
     ∙ graph-eq _ _ _ _ _ (λ s h. ap (λ (l : List ℕ). getD l s 0) es ∙ getD-listOver n start s h)

@@ -42,7 +42,8 @@ neither : (a b : Bool) → So (fails (a or b)) → So (fails a) × So (fails b)
 neither a b t = (fails-of a (λ s. fails-at _ t (or-left a b s)), fails-of b (λ s. fails-at _ t (or-right a b s)))
 
 -- a chain of checks was passed one by one
-pub passed-then : {X Y : Type 0} (v : Verdict X) (next : X → Verdict Y) (y : Y) → andThen v next ≡ accepted y → (x : X) × (v ≡ accepted x) × (next x ≡ accepted y)
+pub passed-then : {X Y : Type 0} (v : Verdict X) (next : X → Verdict Y) (y : Y) → andThen v next ≡ accepted y
+    → (x : X) × (v ≡ accepted x) × (next x ≡ accepted y)
 unfolding andThen
 passed-then (accepted x) next y e = (x, refl, e)
 passed-then (refused number place) next y e = absurd (let z : _≡_ {A = ℕ} 0 1 = cc in omega arith)

@@ -36,5 +36,6 @@ laid-accepted v words w w' n e l q = (
 )
 
 -- the answer and the memory by a rule that is equal
-pub same-rule : {r : Verdict ℕ} {w' : List ℕ} (w : List ℕ) (v v' : Verdict (List ℕ)) → v ≡ v' → (r ≡ written v) × (w' ≡ laid v w) → (r ≡ written v') × (w' ≡ laid v' w)
+pub same-rule : {r : Verdict ℕ} {w' : List ℕ} (w : List ℕ) (v v' : Verdict (List ℕ)) → v ≡ v' → (r ≡ written v) × (w' ≡ laid v w)
+    → (r ≡ written v') × (w' ≡ laid v' w)
 same-rule {r} {w'} w v v' e h = (h .0 ∙ ap written e, h .1 ∙ ap (λ (x : Verdict (List ℕ)). laid x w) e)

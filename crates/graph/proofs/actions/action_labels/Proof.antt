@@ -35,7 +35,12 @@ shared-slice-read-t14 : tie.Need-shared-slice-read-t14 Inv-loop μ-loop
 shared-slice-read-t14 c = search simple
 
 vertex-label-requires : tie.Need-vertex-label-requires Inv-loop μ-loop
-vertex-label-requires c κs = omega (arith, labels-in (c .before .before .before .before .before .before .args .n), part-length (c .before .before .before .before .before .before .args .at) (c .before .before .before .loop .words) (omega arith))
+vertex-label-requires c κs = omega (
+  arith,
+  labels-in (c .before .before .before .before .before .before .args .n),
+  part-length
+      (c .before .before .before .before .before .before .args .at) (c .before .before .before .loop .words) (omega arith),
+)
 
 add-words : tie.Need-add-words Inv-loop μ-loop
 add-words c = omega arith
@@ -53,7 +58,11 @@ loop-less : tie.Need-loop-less Inv-loop μ-loop
 loop-less c = omega arith
 
 loop-again : tie.Need-loop-again Inv-loop μ-loop
-loop-again c = list-more (c .before .before .before .before .loop .inv) (search simple) refl (c .vertex-label .ensures ∙ ap (λ (l : List ℕ). vertexLabel (c .before .before .before .before .before .before .before .args .n) (c .before .before .before .before .before .before .before .args .all) l (getD (c .before .before .before .before .before .before .before .args .needs .now) (c .before .before .before .before .loop .v) 0)) (list-front _ (c .before .before .before .before .loop .inv) (le-refl _)))
+loop-again c = list-more (c .before .before .before .before .loop .inv) (search simple) refl
+    (c .vertex-label .ensures ∙ ap (λ (l : List ℕ). vertexLabel (c .before .before .before .before .before .before .before .args .n)
+    (c .before .before .before .before .before .before .before .args .all) l
+    (getD (c .before .before .before .before .before .before .before .args .needs .now) (c .before .before .before .before .loop .v) 0))
+    (list-front _ (c .before .before .before .before .loop .inv) (le-refl _)))
 
 same-length : tie.Need-same-length Inv-loop μ-loop
 same-length c = c .before .loop .inv .long

@@ -49,12 +49,17 @@ shared-slice-read-t25 : tie.Need-shared-slice-read-t25
 shared-slice-read-t25 c = search needs
 
 vertex-mutex-requires : tie.Need-vertex-mutex-requires
-vertex-mutex-requires c κs = omega (arith, part-length (c .before .before .before .before .before .before .before .before .before .before .args .at) (c .before .before .before .before .before .before .before .before .before .before .args .words .now) (omega arith))
+vertex-mutex-requires c κs = omega (
+  arith,
+  part-length (c .before .before .before .before .before .before .before .before .before .before .args .at)
+      (c .before .before .before .before .before .before .before .before .before .before .args .words .now) (omega arith),
+)
 
 returns : tie.Need-returns
 unfolding pairWord
 returns c = let a = c .before .before .before .before .before .before .before .before .before .before .before .args in
-    c .vertex-mutex .ensures ∙ ap (λ (b : Bool). vertexMutex (a .n) (take (a .at) (a .words .now)) b (common (getD (a .words .now) (a .at + a .v) 0) (getD (a .words .now) (a .at + a .w) 0))
+    c .vertex-mutex .ensures ∙ ap (λ (b : Bool). vertexMutex (a .n) (take (a .at) (a .words .now)) b
+    (common (getD (a .words .now) (a .at + a .v) 0) (getD (a .words .now) (a .at + a .w) 0))
     (getD (a .needs .now) (a .v) 0) (getD (a .needs .now) (a .w) 0)) (c .before .before .before .before .interferes .ensures)
 
 pub action-pair-spec : {M : Type 1} → statement M

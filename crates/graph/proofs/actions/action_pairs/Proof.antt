@@ -16,7 +16,8 @@ use Rattle.graph.proofs.actions.action_pairs.Statement.{statement}
 use Rattle.graph.proofs.actions.action_pairs.Tie as tie
 
 abbrev Inv-loop : tie.InvT-loop
-Inv-loop words₀ n at needs adds dels to₀ v₀ v-end words to v = Runs (rowOf (length needs) (over (pairWord n needs adds dels) at words₀)) (at + length needs) (length needs) words₀ v to words
+Inv-loop words₀ n at needs adds dels to₀ v₀ v-end words to v = Runs (rowOf (length needs) (over (pairWord n needs adds dels) at words₀)) (at + length needs)
+    (length needs) words₀ v to words
 
 abbrev μ-loop : tie.MeasureT-loop
 μ-loop words₀ n at needs adds dels to₀ v₀ v-end words to v = length needs - v
@@ -29,8 +30,18 @@ loop-holds c = run-none (omega (arith, size-pairs (length (c .before .before .be
 
 action-row-requires : tie.Need-action-row-requires Inv-loop μ-loop
 action-row-requires c κs = let a = c .before .before .before .before .before .before .before .args in
-    let i = c .before .before .loop .inv in
-    (search simple, search simple, omega (arith, i .here), omega (arith, row-room (length (a .needs .now)) (a .at + length (a .needs .now)) _ _ (length (a .words .now)) _ (i .here) (search simple) (omega (arith, size-pairs (length (a .needs .now)))), i .long), search simple)
+    let i = c .before .before .loop .inv in (
+      search simple,
+      search simple,
+      omega (arith, i .here),
+      omega (
+        arith,
+        row-room (length (a .needs .now)) (a .at + length (a .needs .now)) _ _
+            (length (a .words .now)) _ (i .here) (search simple) (omega (arith, size-pairs (length (a .needs .now)))),
+        i .long,
+      ),
+      search simple,
+    )
 
 sub-to : tie.Need-sub-to Inv-loop μ-loop
 sub-to c = search simple
@@ -41,7 +52,11 @@ sub-to-2 c = search simple
 add-to-2 : tie.Need-add-to-2 Inv-loop μ-loop
 add-to-2 c = let a = c .before .before .before .before .before .before .before .before .before .before .args in
     let i = c .before .before .before .before .before .loop .inv in
-    omega (arith, row-room (length (a .needs .now)) (a .at + length (a .needs .now)) _ _ (length (a .words .now)) _ (i .here) (search simple) (omega (arith, size-pairs (length (a .needs .now)))))
+    omega (
+      arith,
+      row-room (length (a .needs .now)) (a .at + length (a .needs .now)) _ _ (length (a .words .now)) _ (i .here) (search simple)
+          (omega (arith, size-pairs (length (a .needs .now)))),
+    )
 
 add-v : tie.Need-add-v Inv-loop μ-loop
 add-v c = omega arith
@@ -52,9 +67,12 @@ loop-less c = omega arith
 loop-again : tie.Need-loop-again Inv-loop μ-loop
 loop-again c = let a = c .before .before .before .before .before .before .before .before .before .before .args in
     let i = c .before .before .before .before .before .loop .inv in
-    run-more _ i (search simple) (row-room (length (a .needs .now)) (a .at + length (a .needs .now)) (c .before .before .before .before .before .loop .v) _ (length (a .words .now)) _ (i .here) (search simple) (omega (arith, size-pairs (length (a .needs .now))))) (length-rowOf _ _ _)
-    (c .before .before .action-row .ensures ∙ ap (λ (l : List ℕ). putAt (c .before .before .before .before .before .loop .to) l (c .before .before .before .before .before .loop .words))
-    (row-front (pairWord (a .n) (a .needs .now) (a .adds .now) (a .dels .now)) (length (a .needs .now)) (a .at) (a .at + length (a .needs .now)) (a .words .now) (c .before .before .before .before .before .loop .words) (c .before .before .before .before .before .loop .v)
+    run-more _ i (search simple) (row-room (length (a .needs .now)) (a .at + length (a .needs .now)) (c .before .before .before .before .before .loop .v) _
+    (length (a .words .now)) _ (i .here) (search simple) (omega (arith, size-pairs (length (a .needs .now))))) (length-rowOf _ _ _)
+    (c .before .before .action-row .ensures ∙ ap (λ (l : List ℕ). putAt (c .before .before .before .before .before .loop .to) l
+    (c .before .before .before .before .before .loop .words))
+    (row-front (pairWord (a .n) (a .needs .now) (a .adds .now) (a .dels .now)) (length (a .needs .now)) (a .at) (a .at + length (a .needs .now))
+    (a .words .now) (c .before .before .before .before .before .loop .words) (c .before .before .before .before .before .loop .v)
     (run-front _ i (le-refl _)) (le-refl _) (search simple)))
 
 same-length : tie.Need-same-length Inv-loop μ-loop

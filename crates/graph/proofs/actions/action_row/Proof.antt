@@ -54,7 +54,8 @@ loop-less c = omega arith
 loop-again : tie.Need-loop-again Inv-loop μ-loop
 loop-again c = let a = c .before .before .before .before .before .before .before .before .args in
     list-more (c .before .before .before .loop .inv) (search simple) refl
-    (pair-front (pairWord (a .n) (a .needs .now) (a .adds .now) (a .dels .now)) (length (a .needs .now)) (a .at) (a .to) (a .words .now) (c .before .before .before .loop .words) (a .v) (a .v + 1 + c .before .before .before .loop .k) _
+    (pair-front (pairWord (a .n) (a .needs .now) (a .adds .now) (a .dels .now)) (length (a .needs .now)) (a .at) (a .to) (a .words .now)
+    (c .before .before .before .loop .words) (a .v) (a .v + 1 + c .before .before .before .loop .k) _
     (list-front _ (c .before .before .before .loop .inv) (le-refl _)) (omega arith) (omega arith) (omega arith) (c .action-pair .ensures))
 
 same-length : tie.Need-same-length Inv-loop μ-loop

@@ -28,8 +28,12 @@ same-length c = search needs
 returns : tie.Need-returns
 unfolding actionLayer listed pairWord
 returns c = let a = c .before .before .before .before .before .before .before .before .before .before .before .before .before .args in
-    let at : c .before .before .before .before .before .before .before .before .layer-size .result ≡ size (a .n) = c .before .before .before .before .before .before .before .before .layer-size .ensures .0 in
-    layer-put (pairWord (a .n) (a .needs .now) (a .adds .now) (a .dels .now)) (length (a .needs .now)) (c .before .before .before .before .before .before .before .before .layer-size .result) (λ v. vertexLabel (a .n) (a .all) (take (c .before .before .before .before .before .before .before .before .layer-size .result) (a .words .now)) (getD (a .needs .now) v 0))
+    let at : c .before .before .before .before .before .before .before .before .layer-size .result ≡ size (a .n) = c .before .before .before .before .before
+    .before .before .before .layer-size .ensures .0 in
+    layer-put (pairWord (a .n) (a .needs .now) (a .adds .now) (a .dels .now)) (length (a .needs .now))
+    (c .before .before .before .before .before .before .before .before .layer-size .result)
+    (λ v. vertexLabel (a .n) (a .all) (take (c .before .before .before .before .before .before .before .before .layer-size .result) (a .words .now))
+    (getD (a .needs .now) v 0))
     (a .words .now) _ _ (omega arith) (c .before .before .before .before .before .before .action-labels .ensures) (c .before .before .action-pairs .ensures)
     ∙ ap (λ (x : ℕ). putAt x (actionLayer (listed (a .n) (a .needs .now) (a .adds .now) (a .dels .now)) (a .all) (take x (a .words .now))) (a .words .now)) at
 

@@ -34,7 +34,8 @@ meets-requires c κs = search needs
 
 returns : tie.Need-returns
 unfolding hurts
-returns c = c .meets .ensures ∙ ap (λ (x : ℕ). meets (getD (c .before .before .before .before .before .before .before .before .args .dels .now) (c .before .before .before .before .before .before .before .before .args .v) 0) x) (c .before .before .union .ensures)
+returns c = c .meets .ensures ∙ ap (λ (x : ℕ). meets (getD (c .before .before .before .before .before .before .before .before .args .dels .now)
+    (c .before .before .before .before .before .before .before .before .args .v) 0) x) (c .before .before .union .ensures)
 
 pub hurt-spec : {M : Type 1} → statement M
 hurt-spec =

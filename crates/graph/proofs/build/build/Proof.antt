@@ -18,7 +18,8 @@ enum-known-taken-2 : tie.Need-enum-known-taken-2
 enum-known-taken-2 c = search needs
 
 build-taken-requires : tie.Need-build-taken-requires
-build-taken-requires c κs = taken-means _ _ (sym (c .before .before .before .before .check-file .ensures) ∙ ap fileVerdict (c .before .before .taken2 .given .1))
+build-taken-requires c κs = taken-means _ _ (sym (c .before .before .before .before .check-file .ensures) ∙ ap fileVerdict
+    (c .before .before .taken2 .given .1))
 
 returns : tie.Need-returns
 returns c = laid-refused _ _ _ _ (build-refused _ _ _ _ _ (sym (c .before .before .before .check-file .ensures) ∙ ap fileVerdict (c .before .taken .given .1)))
@@ -27,7 +28,9 @@ same-length : tie.Need-same-length
 same-length c = search needs
 
 returns-2 : tie.Need-returns-2
-returns-2 c = same-rule _ _ _ (sym (build-accepted (c .before .before .before .before .before .before .before .before .before .before .args .file .now) _ _ _ (sym (c .before .before .before .before .before .before .before .check-file .ensures) ∙ ap fileVerdict (c .before .before .before .before .before .taken2 .given .1)))) (c .before .before .build-taken .ensures)
+returns-2 c = same-rule _ _ _ (sym (build-accepted (c .before .before .before .before .before .before .before .before .before .before .args .file .now) _ _ _
+    (sym (c .before .before .before .before .before .before .before .check-file .ensures) ∙ ap fileVerdict
+    (c .before .before .before .before .before .taken2 .given .1)))) (c .before .before .build-taken .ensures)
 
 pub build-spec : {M : Type 1} → statement M
 build-spec =

@@ -27,17 +27,41 @@ enum-told : tie.Need-enum-told
 enum-told c = search needs
 
 build-words-requires : tie.Need-build-words-requires
-build-words-requires c κs = (c .before .before .before .before .before .before .before .before .pre .0, c .before .before .before .before .before .before .before .before .pre .1, memory-means _ _ (ap (λ (x : ℕ). memoryRule x (length (c .before .before .before .before .before .before .before .before .args .words .now))) (sym (count-is (c .before .before .before .before .before .before .before .before .args .file .now) (c .before .before .before .before .before .before .before .before .args .c) (c .before .before .before .before .before .before .before .before .args .depth) _ (c .before .before .before .before .word-count .ensures))) ∙ sym (c .before .before .before .check-memory .ensures) ∙ ap checkVerdict (c .before .enum-told .given .1)))
+build-words-requires c κs = (
+  c .before .before .before .before .before .before .before .before .pre .0,
+  c .before .before .before .before .before .before
+      .before .before .pre .1,
+  memory-means _ _ (ap (λ (x : ℕ). memoryRule x
+      (length (c .before .before .before .before .before .before .before .before .args .words .now)))
+      (sym (count-is (c .before .before .before .before .before .before .before .before .args .file .now)
+      (c .before .before .before .before .before .before .before .before .args .c)
+      (c .before .before .before .before .before .before .before .before .args .depth) _ (c .before .before .before .before .word-count .ensures))) ∙ sym
+      (c .before .before .before .check-memory .ensures) ∙ ap checkVerdict (c .before .enum-told .given .1)),
+)
 
 returns : tie.Need-returns
-returns c = laid-refused _ _ _ _ (deep-refused _ _ _ _ _ _ (ap (λ (x : ℕ). memoryRule x (length (c .before .before .before .before .before .before .before .before .args .words .now))) (sym (count-is (c .before .before .before .before .before .before .before .before .args .file .now) (c .before .before .before .before .before .before .before .before .args .c) (c .before .before .before .before .before .before .before .before .args .depth) _ (c .before .before .before .before .word-count .ensures))) ∙ sym (c .before .before .before .check-memory .ensures) ∙ ap checkVerdict (c .before .check .given .1)))
+returns c = laid-refused _ _ _ _ (deep-refused _ _ _ _ _ _ (ap (λ (x : ℕ). memoryRule x
+    (length (c .before .before .before .before .before .before .before .before .args .words .now)))
+    (sym (count-is (c .before .before .before .before .before .before .before .before .args .file .now)
+    (c .before .before .before .before .before .before .before .before .args .c)
+    (c .before .before .before .before .before .before .before .before .args .depth) _ (c .before .before .before .before .word-count .ensures))) ∙ sym
+    (c .before .before .before .check-memory .ensures) ∙ ap checkVerdict (c .before .check .given .1)))
 
 same-length : tie.Need-same-length
 same-length c = search needs
 
 returns-2 : tie.Need-returns-2
-returns-2 c = laid-accepted _ _ _ _ _ (deep-accepted _ _ _ _ (ap (λ (x : ℕ). memoryRule x (length (c .before .before .before .before .before .before .before .before .before .before .before .args .words .now))) (sym (count-is (c .before .before .before .before .before .before .before .before .before .before .before .args .file .now) (c .before .before .before .before .before .before .before .before .before .before .before .args .c) (c .before .before .before .before .before .before .before .before .before .before .before .args .depth) _ (c .before .before .before .before .before .before .before .word-count .ensures))) ∙ sym (c .before .before .before .before .before .before .check-memory .ensures) ∙ ap checkVerdict (c .before .before .before .before .enum-told .given .1)))
-    (count-is (c .before .before .before .before .before .before .before .before .before .before .before .args .file .now) (c .before .before .before .before .before .before .before .before .before .before .before .args .c) (c .before .before .before .before .before .before .before .before .before .before .before .args .depth) _ (c .before .before .before .before .before .before .before .word-count .ensures) ∙ sym (length-graph _ _ _ _)) (c .before .before .build-words .ensures)
+returns-2 c = laid-accepted _ _ _ _ _ (deep-accepted _ _ _ _ (ap (λ (x : ℕ). memoryRule x
+    (length (c .before .before .before .before .before .before .before .before .before .before .before .args .words .now)))
+    (sym (count-is (c .before .before .before .before .before .before .before .before .before .before .before .args .file .now)
+    (c .before .before .before .before .before .before .before .before .before .before .before .args .c)
+    (c .before .before .before .before .before .before .before .before .before .before .before .args .depth) _
+    (c .before .before .before .before .before .before .before .word-count .ensures))) ∙ sym
+    (c .before .before .before .before .before .before .check-memory .ensures) ∙ ap checkVerdict (c .before .before .before .before .enum-told .given .1)))
+    (count-is (c .before .before .before .before .before .before .before .before .before .before .before .args .file .now)
+    (c .before .before .before .before .before .before .before .before .before .before .before .args .c)
+    (c .before .before .before .before .before .before .before .before .before .before .before .args .depth) _
+    (c .before .before .before .before .before .before .before .word-count .ensures) ∙ sym (length-graph _ _ _ _)) (c .before .before .build-words .ensures)
 
 pub build-deep-spec : {M : Type 1} → statement M
 build-deep-spec =

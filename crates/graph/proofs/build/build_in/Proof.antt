@@ -22,16 +22,20 @@ read-starts-requires c κs = search needs
 
 layers-requires : tie.Need-layers-requires
 unfolding actionsOf
-layers-requires c κs = let a = c .before .before .before .before .before .before .before .before .before .before .before .before .before .before .before .before .before .before .before .before .before .before .before .before .before .args in
+layers-requires c κs = let a = c .before .before .before .before .before .before .before .before .before .before .before .before .before .before .before
+    .before .before .before .before .before .before .before .before .before .before .args in
     let r = c .before .before .before .before .before .before .before .before .before .before .before .before .before .before .before .read-vertices .ensures in
     let ln = ap length (r .0) ∙ length-listOver (a .c .actions + a .c .props) (needsOf (actionsOf (a .file .now) (a .c))) in
     let la = ap length (r .1) ∙ length-listOver (a .c .actions + a .c .props) (addsOf (actionsOf (a .file .now) (a .c))) in
     let ld = ap length (r .2) ∙ length-listOver (a .c .actions + a .c .props) (deletesOf (actionsOf (a .file .now) (a .c))) in
-    let ls = ap length (c .before .before .before .before .before .before .before .read-starts .ensures) ∙ length-listOver (a .c .states) (startOf (a .file .now) (a .c)) in (
+    let ls = ap length (c .before .before .before .before .before .before .before .read-starts .ensures) ∙ length-listOver (a .c .states)
+    (startOf (a .file .now) (a .c)) in (
       record { few = search needs; room = omega arith; adders = la ∙ sym ln; deleters = ld ∙ sym ln },
       omega arith,
       search needs,
-      le-trans (le-of-eq (listed-count (actionsOf (a .file .now) (a .c)) _ _ _ (a .depth) ln)) (c .before .before .before .before .before .before .before .before .before .before .before .before .before .before .before .before .before .before .before .before .before .before .before .before .before .pre .0 .2),
+      le-trans (le-of-eq (listed-count (actionsOf (a .file .now) (a .c)) _ _ _ (a .depth) ln))
+          (c .before .before .before .before .before .before .before .before .before .before .before .before .before .before .before .before .before .before
+          .before .before .before .before .before .before .before .pre .0 .2),
     )
 
 same-length : tie.Need-same-length
@@ -51,10 +55,13 @@ same-length-5 c = search needs
 
 returns : tie.Need-returns
 unfolding actionsOf
-returns c = let a = c .before .before .before .before .before .before .before .before .before .before .before .before .before .before .before .before .before .before .before .before .before .before .before .before .before .before .before .before .args in
-    let r = c .before .before .before .before .before .before .before .before .before .before .before .before .before .before .before .before .before .before .read-vertices .ensures in
+returns c = let a = c .before .before .before .before .before .before .before .before .before .before .before .before .before .before .before .before .before
+    .before .before .before .before .before .before .before .before .before .before .before .args in
+    let r = c .before .before .before .before .before .before .before .before .before .before .before .before .before .before .before .before .before .before
+    .read-vertices .ensures in
     c .before .before .layers .ensures ∙ ap (λ (l : List ℕ). putAt 0 l (a .words .now))
-    (listed-graph (actionsOf (a .file .now) (a .c)) _ _ _ _ (a .c .states) (startOf (a .file .now) (a .c)) (a .depth) (r .0) (r .1) (r .2) (c .before .before .before .before .before .before .before .before .before .before .read-starts .ensures))
+    (listed-graph (actionsOf (a .file .now) (a .c)) _ _ _ _ (a .c .states) (startOf (a .file .now) (a .c)) (a .depth) (r .0) (r .1) (r .2)
+    (c .before .before .before .before .before .before .before .before .before .before .read-starts .ensures))
 
 pub build-in-spec : {M : Type 1} → statement M
 build-in-spec =

@@ -18,16 +18,24 @@ enum-told : tie.Need-enum-told
 enum-told c = search needs
 
 build-deep-requires : tie.Need-build-deep-requires
-build-deep-requires c κs = (c .before .before .before .before .before .before .pre, depth-means _ (sym (c .before .before .before .check-depth .ensures) ∙ ap checkVerdict (c .before .enum-told .given .1)))
+build-deep-requires c κs = (
+  c .before .before .before .before .before .before .pre,
+  depth-means _
+      (sym (c .before .before .before .check-depth .ensures) ∙ ap checkVerdict (c .before .enum-told .given .1)),
+)
 
 returns : tie.Need-returns
-returns c = laid-refused _ _ _ _ (taken-refused _ _ _ _ _ _ (sym (c .before .before .before .check-depth .ensures) ∙ ap checkVerdict (c .before .check .given .1)))
+returns c = laid-refused _ _ _ _ (taken-refused _ _ _ _ _ _ (sym (c .before .before .before .check-depth .ensures) ∙ ap checkVerdict
+    (c .before .check .given .1)))
 
 same-length : tie.Need-same-length
 same-length c = search needs
 
 returns-2 : tie.Need-returns-2
-returns-2 c = same-rule _ _ _ (sym (taken-accepted (c .before .before .before .before .before .before .before .before .before .args .file .now) (c .before .before .before .before .before .before .before .before .before .args .c) _ _ (sym (c .before .before .before .before .before .before .check-depth .ensures) ∙ ap checkVerdict (c .before .before .before .before .enum-told .given .1)))) (c .before .before .build-deep .ensures)
+returns-2 c = same-rule _ _ _ (sym (taken-accepted (c .before .before .before .before .before .before .before .before .before .args .file .now)
+    (c .before .before .before .before .before .before .before .before .before .args .c) _ _
+    (sym (c .before .before .before .before .before .before .check-depth .ensures) ∙ ap checkVerdict
+    (c .before .before .before .before .enum-told .given .1)))) (c .before .before .build-deep .ensures)
 
 pub build-taken-spec : {M : Type 1} → statement M
 build-taken-spec =

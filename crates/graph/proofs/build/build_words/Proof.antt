@@ -34,7 +34,10 @@ slice-aggregate-build-in-4 : tie.Need-slice-aggregate-build-in-4
 slice-aggregate-build-in-4 c = sym (part-length _ _ (omega arith))
 
 build-in-requires : tie.Need-build-in-requires
-build-in-requires c κs = (c .before .before .before .before .before .before .before .before .pre, (part-length _ _ (omega arith), part-length _ _ (omega arith), part-length _ _ (omega arith), part-length _ _ (omega arith)))
+build-in-requires c κs = (
+  c .before .before .before .before .before .before .before .before .pre,
+  (part-length _ _ (omega arith), part-length _ _ (omega arith), part-length _ _ (omega arith), part-length _ _ (omega arith)),
+)
 
 same-length : tie.Need-same-length
 same-length c = search needs

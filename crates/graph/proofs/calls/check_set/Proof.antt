@@ -17,10 +17,12 @@ first-requires : tie.Need-first-requires
 first-requires c κs = search needs
 
 returns-2 : tie.Need-returns-2
-returns-2 c = wide-states _ _ (sym (c .before .before .before .before .before .is-empty .ensures) ∙ c .before .before .before .before .if1 .left) (omega (arith, pow-pos (c .before .before .before .before .before .before .args .states)))
+returns-2 c = wide-states _ _ (sym (c .before .before .before .before .before .is-empty .ensures) ∙ c .before .before .before .before .if1 .left)
+    (omega (arith, pow-pos (c .before .before .before .before .before .before .args .states)))
 
 returns-3 : tie.Need-returns-3
-returns-3 c = some-states _ _ (sym (c .before .before .before .before .before .is-empty .ensures) ∙ c .before .before .before .before .if1 .left) (omega (arith, pow-pos (c .before .before .before .before .before .before .args .states)))
+returns-3 c = some-states _ _ (sym (c .before .before .before .before .before .is-empty .ensures) ∙ c .before .before .before .before .if1 .left)
+    (omega (arith, pow-pos (c .before .before .before .before .before .before .args .states)))
 
 pub check-set-spec : {M : Type 1} → statement M
 check-set-spec = tie.close (tie.spec is-empty-requires returns first-requires returns-2 returns-3)

@@ -29,7 +29,8 @@ add-version : tie.Need-add-version
 add-version c = search needs
 
 returns-3 : tie.Need-returns-3
-returns-3 c = other-version _ (search needs) (sym (c .before .before .before .before .letters .ensures) ∙ not-false _ (c .before .before .before .if2 .left)) (λ e. c .if3 .taken (omega arith))
+returns-3 c = other-version _ (search needs) (sym (c .before .before .before .before .letters .ensures) ∙ not-false _ (c .before .before .before .if2 .left))
+    (λ e. c .if3 .taken (omega arith))
 
 byte-requires-3 : tie.Need-byte-requires-3
 byte-requires-3 c κs = search needs
@@ -44,7 +45,9 @@ check-counts-requires : tie.Need-check-counts-requires
 check-counts-requires c κs = search needs
 
 returns-4 : tie.Need-returns-4
-returns-4 c = c .check-counts .ensures ∙ headed _ _ (search needs) (search needs) (search needs) (search needs) (sym (c .before .before .before .before .before .before .before .before .letters .ensures) ∙ not-false _ (c .before .before .before .before .before .before .before .if2 .left)) (search needs)
+returns-4 c = c .check-counts .ensures ∙ headed _ _ (search needs) (search needs) (search needs) (search needs)
+    (sym (c .before .before .before .before .before .before .before .before .letters .ensures) ∙ not-false _
+    (c .before .before .before .before .before .before .before .if2 .left)) (search needs)
 
 pub check-file-spec : {M : Type 1} → statement M
 check-file-spec =

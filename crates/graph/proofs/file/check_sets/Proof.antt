@@ -52,7 +52,8 @@ set-at-requires : tie.Need-set-at-requires Inv-loop μ-loop
 set-at-requires c κs = omega arith
 
 returns : tie.Need-returns Inv-loop μ-loop
-returns c = let r = c .before .before .before .loop .inv in bad _ _ _ _ (r .left) (r .long) (r .is) (c .before .before .loop-test .taken) (omega (arith, pow-pos (c .before .before .before .before .before .before .args .c .props)))
+returns c = let r = c .before .before .before .loop .inv in bad _ _ _ _ (r .left) (r .long) (r .is) (c .before .before .loop-test .taken)
+    (omega (arith, pow-pos (c .before .before .before .before .before .before .args .c .props)))
 
 add-at : tie.Need-add-at Inv-loop μ-loop
 add-at c = omega arith
@@ -61,7 +62,8 @@ loop-less : tie.Need-loop-less Inv-loop μ-loop
 loop-less c = omega arith
 
 loop-again : tie.Need-loop-again Inv-loop μ-loop
-loop-again c = let r = c .before .before .before .loop .inv in next _ _ _ _ (r .left) (r .long) (r .is) (c .before .before .loop-test .taken) (omega (arith, pow-pos (c .before .before .before .before .before .before .args .c .props)))
+loop-again c = let r = c .before .before .before .loop .inv in next _ _ _ _ (r .left) (r .long) (r .is) (c .before .before .loop-test .taken)
+    (omega (arith, pow-pos (c .before .before .before .before .before .before .args .c .props)))
 
 returns-2 : tie.Need-returns-2 Inv-loop μ-loop
 returns-2 c = let r = c .before .loop .inv in done _ _ _ _ (r .left) (r .long) (r .is) (c .loop-test .left)

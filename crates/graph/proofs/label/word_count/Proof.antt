@@ -24,7 +24,12 @@ mul-result-2 : tie.Need-mul-result-2
 mul-result-2 c = omega (arith, products (c .before .before .args .depth) (c .layer-size2 .result) (omega arith) (omega arith))
 
 add-result-2 : tie.Need-add-result-2
-add-result-2 c = omega (arith, products (c .before .before .args .depth + 1) (c .before .layer-size .result) (omega arith) (omega arith), products (c .before .before .args .depth) (c .layer-size2 .result) (omega arith) (omega arith))
+add-result-2 c = omega (
+  arith,
+  products (c .before .before .args .depth + 1) (c .before .layer-size .result) (omega arith) (omega arith),
+  products
+      (c .before .before .args .depth) (c .layer-size2 .result) (omega arith) (omega arith),
+)
 
 returns : tie.Need-returns
 returns c = ap₂ (λ (x y : ℕ). x + y)

@@ -20,7 +20,8 @@ same-length c = search needs
 
 returns : tie.Need-returns
 returns c = let a = c .before .before .before .before .before .before .before .before .before .before .before .args in
-    start-put (a .n) _ _ (a .words .now) _ _ (search needs) (search needs) (c .before .before .before .before .before .before .before .start-labels .ensures) (c .before .before .clear .ensures)
+    start-put (a .n) _ _ (a .words .now) _ _ (search needs) (search needs) (c .before .before .before .before .before .before .before .start-labels .ensures)
+    (c .before .before .clear .ensures)
 
 pub start-step-spec : {M : Type 1} → statement M
 start-step-spec =

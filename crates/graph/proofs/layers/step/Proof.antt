@@ -27,14 +27,20 @@ part-prop-step-end : tie.Need-part-prop-step-end
 part-prop-step-end c = search needs
 
 prop-step-requires : tie.Need-prop-step-requires
-prop-step-requires c κs = omega (arith, ap size (c .before .before .before .before .before .before .before .before .before .before .pre .0 .adders), tail-length (c .before .layer-size .result) (c .before .before .before .before .action-step .last .0) (omega arith))
+prop-step-requires c κs = omega (
+  arith,
+  ap size (c .before .before .before .before .before .before .before .before .before .before .pre .0 .adders),
+  tail-length (c .before .layer-size .result) (c .before .before .before .before .action-step .last .0) (omega arith),
+)
 
 same-length : tie.Need-same-length
 same-length c = search needs
 
 returns : tie.Need-returns
 returns c = let a = c .before .before .before .before .before .before .before .before .before .before .before .before .before .args in
-    step-put (a .n) (a .all) _ (a .needs .now) (a .adds .now) (a .dels .now) (a .words .now) _ _ (c .before .before .before .before .before .before .before .before .before .before .before .before .before .pre .0) (search needs) (search needs) (c .before .before .before .before .before .before .before .action-step .ensures) (c .before .before .prop-step .ensures)
+    step-put (a .n) (a .all) _ (a .needs .now) (a .adds .now) (a .dels .now) (a .words .now) _ _
+    (c .before .before .before .before .before .before .before .before .before .before .before .before .before .pre .0) (search needs) (search needs)
+    (c .before .before .before .before .before .before .before .action-step .ensures) (c .before .before .prop-step .ensures)
 
 pub step-spec : {M : Type 1} → statement M
 step-spec =

@@ -18,26 +18,75 @@ abbrev μ-loop : tie.MeasureT-loop
 
 loop-holds : tie.Need-loop-holds Inv-loop μ-loop
 unfolding listed
-loop-holds c = stepping-none (listed (c .before .before .before .before .args .n) (c .before .before .before .before .args .needs .now) (c .before .before .before .before .args .adds .now) (c .before .before .before .before .args .dels .now)) (c .before .before .before .before .args .all) (c .before .before .before .before .args .depth) (c .before .before .before .before .args .words .now) (omega arith)
+loop-holds c = stepping-none (listed (c .before .before .before .before .args .n) (c .before .before .before .before .args .needs .now)
+    (c .before .before .before .before .args .adds .now) (c .before .before .before .before .args .dels .now)) (c .before .before .before .before .args .all)
+    (c .before .before .before .before .args .depth) (c .before .before .before .before .args .words .now) (omega arith)
 
 mul-step : tie.Need-mul-step Inv-loop μ-loop
 unfolding listed
-mul-step c = omega (arith, step-room (listed (c .before .before .before .before .before .before .args .n) (c .before .before .before .before .before .before .args .needs .now) (c .before .before .before .before .before .before .args .adds .now) (c .before .before .before .before .before .before .args .dels .now)) (c .before .before .before .before .before .before .args .depth) (c .before .loop .t) (c .before .loop .at) (length (c .before .before .before .before .before .before .args .words .now)) (c .before .loop .inv .place) (search simple) (search simple))
+mul-step c = omega (
+  arith,
+  step-room (listed (c .before .before .before .before .before .before .args .n)
+      (c .before .before .before .before .before .before .args .needs .now) (c .before .before .before .before .before .before .args .adds .now)
+      (c .before .before .before .before .before .before .args .dels .now)) (c .before .before .before .before .before .before .args .depth)
+      (c .before .loop .t) (c .before .loop .at) (length (c .before .before .before .before .before .before .args .words .now)) (c .before .loop .inv .place)
+      (search simple) (search simple),
+)
 
 sub-step : tie.Need-sub-step Inv-loop μ-loop
 unfolding listed
-sub-step c = omega (arith, step-room (listed (c .before .before .before .before .before .before .args .n) (c .before .before .before .before .before .before .args .needs .now) (c .before .before .before .before .before .before .args .adds .now) (c .before .before .before .before .before .before .args .dels .now)) (c .before .before .before .before .before .before .args .depth) (c .before .loop .t) (c .before .loop .at) (length (c .before .before .before .before .before .before .args .words .now)) (c .before .loop .inv .place) (search simple) (search simple), c .before .loop .inv .runs .long)
+sub-step c = omega (
+  arith,
+  step-room (listed (c .before .before .before .before .before .before .args .n)
+      (c .before .before .before .before .before .before .args .needs .now) (c .before .before .before .before .before .before .args .adds .now)
+      (c .before .before .before .before .before .before .args .dels .now)) (c .before .before .before .before .before .before .args .depth)
+      (c .before .loop .t) (c .before .loop .at) (length (c .before .before .before .before .before .before .args .words .now)) (c .before .loop .inv .place)
+      (search simple) (search simple),
+  c .before .loop .inv .runs .long,
+)
 
 part-step-start : tie.Need-part-step-start Inv-loop μ-loop
 unfolding listed
-part-step-start c = omega (arith, step-room (listed (c .before .before .before .before .before .before .args .n) (c .before .before .before .before .before .before .args .needs .now) (c .before .before .before .before .before .before .args .adds .now) (c .before .before .before .before .before .before .args .dels .now)) (c .before .before .before .before .before .before .args .depth) (c .before .loop .t) (c .before .loop .at) (length (c .before .before .before .before .before .before .args .words .now)) (c .before .loop .inv .place) (search simple) (search simple), c .before .loop .inv .runs .long)
+part-step-start c = omega (
+  arith,
+  step-room (listed (c .before .before .before .before .before .before .args .n)
+      (c .before .before .before .before .before .before .args .needs .now) (c .before .before .before .before .before .before .args .adds .now)
+      (c .before .before .before .before .before .before .args .dels .now)) (c .before .before .before .before .before .before .args .depth)
+      (c .before .loop .t) (c .before .loop .at) (length (c .before .before .before .before .before .before .args .words .now)) (c .before .loop .inv .place)
+      (search simple) (search simple),
+  c .before .loop .inv .runs .long,
+)
 
 part-step-end : tie.Need-part-step-end Inv-loop μ-loop
 part-step-end c = search simple
 
 step-requires : tie.Need-step-requires Inv-loop μ-loop
 unfolding listed
-step-requires c κs = (search simple, omega (arith, step-room (listed (c .before .before .before .before .before .before .before .args .n) (c .before .before .before .before .before .before .before .args .needs .now) (c .before .before .before .before .before .before .before .args .adds .now) (c .before .before .before .before .before .before .before .args .dels .now)) (c .before .before .before .before .before .before .before .args .depth) (c .before .before .loop .t) (c .before .before .loop .at) (length (c .before .before .before .before .before .before .before .args .words .now)) (c .before .before .loop .inv .place) (search simple) (search simple), c .before .before .loop .inv .runs .long, tail-length (c .before .before .loop .at) (c .before .before .loop .words) (omega (arith, step-room (listed (c .before .before .before .before .before .before .before .args .n) (c .before .before .before .before .before .before .before .args .needs .now) (c .before .before .before .before .before .before .before .args .adds .now) (c .before .before .before .before .before .before .before .args .dels .now)) (c .before .before .before .before .before .before .before .args .depth) (c .before .before .loop .t) (c .before .before .loop .at) (length (c .before .before .before .before .before .before .before .args .words .now)) (c .before .before .loop .inv .place) (search simple) (search simple), c .before .before .loop .inv .runs .long))))
+step-requires c κs = (
+  search simple,
+  omega (
+    arith,
+    step-room (listed (c .before .before .before .before .before .before .before .args .n)
+        (c .before .before .before .before .before .before .before .args .needs .now)
+        (c .before .before .before .before .before .before .before .args .adds .now)
+        (c .before .before .before .before .before .before .before .args .dels .now)) (c .before .before .before .before .before .before .before .args .depth)
+        (c .before .before .loop .t) (c .before .before .loop .at) (length (c .before .before .before .before .before .before .before .args .words .now))
+        (c .before .before .loop .inv .place) (search simple) (search simple),
+    c .before .before .loop .inv .runs .long,
+    tail-length
+        (c .before .before .loop .at) (c .before .before .loop .words) (omega (
+          arith,
+          step-room (listed (c .before .before .before .before .before .before .before .args .n)
+              (c .before .before .before .before .before .before .before .args .needs .now)
+              (c .before .before .before .before .before .before .before .args .adds .now)
+              (c .before .before .before .before .before .before .before .args .dels .now))
+              (c .before .before .before .before .before .before .before .args .depth)
+              (c .before .before .loop .t) (c .before .before .loop .at) (length (c .before .before .before .before .before .before .before .args .words .now))
+              (c .before .before .loop .inv .place) (search simple) (search simple),
+          c .before .before .loop .inv .runs .long,
+        )),
+  ),
+)
 
 layer-size-requires : tie.Need-layer-size-requires Inv-loop μ-loop
 layer-size-requires c κs = search simple
@@ -50,7 +99,17 @@ add-at c = omega arith
 
 add-at-2 : tie.Need-add-at-2 Inv-loop μ-loop
 unfolding listed
-add-at-2 c = omega (arith, step-room (listed (c .before .before .before .before .before .before .before .before .before .before .before .before .args .n) (c .before .before .before .before .before .before .before .before .before .before .before .before .args .needs .now) (c .before .before .before .before .before .before .before .before .before .before .before .before .args .adds .now) (c .before .before .before .before .before .before .before .before .before .before .before .before .args .dels .now)) (c .before .before .before .before .before .before .before .before .before .before .before .before .args .depth) (c .before .before .before .before .before .before .before .loop .t) (c .before .before .before .before .before .before .before .loop .at) (length (c .before .before .before .before .before .before .before .before .before .before .before .before .args .words .now)) (c .before .before .before .before .before .before .before .loop .inv .place) (search simple) (search simple))
+add-at-2 c = omega (
+  arith,
+  step-room (listed (c .before .before .before .before .before .before .before .before .before .before .before .before .args .n)
+      (c .before .before .before .before .before .before .before .before .before .before .before .before .args .needs .now)
+      (c .before .before .before .before .before .before .before .before .before .before .before .before .args .adds .now)
+      (c .before .before .before .before .before .before .before .before .before .before .before .before .args .dels .now))
+      (c .before .before .before .before .before .before .before .before .before .before .before .before .args .depth)
+      (c .before .before .before .before .before .before .before .loop .t) (c .before .before .before .before .before .before .before .loop .at)
+      (length (c .before .before .before .before .before .before .before .before .before .before .before .before .args .words .now))
+      (c .before .before .before .before .before .before .before .loop .inv .place) (search simple) (search simple),
+)
 
 add-t : tie.Need-add-t Inv-loop μ-loop
 add-t c = omega arith
@@ -60,7 +119,8 @@ loop-less c = omega arith
 
 loop-again : tie.Need-loop-again Inv-loop μ-loop
 unfolding listed
-loop-again c = stepping-more (c .before .before .before .before .before .before .before .loop .inv) _ _ (search simple) (search simple) (omega arith) (c .before .before .before .before .step .ensures)
+loop-again c = stepping-more (c .before .before .before .before .before .before .before .loop .inv) _ _ (search simple) (search simple) (omega arith)
+    (c .before .before .before .before .step .ensures)
 
 same-length : tie.Need-same-length Inv-loop μ-loop
 same-length c = c .before .loop .inv .runs .long

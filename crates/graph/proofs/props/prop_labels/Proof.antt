@@ -48,7 +48,8 @@ loop-less c = omega arith
 loop-again : tie.Need-loop-again Inv-loop μ-loop
 loop-again c = let a = c .before .before .before .before .before .before .args in
     list-more (c .before .before .before .loop .inv) (search simple) refl
-    (c .next-label .ensures ∙ ap (λ (l : List ℕ). nextLabel (length (a .adds .now)) (λ v. getD (a .adds .now) v 0) l (c .before .before .before .loop .p)) (list-front _ (c .before .before .before .loop .inv) (le-refl _)))
+    (c .next-label .ensures ∙ ap (λ (l : List ℕ). nextLabel (length (a .adds .now)) (λ v. getD (a .adds .now) v 0) l (c .before .before .before .loop .p))
+    (list-front _ (c .before .before .before .loop .inv) (le-refl _)))
 
 same-length : tie.Need-same-length Inv-loop μ-loop
 same-length c = c .before .loop .inv .long

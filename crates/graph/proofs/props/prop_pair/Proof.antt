@@ -31,7 +31,12 @@ slice-aggregate-next-mutex : tie.Need-slice-aggregate-next-mutex
 slice-aggregate-next-mutex c = sym (part-length _ _ (search needs))
 
 next-mutex-requires : tie.Need-next-mutex-requires
-next-mutex-requires c κs = omega (arith, labels-in (length (c .before .before .before .before .before .args .adds .now)), part-length (c .before .before .before .before .before .args .at) (c .before .before .before .before .before .args .words .now) (omega arith))
+next-mutex-requires c κs = omega (
+  arith,
+  labels-in (length (c .before .before .before .before .before .args .adds .now)),
+  part-length
+      (c .before .before .before .before .before .args .at) (c .before .before .before .before .before .args .words .now) (omega arith),
+)
 
 returns : tie.Need-returns
 unfolding nextWord

@@ -29,8 +29,19 @@ loop-holds c = run-none (omega (arith, size-pairs (c .before .before .args .n)))
 
 prop-row-requires : tie.Need-prop-row-requires Inv-loop μ-loop
 prop-row-requires c κs = let a = c .before .before .before .before .before .args in
-    let i = c .before .before .loop .inv in
-    (search simple, search simple, search simple, omega (arith, i .here), omega (arith, row-room (a .n) (a .at + a .n) (c .before .before .loop .p) _ (length (a .words .now)) _ (i .here) (search simple) (omega (arith, size-pairs (a .n))), i .long), search simple)
+    let i = c .before .before .loop .inv in (
+      search simple,
+      search simple,
+      search simple,
+      omega (arith, i .here),
+      omega (
+        arith,
+        row-room (a .n) (a .at + a .n) (c .before .before .loop .p) _ (length (a .words .now)) _ (i .here) (search simple)
+            (omega (arith, size-pairs (a .n))),
+        i .long,
+      ),
+      search simple,
+    )
 
 sub-to : tie.Need-sub-to Inv-loop μ-loop
 sub-to c = search simple
@@ -41,7 +52,11 @@ sub-to-2 c = search simple
 add-to-2 : tie.Need-add-to-2 Inv-loop μ-loop
 add-to-2 c = let a = c .before .before .before .before .before .before .before .before .args in
     let i = c .before .before .before .before .before .loop .inv in
-    omega (arith, row-room (a .n) (a .at + a .n) (c .before .before .before .before .before .loop .p) _ (length (a .words .now)) _ (i .here) (search simple) (omega (arith, size-pairs (a .n))))
+    omega (
+      arith,
+      row-room (a .n) (a .at + a .n) (c .before .before .before .before .before .loop .p) _ (length (a .words .now)) _ (i .here) (search simple)
+          (omega (arith, size-pairs (a .n))),
+    )
 
 add-p : tie.Need-add-p Inv-loop μ-loop
 add-p c = omega arith
@@ -52,9 +67,12 @@ loop-less c = omega arith
 loop-again : tie.Need-loop-again Inv-loop μ-loop
 loop-again c = let a = c .before .before .before .before .before .before .before .before .args in
     let i = c .before .before .before .before .before .loop .inv in
-    run-more _ i (search simple) (row-room (a .n) (a .at + a .n) (c .before .before .before .before .before .loop .p) _ (length (a .words .now)) _ (i .here) (search simple) (omega (arith, size-pairs (a .n)))) (length-rowOf _ _ _)
-    (c .before .before .prop-row .ensures ∙ ap (λ (l : List ℕ). putAt (c .before .before .before .before .before .loop .to) l (c .before .before .before .before .before .loop .words))
-    (row-front (nextWord (a .adds .now)) (a .n) (a .at) (a .at + a .n) (a .words .now) (c .before .before .before .before .before .loop .words) (c .before .before .before .before .before .loop .p) (run-front _ i (le-refl _)) (le-refl _) (search simple)))
+    run-more _ i (search simple) (row-room (a .n) (a .at + a .n) (c .before .before .before .before .before .loop .p) _ (length (a .words .now)) _ (i .here)
+    (search simple) (omega (arith, size-pairs (a .n)))) (length-rowOf _ _ _)
+    (c .before .before .prop-row .ensures ∙ ap (λ (l : List ℕ). putAt (c .before .before .before .before .before .loop .to) l
+    (c .before .before .before .before .before .loop .words))
+    (row-front (nextWord (a .adds .now)) (a .n) (a .at) (a .at + a .n) (a .words .now) (c .before .before .before .before .before .loop .words)
+    (c .before .before .before .before .before .loop .p) (run-front _ i (le-refl _)) (le-refl _) (search simple)))
 
 same-length : tie.Need-same-length Inv-loop μ-loop
 same-length c = c .before .loop .inv .long

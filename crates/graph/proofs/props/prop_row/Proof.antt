@@ -53,7 +53,8 @@ loop-less c = omega arith
 loop-again : tie.Need-loop-again Inv-loop μ-loop
 loop-again c = let a = c .before .before .before .before .before .before .args in
     list-more (c .before .before .before .loop .inv) (search simple) refl
-    (pair-front (nextWord (a .adds .now)) (a .n) (a .at) (a .to) (a .words .now) (c .before .before .before .loop .words) (a .p) (a .p + 1 + c .before .before .before .loop .k) _
+    (pair-front (nextWord (a .adds .now)) (a .n) (a .at) (a .to) (a .words .now) (c .before .before .before .loop .words) (a .p)
+    (a .p + 1 + c .before .before .before .loop .k) _
     (list-front _ (c .before .before .before .loop .inv) (le-refl _)) (omega arith) (omega arith) (omega arith) (c .prop-pair .ensures))
 
 same-length : tie.Need-same-length Inv-loop μ-loop

@@ -28,8 +28,11 @@ same-length c = search needs
 returns : tie.Need-returns
 unfolding layerAfter
 returns c = let a = c .before .before .before .before .before .before .before .before .before .before .before .args in
-    let at : c .before .before .before .before .before .before .before .before .layer-size .result ≡ size (length (a .adds .now)) = c .before .before .before .before .before .before .before .before .layer-size .ensures .0 in
-    layer-put (nextWord (a .adds .now)) (a .n) (c .before .before .before .before .before .before .before .before .layer-size .result) (nextLabel (length (a .adds .now)) (λ v. getD (a .adds .now) v 0) (take (c .before .before .before .before .before .before .before .before .layer-size .result) (a .words .now)))
+    let at : c .before .before .before .before .before .before .before .before .layer-size .result ≡ size (length (a .adds .now)) = c .before .before .before
+    .before .before .before .before .before .layer-size .ensures .0 in
+    layer-put (nextWord (a .adds .now)) (a .n) (c .before .before .before .before .before .before .before .before .layer-size .result)
+    (nextLabel (length (a .adds .now)) (λ v. getD (a .adds .now) v 0) (take
+    (c .before .before .before .before .before .before .before .before .layer-size .result) (a .words .now)))
     (a .words .now) _ _ (omega arith) (c .before .before .before .before .before .before .prop-labels .ensures) (c .before .before .prop-pairs .ensures)
     ∙ ap (λ (x : ℕ). putAt x (layerAfter (a .n) (a .adds .now) (take x (a .words .now))) (a .words .now)) at
 

@@ -12,7 +12,8 @@ use Rattle.graph.proofs.read.read_vertices.Statement.{statement}
 use Rattle.graph.proofs.read.read_vertices.Tie as tie
 
 abbrev Inv-loop : tie.InvT-loop
-Inv-loop file c needs₀ adds₀ dels₀ v₀ v-end needs adds dels v = Lists (needsOf (actionsOf file c)) 0 (c .actions + c .props) needs₀ v needs × Lists (addsOf (actionsOf file c)) 0 (c .actions + c .props) adds₀ v adds × Lists (deletesOf (actionsOf file c)) 0 (c .actions + c .props) dels₀ v dels
+Inv-loop file c needs₀ adds₀ dels₀ v₀ v-end needs adds dels v = Lists (needsOf (actionsOf file c)) 0 (c .actions + c .props) needs₀ v needs × Lists
+    (addsOf (actionsOf file c)) 0 (c .actions + c .props) adds₀ v adds × Lists (deletesOf (actionsOf file c)) 0 (c .actions + c .props) dels₀ v dels
 
 abbrev μ-loop : tie.MeasureT-loop
 μ-loop file c needs₀ adds₀ dels₀ v₀ v-end needs adds dels v = c .actions + c .props - v
@@ -70,7 +71,11 @@ same-length-3 : tie.Need-same-length-3 Inv-loop μ-loop
 same-length-3 c = c .before .loop .inv .2 .long
 
 returns : tie.Need-returns Inv-loop μ-loop
-returns c = (list-whole (c .before .loop .inv .0) (omega arith) (search simple), list-whole (c .before .loop .inv .1) (omega arith) (search simple), list-whole (c .before .loop .inv .2) (omega arith) (search simple))
+returns c = (
+  list-whole (c .before .loop .inv .0) (omega arith) (search simple),
+  list-whole (c .before .loop .inv .1) (omega arith) (search simple),
+  list-whole (c .before .loop .inv .2) (omega arith) (search simple),
+)
 
 pub read-vertices-spec : {M : Type 1} → statement M
 read-vertices-spec =
