@@ -7,11 +7,13 @@ use graph::sets::Props;
 use graph::sets::States;
 use level::level;
 use level::rest;
+use plan::plan;
 use run::run;
 use show::say;
 use show::show_build;
 use show::show_extract;
 use show::show_level;
+use show::show_plan;
 use show::show_rest;
 use show::show_run;
 use show::show_sets;
@@ -321,6 +323,58 @@ fn long_runs(file: &[u8], list: &[u8]) {
     runs_to(file, States(1), bytes(list, 65535));
 }
 
+// The words with another word at an index.
+fn with_word(words: &mut [u64], at: usize, w: u64) {
+    if at < words.len() {
+        words[at] = w;
+    }
+}
+
+fn planned_to(file: &[u8], set: States, goal: Props, words: &[u64], out: &mut [u32]) {
+    show_plan(plan(file, 2, set, goal, words, &mut *out));
+    show_sets(&out[..]);
+}
+
+// The plan at depth 2 over three words of output, which hold 9 at first.
+fn planned(file: &[u8], set: States, goal: Props, words: &[u64]) {
+    let mut out = [9u32; 3];
+    planned_to(file, set, goal, words, &mut out);
+}
+
+fn one_word(file: &[u8], words: &[u64]) {
+    let mut out = [9u32; 1];
+    planned_to(file, States(3), Props(4), words, &mut out);
+}
+
+fn plans(file: &[u8], words: &[u64]) {
+    say(b"plan for {2}, both states: ");
+    planned(file, States(3), Props(4), words);
+    say(b"plan for {2}, state 1: ");
+    planned(file, States(2), Props(4), words);
+    say(b"plan for {1}, state 1: ");
+    planned(file, States(2), Props(2), words);
+    say(b"plan for {0,2}, state 0: ");
+    planned(file, States(1), Props(5), words);
+    say(b"plan, one word of output: ");
+    one_word(file, words);
+    say(b"plan, goal 8: ");
+    planned(file, States(3), Props(8), words);
+}
+
+// The plan for {2} and both states over the lamp's words, of which one is altered.
+fn altered(file: &[u8], at: usize, words: &mut [u64]) {
+    build(file, 2, &mut *words);
+    with_word(&mut *words, at, 0);
+    planned(file, States(3), Props(4), &words[..]);
+}
+
+fn altered_plans(file: &[u8], words: &mut [u64]) {
+    say(b"plan, action 1 gone from action layer 1: ");
+    altered(file, 28, &mut *words);
+    say(b"plan, proposition 0 gone from layer 0: ");
+    altered(file, 0, &mut *words);
+}
+
 fn builds(file: &[u8], words: &mut [u64]) {
     lamp_built(file, &mut *words);
     lengths(file, &mut *words);
@@ -332,6 +386,7 @@ fn builds(file: &[u8], words: &mut [u64]) {
 fn depth_2(file: &[u8], words: &mut [u64], out: &mut [u64]) {
     build(file, 2, &mut *words);
     levels(file, &words[..]);
+    plans(file, &words[..]);
     extracts(file, &words[..], &mut *out);
     no_extracts(file, &words[..], &mut *out);
     say(b"layer 2 after these: ");
@@ -343,6 +398,20 @@ fn depth_3(file: &[u8], words: &mut [u64]) {
     rests(file, &words[..]);
 }
 
+fn calls(file: &[u8]) {
+    let mut words = [7u64; 69];
+    let mut out = [7u64; 49];
+    depth_2(file, &mut words, &mut out);
+    depth_3(file, &mut words);
+    altered_plans(file, &mut words);
+    runs(file);
+}
+
+fn many_steps(file: &[u8]) {
+    let list = io::large_buffer();
+    long_runs(file, &list);
+}
+
 fn main() {
     let file = lamp();
     let mut words = [7u64; 50];
@@ -350,11 +419,6 @@ fn main() {
     heads();
     wide_sets();
     ranges();
-    let mut wide = [7u64; 69];
-    let mut out = [7u64; 49];
-    depth_2(bytes(&file, 40), &mut wide, &mut out);
-    depth_3(bytes(&file, 40), &mut wide);
-    runs(bytes(&file, 40));
-    let list = io::large_buffer();
-    long_runs(bytes(&file, 40), &list);
+    calls(bytes(&file, 40));
+    many_steps(bytes(&file, 40));
 }

@@ -6,6 +6,7 @@ use graph::refusal::number;
 use graph::refusal::place;
 use level::LevelAnswer;
 use level::RestAnswer;
+use plan::PlanAnswer;
 use run::RunAnswer;
 
 pub fn say(text: &[u8]) {
@@ -64,6 +65,17 @@ pub fn show_run(answer: RunAnswer) {
     match answer {
         RunAnswer::Ran(n) => say_line(b"ran ", n),
         RunAnswer::Refused(why) => show_refusal(why),
+    }
+}
+
+pub fn show_plan(answer: PlanAnswer) {
+    match answer {
+        PlanAnswer::Plan(level, count) => {
+            say(b"plan ");
+            say_number(level);
+            say_line(b" count ", count);
+        }
+        PlanAnswer::Refused(why) => show_refusal(why),
     }
 }
 

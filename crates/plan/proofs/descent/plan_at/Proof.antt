@@ -1,0 +1,50 @@
+-- The memory lent is as wide as a layer.
+use Rattle.plan.proofs.Falls.{room-at}
+use Rattle.plan.specs.Search.{listed}
+use Rattle.rules.specs.Plan.{descend}
+use Rattle.rules.specs.Lists.{listOver}
+use Rattle.rules.specs.Over.{keep}
+use Rattle.rules.specs.Word.{bit}
+use lib.Seq.{length-take-le}
+use lib.ListN.{length, replicate}
+use native.Mathlib.Omega.{arith}
+use Prim.Native.Nat.{ℕ}
+use mathlib.Core.List.{[]}
+use mathlib.Core.Path.{sym, ap, _∙_}
+use borrow.Author.Needs.{needs}
+use Rattle.plan.proofs.descent.plan_at.Statement.{statement}
+use Rattle.plan.proofs.descent.plan_at.Tie as tie
+
+array-borrow-prefix-needed : tie.Need-array-borrow-prefix-needed
+array-borrow-prefix-needed c = search needs
+
+slice-aggregate-goal-down : tie.Need-slice-aggregate-goal-down
+slice-aggregate-goal-down c = sym (length-take-le _ _ (omega (arith, c .before .before .before .before .before .pre .0 .few)))
+
+goal-down-requires : tie.Need-goal-down-requires
+goal-down-requires c κs = (
+  room-at _ (length-take-le _ _ (omega (arith, c .before .before .before .before .before .before .pre .0 .few)))
+      (c .before .before .before .before .before .before .pre .0),
+  c .before .before .before .before .before .before .pre .1,
+  c .before .before .before .before .before .before .pre .2,
+)
+
+same-length : tie.Need-same-length
+same-length c = search needs
+
+returns : tie.Need-returns
+returns c = let a = c .before .before .before .before .before .before .before .before .before .before .args in
+    c .before .before .before .goal-down .ensures
+    ∙ ap (λ (x : ℕ). descend (listed x (a .needs .now) (a .adds .now)) (a .words .now) (length (a .plan .now)) (listOver x (λ p. keep (bit p (a .goal .0))
+    (a .set .0))) [])
+    (length-take-le (a .n) (replicate 32 0) (c .before .before .before .before .before .before .before .before .before .before .pre .0 .few))
+
+pub plan-at-spec : {M : Type 1} → statement M
+plan-at-spec =
+    tie.close
+    (tie.spec
+    array-borrow-prefix-needed
+    slice-aggregate-goal-down
+    goal-down-requires
+    same-length
+    returns)

@@ -1,0 +1,164 @@
+-- What is left of the layer, with the state now, is the whole layer, at each head of the two loops.
+use Rattle.plan.proofs.Searches.{resting, searching, rest-start, rest-open, rest-end, search-clear, search-end, order-lt, sizes-kept, turned}
+use Rattle.plan.specs.Search.{listed, Sizes}
+use Rattle.rules.specs.Plan.{coverFrom}
+use Rattle.rules.specs.Layer.{labelIn}
+use lib.ListN.{length}
+use native.Mathlib.Omega.{arith}
+use Prim.Native.Nat.{_+_, _-_, _≤_, _<_}
+use mathlib.Core.Path.{_≡_, refl, sym, _∙_}
+use Rattle.plan.proofs.layer.support.Statement.{statement}
+use Rattle.plan.proofs.layer.support.Tie as tie
+
+abbrev Inv-loop : tie.InvT-loop
+Inv-loop wanted labels needs adds under₀ marks₀ p₀ left₀ k₀ under marks p left k = Sizes wanted labels needs adds under₀ × (p ≡ p₀) × (p < length wanted)
+    × (length under ≡ length under₀) × (k ≤ length needs + 1)
+    × (resting (listed (length wanted) needs adds) labels wanted p₀ marks₀ under₀ ≡ searching (listed (length wanted) needs adds) labels wanted p k
+    (record { left = left; marks = marks; needed = under }))
+
+abbrev μ-loop : tie.MeasureT-loop
+μ-loop wanted labels needs adds under₀ marks₀ p₀ left₀ k₀ under marks p left k = length needs + 1 - k
+
+abbrev Inv-props : tie.InvT-props
+Inv-props wanted labels needs adds under₀ marks₀ p₀ under marks p = Sizes wanted labels needs adds under × (p ≤ length wanted)
+    × (coverFrom (listed (length wanted) needs adds) labels wanted (length wanted) 0 0 under₀ ≡ resting (listed
+    (length wanted) needs adds) labels wanted p marks under)
+
+abbrev μ-props : tie.MeasureT-props
+μ-props wanted labels needs adds under₀ marks₀ p₀ under marks p = length wanted - p
+
+props-holds : tie.Need-props-holds Inv-loop μ-loop Inv-props μ-props
+unfolding listed
+props-holds c = (
+  c .before .before .before .before .before .pre,
+  omega arith,
+  rest-start (listed (length
+      (c .before .before .before .before .before .args .wanted .now)) (c .before .before .before .before .before .args .needs .now)
+      (c .before .before .before .before .before .args .adds .now)) _ _ _,
+)
+
+mul-left : tie.Need-mul-left Inv-loop μ-loop Inv-props μ-props
+mul-left c = omega arith
+
+shared-slice-read-left : tie.Need-shared-slice-read-left Inv-loop μ-loop Inv-props μ-props
+shared-slice-read-left c = omega arith
+
+loop-holds : tie.Need-loop-holds Inv-loop μ-loop Inv-props μ-props
+unfolding listed labelIn
+loop-holds c = (
+  c .before .before .props .inv .0,
+  refl,
+  omega arith,
+  refl,
+  omega arith,
+  rest-open (listed (length
+      (c .before .before .before .before .before .before .before .before .args .wanted .now))
+      (c .before .before .before .before .before .before .before .before .args .needs .now)
+      (c .before .before .before .before .before .before .before .before .args .adds .now)) _ _ _ _ _ (omega arith),
+)
+
+add-p : tie.Need-add-p Inv-loop μ-loop Inv-props μ-props
+add-p c = omega arith
+
+props-less : tie.Need-props-less Inv-loop μ-loop Inv-props μ-props
+props-less c = omega arith
+
+props-again : tie.Need-props-again Inv-loop μ-loop Inv-props μ-props
+props-again c = (
+  sizes-kept _ (c .before .before .loop .inv .0) (c .before .before .loop .inv .3),
+  omega arith,
+  c .before .before .before .before .before .props .inv .2 ∙ c .before .before .loop .inv .5 ∙ search-clear _ _ _ _ _ _ (c .if1 .taken),
+)
+
+vertex-requires : tie.Need-vertex-requires Inv-loop μ-loop Inv-props μ-props
+vertex-requires c κs = omega arith
+
+turn-requires : tie.Need-turn-requires Inv-loop μ-loop Inv-props μ-props
+turn-requires c κs = let l = c .before .before .before .before .loop in
+    omega (
+      arith,
+      c .before .vertex .ensures,
+      order-lt (length
+          (c .before .before .before .before .before .before .before .before .before .before .before .before .before .args .needs .now)) (l .p) (l .k)
+          (c .before .before .before .loop-test .taken),
+      l .inv .0,
+    )
+
+add-k : tie.Need-add-k Inv-loop μ-loop Inv-props μ-props
+add-k c = omega arith
+
+loop-less : tie.Need-loop-less Inv-loop μ-loop Inv-props μ-props
+loop-less c = omega arith
+
+loop-again : tie.Need-loop-again Inv-loop μ-loop Inv-props μ-props
+loop-again c = let l = c .before .before .before .before .before .before .before .loop in (
+  l .inv .0,
+  l .inv .1,
+  omega arith,
+  c .before .before .turn .kept .1 .1 .1 .1 .1 .1 .1 .0 ∙ l .inv .3,
+  omega arith,
+  l .inv .5
+      ∙ turned (length (l .under)) _ _ _ _ _ _ _ _ _ _ (l .inv .3 ∙ l .inv .0 .room) (c .before .before .before .before .vertex .ensures) (omega arith)
+      (c .before .before .before .before .before .if1 .left) (c .before .before .turn .ensures),
+)
+
+same-length : tie.Need-same-length Inv-loop μ-loop Inv-props μ-props
+same-length c = c .before .before .loop .inv .3 ∙ c .before .before .before .before .before .props .inv .0 .room ∙ sym
+    (c .before .before .before .before .before .before .before .before .before .before .before .pre .room)
+
+returns : tie.Need-returns Inv-loop μ-loop Inv-props μ-props
+unfolding listed
+returns c = sym (c .before .before .before .before .before .props .inv .2 ∙ c .before .before .loop .inv .5 ∙ search-end (listed (length
+    (c .before .before .before .before .before .before .before .before .before .before .before .args .wanted .now))
+    (c .before .before .before .before .before .before .before .before .before .before .before .args .needs .now)
+    (c .before .before .before .before .before .before .before .before .before .before .before .args .adds .now)) _ _ _ _ _ (omega arith) (c .if2 .taken))
+
+add-p-2 : tie.Need-add-p-2 Inv-loop μ-loop Inv-props μ-props
+add-p-2 c = omega arith
+
+props-less-2 : tie.Need-props-less-2 Inv-loop μ-loop Inv-props μ-props
+props-less-2 c = omega arith
+
+props-again-2 : tie.Need-props-again-2 Inv-loop μ-loop Inv-props μ-props
+props-again-2 c = (
+  sizes-kept _ (c .before .before .loop .inv .0) (c .before .before .loop .inv .3),
+  omega arith,
+  c .before .before .before .before .before .props .inv .2 ∙ c .before .before .loop .inv .5 ∙ search-clear _ _ _ _ _ _ (c .if2 .left),
+)
+
+same-length-2 : tie.Need-same-length-2 Inv-loop μ-loop Inv-props μ-props
+same-length-2 c = omega arith
+
+returns-2 : tie.Need-returns-2 Inv-loop μ-loop Inv-props μ-props
+unfolding listed
+returns-2 c = sym (c .before .props .inv .2 ∙ rest-end (listed (length (c .before .before .before .before .before .before .before .args .wanted .now))
+    (c .before .before .before .before .before .before .before .args .needs .now)
+    (c .before .before .before .before .before .before .before .args .adds .now)) _ _ _ _ _ (omega arith))
+
+pub support-spec : {M : Type 1} → statement M
+support-spec =
+    tie.close
+    (tie.spec
+    Inv-loop
+    μ-loop
+    Inv-props
+    μ-props
+    props-holds
+    mul-left
+    shared-slice-read-left
+    loop-holds
+    add-p
+    props-less
+    props-again
+    vertex-requires
+    turn-requires
+    add-k
+    loop-less
+    loop-again
+    same-length
+    returns
+    add-p-2
+    props-less-2
+    props-again-2
+    same-length-2
+    returns-2)

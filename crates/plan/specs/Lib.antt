@@ -1,0 +1,3 @@
+-- The relaxed plan's call.
+pub mod Plan
+pub mod Search

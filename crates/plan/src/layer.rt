@@ -1,0 +1,88 @@
+// The search for support of one layer.
+use crate::vertex::turn;
+use crate::vertex::vertex;
+ghost use mathlib.Core.Path.{_≡_};
+ghost use Prim.Native.Nat.{_+_, _≤_};
+ghost use lib.ListN.{length};
+ghost use Rattle.rules.specs.Plan.{coverFrom, cover};
+ghost use Rattle.graph.specs.Width.{propWidth};
+ghost use Rattle.plan.specs.Search.{listed, Sizes, coveredAs};
+
+// The actions marked, or states left uncovered.
+pub enum LayerAnswer {
+    Marked(u32),
+    Uncovered,
+}
+
+// Each proposition's states are carried to the layer below.
+fn support(
+    wanted: &[u64],
+    labels: &[u64],
+    needs: &[u32],
+    adds: &[u32],
+    under: &mut [u64],
+) -> LayerAnswer
+    requires { ⌜ Sizes (now wanted) (now labels) (now needs) (now adds) (now under) ⌝ }
+    ensures { λ r. ⌜ coveredAs r (now (under .exit))
+        ≡ coverFrom (listed (length (now (wanted .entry))) (now (needs .entry)) (now (adds .entry))) (now (labels .entry)) (now (wanted .entry)) (length (now (wanted .entry))) 0 0 (now (under .entry)) ⌝ }
+{
+    let mut marks: u32 = 0;
+    let mut p = 0;
+    'props: while p < wanted.len() {
+        let mut left = wanted[p];
+        let mut k = 0;
+        while k <= needs.len() {
+            if left == 0 {
+                p += 1;
+                continue 'props;
+            }
+            let v = vertex(k, p, needs.len());
+            let took = turn(left, marks, v, p, labels, needs, adds, &mut *under);
+            left = took.left;
+            marks = took.marks;
+            k += 1;
+        }
+        if left != 0 {
+            return LayerAnswer::Uncovered;
+        }
+        p += 1;
+    }
+    LayerAnswer::Marked(marks)
+}
+
+// `to` becomes `from`.
+fn replace(to: &mut [u64], from: &[u64])
+    requires { ⌜ length (now to) ≡ length (now from) ⌝ }
+    ensures { λ r. ⌜ now (to .exit) ≡ now (from .entry) ⌝ }
+{
+    for i in 0..from.len() {
+        to[i] = from[i];
+    }
+}
+
+// What is needed becomes what is needed below, by way of the memory `under`.
+fn down(
+    needed: &mut [u64],
+    labels: &[u64],
+    needs: &[u32],
+    adds: &[u32],
+    under: &mut [u64],
+) -> LayerAnswer
+    requires { ⌜ Sizes (now needed) (now labels) (now needs) (now adds) (now under) ⌝ }
+    ensures { λ r. ⌜ coveredAs r (now (needed .exit))
+        ≡ coverFrom (listed (length (now (needed .entry))) (now (needs .entry)) (now (adds .entry))) (now (labels .entry)) (now (needed .entry)) (length (now (needed .entry))) 0 0 (now (under .entry)) ⌝ }
+{
+    let answer = support(&*needed, labels, needs, adds, &mut *under);
+    replace(&mut *needed, &*under);
+    answer
+}
+
+// One layer down, from nothing needed below.
+pub fn step_down(needed: &mut [u64], labels: &[u64], needs: &[u32], adds: &[u32]) -> LayerAnswer
+    requires { ⌜ (length (now needed) ≤ propWidth) × (length (now needs) ≤ 32) × (length (now adds) ≡ length (now needs)) × (length (now needs) + length (now needed) ≤ length (now labels)) ⌝ }
+    ensures { λ r. ⌜ coveredAs r (now (needed .exit)) ≡ cover (listed (length (now (needed .entry))) (now (needs .entry)) (now (adds .entry))) (now (labels .entry)) (now (needed .entry)) ⌝ }
+{
+    let n = needed.len();
+    let mut under = [0u64; 32];
+    down(&mut *needed, labels, needs, adds, &mut under[..n])
+}

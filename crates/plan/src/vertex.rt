@@ -1,0 +1,109 @@
+// One vertex in the search for support.
+use graph::sets::Props;
+ghost use mathlib.Core.Path.{_≡_};
+ghost use Prim.Native.Nat.{_+_, _≤_, _<_};
+ghost use lib.ListN.{length};
+ghost use Rattle.rules.specs.Test.{_and_, fails, same, below, choose};
+ghost use Rattle.rules.specs.Word as W;
+ghost use Rattle.rules.specs.Over.{keep};
+ghost use Rattle.rules.specs.Lists.{listOver};
+ghost use Rattle.rules.specs.Domain.{addsOf};
+ghost use Rattle.rules.specs.Layer.{labelIn};
+ghost use Rattle.rules.specs.Plan.{Support, takes};
+ghost use Rattle.graph.specs.Width.{propWidth};
+ghost use Rattle.plan.specs.Search.{listed, setOf, orderAt};
+
+// The states still uncovered and the actions marked.
+pub struct Took {
+    pub left: u64,
+    pub marks: u32,
+}
+
+// The vertex at place k of the order for p: its persistence, then the actions.
+pub fn vertex(k: usize, p: usize, actions: usize) -> usize
+    requires { ⌜ (p < propWidth) × (actions ≤ 32) ⌝ }
+    ensures { λ r. ⌜ r ≡ orderAt actions p k ⌝ }
+{
+    if k == 0 {
+        return actions + p;
+    }
+    k - 1
+}
+
+// An action's set, or the proposition of a persistence.
+fn set_of(sets: &[u32], v: usize) -> u32
+    requires { ⌜ v < length (now sets) + propWidth ⌝ }
+    ensures { λ r. ⌜ r ≡ setOf (now (sets .entry)) v ⌝ }
+{
+    if v < sets.len() {
+        return sets[v];
+    }
+    Props::single(v - sets.len()).0
+}
+
+// `t` where q is among them.
+pub fn kept(among: Props, q: usize, t: u64) -> u64
+    requires { ⌜ q < propWidth ⌝ }
+    ensures { λ r. ⌜ r ≡ keep (W.bit q (among .0)) t ⌝ }
+{
+    if among.has(q) {
+        return t;
+    }
+    0
+}
+
+// `t` is needed of each need.
+fn spread(under: &mut [u64], needs: Props, t: u64)
+    requires { ⌜ length (now under) ≤ propWidth ⌝ }
+    ensures { λ r. ⌜ now (under .exit) ≡ listOver (length (now (under .entry))) (λ q. W.union (labelIn (now (under .entry)) q) (keep (W.bit q (needs .0)) t)) ⌝ }
+{
+    for q in 0..under.len() {
+        under[q] = under[q] | kept(needs, q, t);
+    }
+}
+
+// An action that takes at least one state is marked.
+fn mark(marks: u32, v: usize, actions: usize, t: u64) -> u32
+    requires { ⌜ actions ≤ 32 ⌝ }
+    ensures { λ r. ⌜ r ≡ choose (below v actions and fails (same t 0)) (W.union marks (W.single v)) marks ⌝ }
+{
+    if v < actions {
+        if t != 0 {
+            return marks | (1u32 << v);
+        }
+    }
+    marks
+}
+
+// What vertex v takes of the states left, if it adds p.
+pub fn turn(
+    left: u64,
+    marks: u32,
+    v: usize,
+    p: usize,
+    labels: &[u64],
+    needs: &[u32],
+    adds: &[u32],
+    under: &mut [u64],
+) -> Took
+    requires { ⌜ (p < length (now under)) × (v < length (now needs) + length (now under)) × (length (now needs) ≤ 32) × (length (now under) ≤ propWidth)
+        × (length (now adds) ≡ length (now needs)) × (length (now needs) + length (now under) ≤ length (now labels)) ⌝ }
+    ensures { λ r. ⌜ _≡_ {A = Support} (record { left = r .left; marks = r .marks; needed = now (under .exit) })
+        (choose (W.bit p (addsOf (listed (length (now (under .entry))) (now (needs .entry)) (now (adds .entry))) v))
+        (takes (listed (length (now (under .entry))) (now (needs .entry)) (now (adds .entry))) (now (labels .entry)) v
+        (record { left = left; marks = marks; needed = now (under .entry) }))
+        (record { left = left; marks = marks; needed = now (under .entry) })) ⌝ }
+{
+    if !Props(set_of(adds, v)).has(p) {
+        return Took {
+            left: left,
+            marks: marks,
+        };
+    }
+    let t = left & labels[v];
+    spread(&mut *under, Props(set_of(needs, v)), t);
+    Took {
+        left: left ^ (left & t),
+        marks: mark(marks, v, needs.len(), t),
+    }
+}

@@ -1,0 +1,138 @@
+-- What the calls promise together, of what they answer and write themselves: for every accepted file, every depth and memory that the build accepts,
+-- every goal over the file's propositions and every non-empty set S of its states, on memory that begins with the words which the build writes.
+-- A call's answer and memory are what its rule says (buildRule, extractRule, levelRule, runRule, planRule). The setting is that of Setting.
+-- Assumes nothing.
+use mathlib.Core.Path.{_≡_}
+use mathlib.Core.Bool.{So}
+use mathlib.Core.List.{List}
+use Prim.Native.Nat.{ℕ, _≤_, _<_}
+use lib.ListN.{length, getD}
+use Rattle.rules.specs.Word.{bit, single, within}
+use Rattle.rules.specs.Level.{Level, level, never, notByDepth}
+use Rattle.rules.specs.Plan.{relaxedRun}
+use Rattle.rules.proofs.Extracts.{OneState}
+use Rattle.graph.specs.Verdict.{accepted, refused, laid}
+use Rattle.graph.specs.File.{fileRule, actionsOf, startOf}
+use Rattle.graph.specs.Build.{buildRule}
+use Rattle.graph.specs.declared.file.Counts.{Counts}
+use Rattle.level.specs.Rule.{levelRule}
+use Rattle.extract.specs.Rule.{extractRule}
+use Rattle.extract.specs.Restricted.{restricted, fewer}
+use Rattle.run.specs.Run.{runRule}
+use Rattle.plan.specs.Plan.{planRule}
+use Rattle.theorems.proofs.Setting.{Exactly, Found, StatesOf, GoalOf, Each, domainOf, alone, Largest, EndsWith, Reaches, SameActions}
+use Rattle.theorems.proofs.Founds as founds
+use Rattle.theorems.proofs.Levels as levels
+use Rattle.theorems.proofs.Bounds as bounds
+use Rattle.theorems.proofs.Extracts as extracts
+use Rattle.theorems.proofs.Plans as plans
+use Rattle.theorems.proofs.Leaks as leaks
+
+-- the memory after an accepted build is of this setting
+pub build-leaves : (file : List ℕ) (c : Counts) (depth : ℕ) (memory words : List ℕ) → fileRule file ≡ accepted c
+    → buildRule file depth (length memory) ≡ accepted words → Found file c depth (laid (buildRule file depth (length memory)) memory)
+build-leaves = founds.build-leaves
+
+-- and a single state is a set
+pub one-state : (c : Counts) (s : ℕ) → s < c .states → StatesOf c (single s)
+one-state = founds.one-state
+
+module _ (file : List ℕ) (c : Counts) (depth : ℕ) (found : List ℕ) (built : Found file c depth found) where
+  -- ---- 1: the extracted graph
+
+  -- For S, extract gives number for number the words that the build gives for the file of the states of S only; room and memory hold a graph.
+  pub extract-is-build : (set : ℕ) → StatesOf c set → (room memory : ℕ) → length (built .words) ≤ room → length (built .words) ≤ memory
+      → (words : List ℕ) × (extractRule file depth set found room ≡ accepted words) × (buildRule (restricted file c set) depth memory ≡ accepted words)
+  extract-is-build set some = extracts.extract-is-build built some
+
+  -- So the memory after an extract is of this setting for that file, and all that is said here holds of it.
+  pub extract-leaves : (set : ℕ) → StatesOf c set → (out : List ℕ) → length (built .words) ≤ length out
+      → Found (restricted file c set) (fewer c set) depth (laid (extractRule file depth set found (length out)) out)
+  extract-leaves set some = extracts.extract-leaves built some
+
+  -- For one state, bit 0 of every label and mutex word says what Graphplan's graph of that state says (ownProps, ownActions), and every word is below 2.
+  pub extract-one-is-graphplan : (s : ℕ) → s < c .states → (room : ℕ) → length (built .words) ≤ room
+      → (words : List ℕ) × (extractRule file depth (single s) found room ≡ accepted words) × OneState (domainOf file c) depth (startOf file c s) words
+  extract-one-is-graphplan = extracts.extract-one built
+
+  module _ (set : ℕ) (some : StatesOf c set) (goal : ℕ) (over : GoalOf c goal) where
+    -- ---- 2: the level
+
+    -- The level call answers a level, 'never' or 'not by depth'.
+    pub level-answered : (a : Level) × (levelRule file depth set goal found ≡ accepted a)
+    level-answered = (_, founds.level-answer built set goal some over)
+
+    -- There is a level exactly when each state of S has one by itself.
+    pub level-exists-exactly : Exactly ((t : ℕ) × (levelRule file depth set goal found ≡ accepted (level t)))
+        (Each set (λ s. alone file c depth goal s ≤ depth))
+    level-exists-exactly = levels.exists-exactly built some over
+
+    -- And it is t exactly when t is the largest of these.
+    pub level-is-largest : (t : ℕ) → Exactly (levelRule file depth set goal found ≡ accepted (level t)) ((t ≤ depth) × Largest file c depth set goal t)
+    level-is-largest t = (levels.largest built some over t, λ (l, h). levels.answered built some over t l h)
+
+    -- ---- 3: the bound
+
+    -- No list of actions, of any length, that runs from each state of S and ends with the goal is shorter than the level.
+    pub level-bound : (t : ℕ) → levelRule file depth set goal found ≡ accepted (level t) → (list : List ℕ) → Reaches file c set goal list → t ≤ length list
+    level-bound t e list r = bounds.level-bound built some over r t e
+
+    -- 'never': there is none.
+    pub never-bound : levelRule file depth set goal found ≡ accepted never → (list : List ℕ) → Reaches file c set goal list → ⊥
+    never-bound e list r = bounds.never-bound built some over r e
+
+    -- 'not by depth': there is none of at most so many steps.
+    pub depth-bound : levelRule file depth set goal found ≡ accepted notByDepth → (list : List ℕ) → Reaches file c set goal list → depth < length list
+    depth-bound e list r = bounds.depth-bound built some over r e
+
+    -- So it is with the lists that the run call accepts: of at most 65,535 numbers, with room for the sets of all states, they are exactly these.
+    pub run-exactly : (list : List ℕ) (room : ℕ) → length list ≤ 65535 → c .states ≤ room
+        → Exactly (Reaches file c set goal list) ((ends : List ℕ) × (runRule file set list room ≡ accepted ends) × EndsWith set goal ends)
+    run-exactly list room short enough = (
+      λ r. (r .ends, bounds.run-accepts (built .taken) some r room enough short, r .goals),
+      λ (ends, e, goals). bounds.run-reaches (built .taken) room e goals,
+    )
+
+    -- ---- 4: the relaxed plan, with room for as many words as the depth
+
+    module _ (room : ℕ) (enough : depth ≤ room) where
+      -- A plan is answered exactly when there is a level, and has as many words.
+      pub plan-exactly-when-level : (t : ℕ) → Exactly (levelRule file depth set goal found ≡ accepted (level t))
+          ((plan : List ℕ) × (planRule file depth set goal found room ≡ accepted plan) × (length plan ≡ t))
+      plan-exactly-when-level = plans.exactly-when-level built some over room enough
+
+      -- Its words bring each state of S to the goal, deletes ignored.
+      pub plan-reaches : (plan : List ℕ) → planRule file depth set goal found room ≡ accepted plan
+          → Each set (λ s. So (within goal (relaxedRun (actionsOf file c) plan (startOf file c s))))
+      plan-reaches = plans.reaches built some over room enough
+
+      -- Without a level that is said, by cause 13 ..
+      pub no-plan-exactly : Exactly ((t : ℕ) → levelRule file depth set goal found ≡ accepted (level t) → ⊥)
+          (planRule file depth set goal found room ≡ refused 13 depth)
+      no-plan-exactly = plans.none-exactly built some over room enough
+
+      -- .. and cause 14 is never answered.
+      pub never-uncovered : (place : ℕ) → planRule file depth set goal found room ≡ refused 14 place → ⊥
+      never-uncovered = plans.never-uncovered built some over room enough
+
+-- ---- 5: no state depends on another
+
+-- Two files with the same actions, each with its own start states. Whether a level that is not there is 'never' or 'not by depth' goes by the rest of
+-- the whole graph, and is not claimed.
+module _ (file : List ℕ) (c : Counts) (file' : List ℕ) (c' : Counts) (same : SameActions file c file' c') (depth : ℕ) (found found' : List ℕ)
+    (built : Found file c depth found) (built' : Found file' c' depth found') where
+  -- Bit s of every word is the same where state s is.
+  pub no-leak-words : (s : ℕ) → s < c .states → s < c' .states → startOf file c s ≡ startOf file' c' s
+      → (i : ℕ) → bit s (getD (built .words) i 0) ≡ bit s (getD (built' .words) i 0)
+  no-leak-words = leaks.words-same same built built'
+
+  -- So is the level of S, where each state of S is: for one state, S = single s.
+  module _ (set : ℕ) (some : StatesOf c set) (some' : StatesOf c' set) (agree : Each set (λ s. startOf file c s ≡ startOf file' c' s))
+      (goal : ℕ) (over : GoalOf c goal) where
+    pub no-leak-level : (t : ℕ) → Exactly (levelRule file depth set goal found ≡ accepted (level t))
+        (levelRule file' depth set goal found' ≡ accepted (level t))
+    no-leak-level = leaks.level-same same built built' some some' over agree
+
+    -- And so is its plan.
+    pub no-leak-plan : (room : ℕ) → depth ≤ room → planRule file depth set goal found room ≡ planRule file' depth set goal found' room
+    no-leak-plan = leaks.plan-same same built built' some some' over agree
