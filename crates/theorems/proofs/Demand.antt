@@ -20,6 +20,7 @@ use Rattle.extract.specs.Rule.{extractRule}
 use Rattle.extract.specs.Restricted.{restricted, fewer}
 use Rattle.run.specs.Run.{runRule}
 use Rattle.plan.specs.Plan.{planRule}
+use Rattle.plan.proofs.Built.{plan-accepted}
 use Rattle.theorems.proofs.Setting.{Exactly, Found, StatesOf, GoalOf, Each, domainOf, alone, Largest, EndsWith, Reaches, SameActions}
 use Rattle.theorems.proofs.Founds as founds
 use Rattle.theorems.proofs.Levels as levels
@@ -94,6 +95,10 @@ module _ (file : List ℕ) (c : Counts) (depth : ℕ) (found : List ℕ) (built 
     )
 
     -- ---- 4: the relaxed plan, with room for as many words as the depth
+
+    -- A plan is answered only where the output has that room.
+    pub plan-needs-room : (room : ℕ) (plan : List ℕ) → planRule file depth set goal found room ≡ accepted plan → depth ≤ room
+    plan-needs-room room plan e = plan-accepted file depth set goal found room plan e .output
 
     module _ (room : ℕ) (enough : depth ≤ room) where
       -- A plan is answered exactly when there is a level, and has as many words.
