@@ -8,14 +8,14 @@ use mathlib.Core.Logic.{⊎-elim}
 use native.Mathlib.Nat.{add-zero, zero-add, le-trans}
 use native.Mathlib.Omega.{arith}
 use lib.ListN.{length, getD, drop}
-use lib.Seq.{getD-drop, ext-getD}
+use lib.Seq.{getD-drop}
 use Rattle.rules.specs.Test.{fails, below}
 use Rattle.rules.specs.Over.{allBelow, firstBelow}
 use Rattle.rules.specs.Lists.{listOver}
 use Rattle.rules.proofs.Tests.{test-eq, choose-held, choose-failed, holds-or, fails-at, below-of, below-at, below-not, below-fails, is-fails}
 use Rattle.rules.proofs.Overs.{below-suc, all-of, all-at}
 use Rattle.rules.proofs.Firsts.{first-unique, first-before}
-use Rattle.rules.proofs.Layers.{length-listOver, getD-listOver}
+use Rattle.rules.proofs.Layers.{length-listOver}
 use Rattle.graph.specs.Verdict.{accepted, refused}
 use Rattle.graph.specs.Memory.{putAt}
 use Rattle.graph.proofs.Writes.{Lists, put-rest}
@@ -83,11 +83,6 @@ list-ahead {f} {n} {i} {w₀} {w} s =
     ∙ put-rest 0 (listOver i f) w₀ (omega (arith, length-listOver i f, s .within, s .room)) ∙ ap (λ (x : ℕ). drop x w₀) (sym l) in
     ap (λ (x : ℕ). getD w x 0) (sym (add-zero i)) ∙ sym (getD-drop i w 0 0) ∙ ap (λ (x : List ℕ). getD x 0 0) e ∙ getD-drop i w₀ 0 0
     ∙ ap (λ (x : ℕ). getD w₀ x 0) (add-zero i)
-
--- a list is what its indices say
-pub listOver-self : (l : List ℕ) → listOver (length l) (λ i. getD l i 0) ≡ l
-listOver-self l =
-    ext-getD 0 _ l (length-listOver (length l) _) (λ i h. getD-listOver (length l) _ i (omega (arith, length-listOver (length l) (λ i. getD l i 0))))
 
 -- a list put at the front
 pub put-first : (xs w : List ℕ) → putAt 0 xs w ≡ xs ++ drop (length xs) w

@@ -1,5 +1,6 @@
 -- `lay` meets its contract: the loop writes one set after the other.
-use Rattle.run.proofs.Loops.{listOver-self, put-first}
+use Rattle.rules.proofs.Layers.{listOver-self}
+use Rattle.run.proofs.Loops.{put-first}
 use Rattle.graph.proofs.Writes.{Lists, list-none, list-more, list-done}
 use Rattle.graph.specs.Memory.{putAt}
 use lib.ListN.{length, getD}

@@ -1,0 +1,109 @@
+-- Levels and rests as text: which mark is written, and how long it is.
+-- Assumes nothing.
+use Prim.Native.Nat.{ℕ, suc, _+_, _*_, _≤_, _<_}
+use mathlib.Core.Path.{_≡_, refl, sym, ap, ap₂, _∙_}
+use mathlib.Core.Bool.{Bool, true, false}
+use mathlib.Core.List.{List, [], _∷_, _++_}
+use native.Mathlib.Omega.{arith}
+use lib.ListN.{length, length-append}
+use Rattle.rules.specs.Test.{below, choose}
+use Rattle.rules.specs.Word.{single}
+use Rattle.rules.specs.Domain.{Domain}
+use Rattle.rules.specs.Level.{Level, level, never, notByDepth, firstMet, firstRest, levelOf, restsAt, none, restOf}
+use Rattle.rules.proofs.Tests.{choose-held, choose-failed, below-of, below-not, below-at, is-fails}
+use Rattle.rules.proofs.Firsts.{first-le}
+use Rattle.report.specs.Decimal.{decimal}
+use Rattle.report.specs.Text.{restText, restFrom, levelText, levelFrom, cellsText, lineText, headText, stateText}
+use Rattle.report.proofs.Texts.{decimal-length, runs-length}
+
+-- ---- the rest
+
+module _ (u depth : ℕ) where
+  pub rest-number : u < depth → decimal u ≡ restText (restFrom u depth)
+  rest-number h = ap restText (sym (choose-held (below u depth) (restsAt u) none (below-of u depth h)))
+
+  pub rest-unknown : depth ≤ u → 63 ∷ [] ≡ restText (restFrom u depth)
+  rest-unknown h = ap restText (sym (choose-failed (below u depth) (restsAt u) none (is-fails _ (below-not u depth h))))
+
+  pub rest-short : depth < 1000 → length (restText (restFrom u depth)) ≤ 3
+  unfolding choose
+  rest-short h = go (below u depth) (λ e. below-at u depth e)
+    where
+      go : (b : Bool) → (b ≡ true → u < depth) → length (restText (choose b (restsAt u) none)) ≤ 3
+      go true l = decimal-length 3 u (omega (arith, l refl)) (omega arith)
+      go false l = omega arith
+
+  pub rest-from : (D : Domain) (words : List ℕ) → u ≡ firstRest D depth words → restFrom u depth ≡ restOf D depth words
+  unfolding restOf
+  rest-from D words e = ap (λ (x : ℕ). restFrom x depth) e
+
+-- ---- the level
+
+module _ (t u depth : ℕ) where
+  pub level-number : t ≤ depth → (32 ∷ []) ++ decimal t ≡ 32 ∷ levelText (levelFrom t u depth)
+  level-number h = ap (λ (l : Level). 32 ∷ levelText l) (sym (choose-held (below t (suc depth)) (level t) _ (below-of t (suc depth) (omega arith))))
+
+  met-at-none : depth < t → levelFrom t u depth ≡ choose (below u depth) never notByDepth
+  met-at-none h = choose-failed (below t (suc depth)) (level t) _ (is-fails _ (below-not t (suc depth) (omega arith)))
+
+  pub level-never : depth < t → u < depth → 32 ∷ 45 ∷ [] ≡ 32 ∷ levelText (levelFrom t u depth)
+  level-never h l = ap (λ (x : Level). 32 ∷ levelText x) (sym (met-at-none h ∙ choose-held (below u depth) never notByDepth (below-of u depth l)))
+
+  pub level-unknown : depth < t → depth ≤ u → 32 ∷ 63 ∷ [] ≡ 32 ∷ levelText (levelFrom t u depth)
+  level-unknown h l =
+      ap (λ (x : Level). 32 ∷ levelText x) (sym (met-at-none h ∙ choose-failed (below u depth) never notByDepth (is-fails _ (below-not u depth l))))
+
+  level-short : t < 1000 → length (levelText (levelFrom t u depth)) ≤ 3
+  unfolding choose
+  level-short h = go (below t (suc depth)) (below u depth)
+    where
+      go : (a b : Bool) → length (levelText (choose a (level t) (choose b never notByDepth))) ≤ 3
+      go true b = decimal-length 3 t h (omega arith)
+      go false true = omega arith
+      go false false = omega arith
+
+module _ (D : Domain) (depth set : ℕ) (words : List ℕ) where
+  pub level-from : (goal t u : ℕ) → t ≡ firstMet D depth set goal words → u ≡ firstRest D depth words → levelFrom t u depth ≡ levelOf D depth set goal words
+  unfolding levelOf
+  level-from goal t u e q = ap₂ (λ (x y : ℕ). levelFrom x y depth) e q
+
+  pub met-le : (goal : ℕ) → firstMet D depth set goal words ≤ suc depth
+  unfolding firstMet
+  met-le goal = first-le _ _
+
+  pub cell-short : depth ≤ 255 → (goal : ℕ) → length (32 ∷ levelText (levelOf D depth set goal words)) ≤ 4
+  unfolding levelOf
+  cell-short h goal = omega (arith, level-short (firstMet D depth set goal words) (firstRest D depth words) depth (omega (arith, met-le goal)))
+
+-- ---- lines
+
+module _ (D : Domain) (depth : ℕ) (words : List ℕ) (deep : depth ≤ 255) where
+  pub cells-short : (set : ℕ) → length (cellsText (D .props) (λ p. levelOf D depth set (single p) words)) ≤ 4 * D .props
+  unfolding cellsText
+  cells-short set =
+      omega (arith, runs-length (λ p. 32 ∷ levelText (levelOf D depth set (single p) words)) 4 (D .props) (λ p h. cell-short D depth set words deep (single p)))
+
+  line-short : (set : ℕ) → length (lineText (D .props) (λ p. levelOf D depth set (single p) words)) ≤ 2 + 4 * D .props
+  unfolding lineText
+  line-short set = omega (arith, cells-short set, length-append (cellsText (D .props) (λ p. levelOf D depth set (single p) words)) (10 ∷ []))
+
+  pub state-short : (s : ℕ) → s < 100 → length (stateText D depth words s) ≤ 4 + 4 * D .props
+  unfolding stateText
+  state-short s h =
+      omega (
+        arith,
+        decimal-length 2 s h (omega arith),
+        line-short (single s),
+        length-append (decimal s) (lineText (D .props) (λ p. levelOf D depth (single s) (single p) words)),
+      )
+
+pub head-short : (depth u : ℕ) → depth < 1000 → length (headText depth (restFrom u depth)) ≤ 19
+unfolding headText
+head-short depth u h =
+    omega (
+      arith,
+      decimal-length 3 depth h (omega arith),
+      rest-short u depth h,
+      length-append (decimal depth) ((32 ∷ 114 ∷ 101 ∷ 115 ∷ 116 ∷ 32 ∷ []) ++ (restText (restFrom u depth) ++ (10 ∷ []))),
+      length-append (restText (restFrom u depth)) (10 ∷ []),
+    )

@@ -1,0 +1,83 @@
+-- The first line, those of the states and that of all states.
+use mathlib.Core.Path.{ap}
+use Prim.Native.Nat.{ℕ, _+_, _*_, _≤_}
+use native.Mathlib.Omega.{arith}
+use native.Mathlib.Nat.{mul-le-mul}
+use Rattle.level.specs.Rule.{sized}
+use Rattle.report.specs.Text.{headText, stateText, graphText}
+use Rattle.report.proofs.Texts.{runs-length, wrote-length, wrote-then, wrote-same}
+use Rattle.report.proofs.Marks.{rest-from, state-short, head-short}
+use borrow.Author.Needs.{needs}
+use Rattle.report.proofs.lines.put_graph.Statement.{statement}
+use Rattle.report.proofs.lines.put_graph.Tie as tie
+
+-- a state's line is at most 132 bytes
+line-most : (n : ℕ) → n ≤ 32 → 4 + 4 * n ≤ 132
+line-most n h = omega arith
+
+first-rest-requires : tie.Need-first-rest-requires
+first-rest-requires c κs = search needs
+
+put-head-requires : tie.Need-put-head-requires
+put-head-requires c κs = search needs
+
+put-states-requires : tie.Need-put-states-requires
+put-states-requires c κs = let s = c .before .before .before .before .before .before .before .before in
+    let one = c .before .before .before .put-head .ensures in (
+      search needs,
+      search needs,
+      search needs,
+      omega (
+        arith,
+        one .ends,
+        wrote-length one,
+        head-short (s .args .depth) (c .before .before .before .before .before .first-rest .result) (omega (arith, s .pre .0 .depth)),
+        mul-le-mul (s .pre .1) (line-most (s .args .n) (s .pre .0 .few)),
+      ),
+    )
+
+put-all-requires : tie.Need-put-all-requires
+unfolding sized
+put-all-requires c κs = let s = c .before .before .before .before .before .before .before .before .before .before .before .before in
+    let one = c .before .before .before .before .before .before .before .put-head .ensures in
+    let two = c .before .before .before .put-states .ensures in (
+      search needs,
+      search needs,
+      search needs,
+      omega (
+        arith,
+        one .ends,
+        wrote-length one,
+        two .ends,
+        wrote-length two,
+        head-short (s .args .depth) (c .before .before .before .before .before .before .before .before .before .first-rest .result) (omega
+            (arith, s .pre .0 .depth)),
+        runs-length (stateText (sized (s .args .n) (s .args .v)) (s .args .depth) (s .args .words .now)) (4 + 4 * s .args .n) (s .args .states)
+            (λ i h. state-short (sized (s .args .n) (s .args .v)) (s .args .depth) (s .args .words .now) (s .pre .0 .depth) i (omega (arith, s .pre .1))),
+        mul-le-mul (s .pre .1) (line-most (s .args .n) (s .pre .0 .few)),
+        s .pre .0 .few,
+      ),
+    )
+
+same-length : tie.Need-same-length
+same-length c = search needs
+
+returns : tie.Need-returns
+unfolding graphText
+returns c = let s = c .before .before .before .before .before .before .before .before .before .before .before .before .before .before .before in
+    wrote-then
+    (wrote-same (c .before .before .before .before .before .before .before .before .before .before .put-head .ensures) (ap (headText (s .args .depth))
+    (rest-from _ (s .args .depth) (sized (s .args .n) (s .args .v)) (s .args .words .now)
+    (c .before .before .before .before .before .before .before .before .before .before .before .before .first-rest .ensures))))
+    (wrote-then (c .before .before .before .before .before .before .put-states .ensures) (c .before .before .put-all .ensures))
+
+pub put-graph-spec : {M : Type 1} → statement M
+put-graph-spec =
+    tie.close
+    (tie.spec
+    first-rest-requires
+    put-head-requires
+    put-states-requires
+    put-all-requires
+    same-length
+    returns)
