@@ -10,3 +10,4 @@ pub mod props;
 pub mod read;
 pub mod refusal;
 pub mod sets;
+pub mod view;

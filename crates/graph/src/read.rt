@@ -1,34 +1,72 @@
-// The vertices' sets and the start states, read from the file once.
+// The vertices' sets and the start states, read from the file once, through the view.
 use crate::file::Counts;
-use crate::file::set_at;
 use crate::sets::Props;
+use crate::view::set_of;
 ghost use mathlib.Core.Path.{_≡_};
-ghost use Prim.Native.Nat.{_+_, _-_, _*_, _≤_, _<_};
+ghost use Prim.Native.Nat.{_+_, _<_};
 ghost use lib.ListN.{length};
-ghost use Rattle.rules.specs.Test.{below, choose};
-ghost use Rattle.rules.specs.Word.{single};
 ghost use Rattle.rules.specs.Lists.{listOver};
 ghost use Rattle.rules.specs.Domain.{needsOf, addsOf, deletesOf};
-ghost use Rattle.graph.specs.File.{Taken, setAt, actionsOf, startOf};
+ghost use Rattle.graph.specs.File.{Taken, actionsOf, startOf};
 
-// What vertex v needs (field 0) or adds (field 4): of an action what the file says, of a persistence its proposition.
-fn carried_set(file: &[u8], c: Counts, v: usize, field: usize) -> u32
-    requires { ⌜ Taken (now file) c × (v < c .actions + c .props) × (field ≤ 8) ⌝ }
-    ensures { λ r. ⌜ r ≡ choose (below v (c .actions)) (setAt (now (file .entry)) (8 + 12 * v + field)) (single (v - c .actions)) ⌝ }
+// The three sets of action a, and start state s: the file's sets in order are three of each action, then one of each state.
+fn precondition(file: &[u8], c: Counts, a: usize) -> u32
+    requires { ⌜ Taken (now file) c × (a < c .actions) ⌝ }
+    ensures { λ r. ⌜ r ≡ actionsOf (now (file .entry)) c .pre a ⌝ }
+{
+    set_of(file, c.props, c.actions, c.states, 3 * a)
+}
+
+fn added(file: &[u8], c: Counts, a: usize) -> u32
+    requires { ⌜ Taken (now file) c × (a < c .actions) ⌝ }
+    ensures { λ r. ⌜ r ≡ actionsOf (now (file .entry)) c .add a ⌝ }
+{
+    set_of(file, c.props, c.actions, c.states, 3 * a + 1)
+}
+
+fn deleted(file: &[u8], c: Counts, a: usize) -> u32
+    requires { ⌜ Taken (now file) c × (a < c .actions) ⌝ }
+    ensures { λ r. ⌜ r ≡ actionsOf (now (file .entry)) c .del a ⌝ }
+{
+    set_of(file, c.props, c.actions, c.states, 3 * a + 2)
+}
+
+fn start(file: &[u8], c: Counts, s: usize) -> u32
+    requires { ⌜ Taken (now file) c × (s < c .states) ⌝ }
+    ensures { λ r. ⌜ r ≡ startOf (now (file .entry)) c s ⌝ }
+{
+    set_of(file, c.props, c.actions, c.states, 3 * c.actions + s)
+}
+
+// What vertex v needs: of an action what the file says, of a persistence its proposition.
+fn needed_by(file: &[u8], c: Counts, v: usize) -> u32
+    requires { ⌜ Taken (now file) c × (v < c .actions + c .props) ⌝ }
+    ensures { λ r. ⌜ r ≡ needsOf (actionsOf (now (file .entry)) c) v ⌝ }
 {
     if v < c.actions {
-        return set_at(file, 8 + 12 * v + field);
+        return precondition(file, c, v);
+    }
+    Props::single(v - c.actions).0
+}
+
+// What vertex v adds: a persistence its proposition.
+fn added_by(file: &[u8], c: Counts, v: usize) -> u32
+    requires { ⌜ Taken (now file) c × (v < c .actions + c .props) ⌝ }
+    ensures { λ r. ⌜ r ≡ addsOf (actionsOf (now (file .entry)) c) v ⌝ }
+{
+    if v < c.actions {
+        return added(file, c, v);
     }
     Props::single(v - c.actions).0
 }
 
 // What vertex v deletes: a persistence nothing.
-fn deleted_set(file: &[u8], c: Counts, v: usize) -> u32
+fn deleted_by(file: &[u8], c: Counts, v: usize) -> u32
     requires { ⌜ Taken (now file) c × (v < c .actions + c .props) ⌝ }
     ensures { λ r. ⌜ r ≡ deletesOf (actionsOf (now (file .entry)) c) v ⌝ }
 {
     if v < c.actions {
-        return set_at(file, 8 + 12 * v + 8);
+        return deleted(file, c, v);
     }
     Props::EMPTY.0
 }
@@ -40,17 +78,10 @@ pub fn read_vertices(file: &[u8], c: Counts, needs: &mut [u32], adds: &mut [u32]
         × (now (dels .exit) ≡ listOver (c .actions + c .props) (deletesOf (actionsOf (now (file .entry)) c))) ⌝ }
 {
     for v in 0..needs.len() {
-        needs[v] = carried_set(file, c, v, 0);
-        adds[v] = carried_set(file, c, v, 4);
-        dels[v] = deleted_set(file, c, v);
+        needs[v] = needed_by(file, c, v);
+        adds[v] = added_by(file, c, v);
+        dels[v] = deleted_by(file, c, v);
     }
-}
-
-fn start_set(file: &[u8], c: Counts, s: usize) -> u32
-    requires { ⌜ Taken (now file) c × (s < c .states) ⌝ }
-    ensures { λ r. ⌜ r ≡ startOf (now (file .entry)) c s ⌝ }
-{
-    set_at(file, 8 + 12 * c.actions + 4 * s)
 }
 
 pub fn read_starts(file: &[u8], c: Counts, out: &mut [u32])
@@ -58,6 +89,6 @@ pub fn read_starts(file: &[u8], c: Counts, out: &mut [u32])
     ensures { λ r. ⌜ now (out .exit) ≡ listOver (c .states) (startOf (now (file .entry)) c) ⌝ }
 {
     for s in 0..out.len() {
-        out[s] = start_set(file, c, s);
+        out[s] = start(file, c, s);
     }
 }

@@ -18,8 +18,8 @@ abbrev μ-loop : tie.MeasureT-loop
 loop-holds : tie.Need-loop-holds Inv-loop μ-loop
 loop-holds c = list-none (omega arith)
 
-start-set-requires : tie.Need-start-set-requires Inv-loop μ-loop
-start-set-requires c κs = search simple
+start-requires : tie.Need-start-requires Inv-loop μ-loop
+start-requires c κs = search simple
 
 mul-out : tie.Need-mul-out Inv-loop μ-loop
 mul-out c = omega arith
@@ -34,7 +34,7 @@ loop-less : tie.Need-loop-less Inv-loop μ-loop
 loop-less c = omega arith
 
 loop-again : tie.Need-loop-again Inv-loop μ-loop
-loop-again c = list-more (c .before .before .loop .inv) (omega arith) (sym (zero-add _)) (c .start-set .ensures)
+loop-again c = list-more (c .before .before .loop .inv) (omega arith) (sym (zero-add _)) (c .start .ensures)
 
 same-length : tie.Need-same-length Inv-loop μ-loop
 same-length c = c .before .loop .inv .long
@@ -49,7 +49,7 @@ read-starts-spec =
     Inv-loop
     μ-loop
     loop-holds
-    start-set-requires
+    start-requires
     mul-out
     slice-write-out
     add-s

@@ -5,7 +5,6 @@ use native.Mathlib.Omega.{arith}
 use native.Mathlib.Nat.{zero-add}
 use borrow.Author.Needs.{needs as simple}
 use Rattle.rules.specs.Domain.{needsOf, addsOf, deletesOf}
-use Rattle.graph.proofs.Reading.{is-needs, is-adds}
 use Rattle.graph.specs.File.{actionsOf}
 use Rattle.graph.proofs.Writes.{Lists, list-none, list-more, list-whole}
 use Rattle.graph.proofs.read.read_vertices.Statement.{statement}
@@ -21,8 +20,8 @@ abbrev μ-loop : tie.MeasureT-loop
 loop-holds : tie.Need-loop-holds Inv-loop μ-loop
 loop-holds c = (list-none (omega arith), list-none (omega arith), list-none (omega arith))
 
-carried-set-requires : tie.Need-carried-set-requires Inv-loop μ-loop
-carried-set-requires c κs = search simple
+needed-by-requires : tie.Need-needed-by-requires Inv-loop μ-loop
+needed-by-requires c κs = search simple
 
 mul-needs : tie.Need-mul-needs Inv-loop μ-loop
 mul-needs c = omega arith
@@ -30,8 +29,8 @@ mul-needs c = omega arith
 slice-write-needs : tie.Need-slice-write-needs Inv-loop μ-loop
 slice-write-needs c = omega arith
 
-carried-set-requires-2 : tie.Need-carried-set-requires-2 Inv-loop μ-loop
-carried-set-requires-2 c κs = search simple
+added-by-requires : tie.Need-added-by-requires Inv-loop μ-loop
+added-by-requires c κs = search simple
 
 mul-adds : tie.Need-mul-adds Inv-loop μ-loop
 mul-adds c = omega arith
@@ -39,8 +38,8 @@ mul-adds c = omega arith
 slice-write-adds : tie.Need-slice-write-adds Inv-loop μ-loop
 slice-write-adds c = omega arith
 
-deleted-set-requires : tie.Need-deleted-set-requires Inv-loop μ-loop
-deleted-set-requires c κs = search simple
+deleted-by-requires : tie.Need-deleted-by-requires Inv-loop μ-loop
+deleted-by-requires c κs = search simple
 
 mul-dels : tie.Need-mul-dels Inv-loop μ-loop
 mul-dels c = omega arith
@@ -56,9 +55,9 @@ loop-less c = omega arith
 
 loop-again : tie.Need-loop-again Inv-loop μ-loop
 loop-again c = let i = c .before .before .before .before .loop .inv in (
-  list-more (i .0) (omega arith) (sym (zero-add _)) (is-needs _ _ _ _ (c .before .before .carried-set .ensures)),
-  list-more (i .1) (omega arith) (sym (zero-add _)) (is-adds _ _ _ _ (c .before .carried-set2 .ensures)),
-  list-more (i .2) (omega arith) (sym (zero-add _)) (c .deleted-set .ensures),
+  list-more (i .0) (omega arith) (sym (zero-add _)) (c .before .before .needed-by .ensures),
+  list-more (i .1) (omega arith) (sym (zero-add _)) (c .before .added-by .ensures),
+  list-more (i .2) (omega arith) (sym (zero-add _)) (c .deleted-by .ensures),
 )
 
 same-length : tie.Need-same-length Inv-loop μ-loop
@@ -84,13 +83,13 @@ read-vertices-spec =
     Inv-loop
     μ-loop
     loop-holds
-    carried-set-requires
+    needed-by-requires
     mul-needs
     slice-write-needs
-    carried-set-requires-2
+    added-by-requires
     mul-adds
     slice-write-adds
-    deleted-set-requires
+    deleted-by-requires
     mul-dels
     slice-write-dels
     add-v
