@@ -1,0 +1,163 @@
+/*
+ * Mogzift: one planning graph for up to 64 start states.
+ *
+ * Link with target/staticlib/libcapi.a (x86-64 Linux), which `rt staticlib capi` writes. The crate `capi` proves of each
+ * call below that what it returns, what it tells and all memory lent to it are as its rule says, for every argument.
+ *
+ * WHAT A CALL TAKES
+ *   file, file_len    the problem file's bytes: any bytes, any length
+ *   depth             the depth k of the graph, 0 to 255
+ *   set               a set of start states, bit s for state s
+ *   goal              a set of propositions, bit p for proposition p
+ *   words, words_len  graph memory, in 64-bit words
+ *   list, list_len    a sequence of action numbers, a byte each
+ *   out, out_len      output, in elements
+ *   room              a number of graph words
+ *   answer            room for three numbers, below
+ * Lengths count elements and not bytes. Values are free: nothing is asked of any number, byte or word, and graph words
+ * that no build wrote are read as found. A pointer must be aligned for its type, not NULL (also where its length is 0),
+ * and must refer to as many elements as the length says. What a call may write (a pointer without const) may not overlap
+ * anything else that is passed to it. A call keeps no pointer and has no state: calls may run at the same time where none
+ * writes what another reads or writes.
+ *
+ * WHAT A CALL RETURNS AND TELLS
+ * It returns 0 if it is accepted, else the number of its refusal, 1 to 14. answer[0] is the kind:
+ *   MOGZIFT_REFUSED       answer[1] is the number returned, answer[2] the place
+ *   MOGZIFT_ANSWERED      answer[1] and answer[2] are the call's, as said there; 0 where nothing is said
+ *   MOGZIFT_NONE          'none' of a rest, 'never' of a level; answer[1] and answer[2] are 0
+ *   MOGZIFT_NOT_BY_DEPTH  of a level; answer[1] and answer[2] are 0
+ * A call that is turned away leaves all lent memory but `answer` unchanged. An accepted call writes the front of its
+ * words or its out as said there, and what lies behind that stays.
+ *
+ * THE PROBLEM FILE (little-endian; a set of propositions is 4 bytes)
+ *   offset 0 the letters SAG; 3 version, 2 bytes, 1; 5 P propositions (1 to 32); 6 A actions (0 to 32); 7 N start states
+ *   (1 to 64); 8 A actions of 12 bytes: precondition, add, delete; then N start states of 4 bytes. Length 8 + 12A + 4N.
+ *
+ * THE GRAPH'S WORDS
+ * Proposition layer 0, action layer 0, proposition layer 1, .., proposition layer k; in each the labels by number, then
+ * the mutex words of the pairs (0,1), (0,2), .., (1,2), ..; bit s speaks of start state s. With V = A + P vertices (the
+ * actions, then a persistence for each proposition) these are (k + 1) P (P + 1) / 2 + k V (V + 1) / 2 words:
+ * mogzift_words below.
+ *
+ * REFUSALS
+ * The first cause that holds, in rising number, of those that the call can have. 1 to 5 are for the file's writer to mend,
+ * 6 to 11 for the caller; 12 and 13 lie in the problem; at 14 someone altered the graph's words.
+ *   number                          cause                                                        place
+ *    1 MOGZIFT_BAD_HEAD             under 8 bytes, or no SAG                                     0
+ *    2 MOGZIFT_BAD_VERSION          another version                                              3
+ *    3 MOGZIFT_BAD_COUNT            P, A or N outside its range                                  5, 6 or 7, the lowest
+ *    4 MOGZIFT_BAD_LENGTH           length                                                       the right length
+ *    5 MOGZIFT_BAD_PROP_SET         a set in the file with bit P or above                        the first such set's offset
+ *    6 MOGZIFT_BAD_DEPTH            depth above 255                                              255
+ *    7 MOGZIFT_BAD_STATE_SET        set empty, or with bit N or above                            0
+ *    8 MOGZIFT_BAD_GOAL             goal with bit P or above                                     0
+ *    9 MOGZIFT_SHORT_MEMORY         words_len too small                                          the words needed
+ *   10 MOGZIFT_SHORT_OUTPUT         out_len too small                                            the elements needed
+ *   11 MOGZIFT_BAD_SEQUENCE         list longer than 65,535; else an action number of A or above 65,535; else its index
+ *   12 MOGZIFT_NO_PRECONDITION      a step lacks its precondition in some state of the set       the step's index
+ *   13 MOGZIFT_NO_LEVEL             a plan is wanted and there is no level                       the depth
+ *   14 MOGZIFT_UNCOVERED            the graph's words were altered: states are left uncovered,   that proposition's layer
+ *                                   or at layer 0 a need lies outside its label                  0
+ */
+#ifndef MOGZIFT_H
+#define MOGZIFT_H
+
+#include <stddef.h>
+#include <stdint.h>
+
+#ifdef __cplusplus
+extern "C" {
+#endif
+
+/* kinds: answer[0] */
+enum {
+    MOGZIFT_REFUSED = 0,
+    MOGZIFT_ANSWERED = 1,
+    MOGZIFT_NONE = 2,
+    MOGZIFT_NEVER = 2,
+    MOGZIFT_NOT_BY_DEPTH = 3
+};
+
+/* refusals: what a call returns, and answer[1] */
+enum {
+    MOGZIFT_BAD_HEAD = 1,
+    MOGZIFT_BAD_VERSION = 2,
+    MOGZIFT_BAD_COUNT = 3,
+    MOGZIFT_BAD_LENGTH = 4,
+    MOGZIFT_BAD_PROP_SET = 5,
+    MOGZIFT_BAD_DEPTH = 6,
+    MOGZIFT_BAD_STATE_SET = 7,
+    MOGZIFT_BAD_GOAL = 8,
+    MOGZIFT_SHORT_MEMORY = 9,
+    MOGZIFT_SHORT_OUTPUT = 10,
+    MOGZIFT_BAD_SEQUENCE = 11,
+    MOGZIFT_NO_PRECONDITION = 12,
+    MOGZIFT_NO_LEVEL = 13,
+    MOGZIFT_UNCOVERED = 14
+};
+
+/* The number of words of a graph of these counts and this depth: what words_len must be at least. */
+static inline size_t mogzift_words(size_t props, size_t actions, size_t depth) {
+    size_t vertices = actions + props;
+    return (depth + 1) * (props * (props + 1) / 2) + depth * (vertices * (vertices + 1) / 2);
+}
+
+/*
+ * Builds the file's graph to the depth, into the front of words.
+ * Answered: answer[1] is the number of words written. Refused: 1 to 5, 6, 9.
+ */
+size_t mogzift_build(const uint8_t *file, size_t file_len, size_t depth, uint64_t *words, size_t words_len,
+                     uint64_t answer[3]);
+
+/*
+ * The layer at which the graph rests: the first below the depth whose labels and mutex words are those of the next layer.
+ * Answered: answer[1] is the layer. None: no layer is like that. Refused: 1 to 5, 6, 9.
+ */
+size_t mogzift_rest(const uint8_t *file, size_t file_len, size_t depth, const uint64_t *words, size_t words_len,
+                    uint64_t answer[3]);
+
+/*
+ * The level of the goal for the states of the set: the first layer where each goal's label contains the set and no mutex
+ * word of two goals meets it. An empty goal has level 0.
+ * Answered: answer[1] is the layer. Never: there is no such layer, and the graph rests. Not by depth: there is none, and
+ * the graph does not rest. Refused: 1 to 5, 6, 7, 8, 9.
+ */
+size_t mogzift_level(const uint8_t *file, size_t file_len, size_t depth, uint64_t set, uint32_t goal,
+                     const uint64_t *words, size_t words_len, uint64_t answer[3]);
+
+/*
+ * Writes the graph's words cut to the set into the front of out, bits closed up in order: the lowest state of the set
+ * becomes bit 0. On built words this is the graph built for these states only.
+ * Answered: answer[1] is the number of words written. Refused: 1 to 5, 6, 7, 9, 10 (as many words as the graph has).
+ */
+size_t mogzift_extract(const uint8_t *file, size_t file_len, size_t depth, uint64_t set, const uint64_t *words,
+                       size_t words_len, uint64_t *out, size_t out_len, uint64_t answer[3]);
+
+/*
+ * Runs the sequence from each state of the set and writes the N states' sets of propositions after it into the front of
+ * out; states outside the set keep their start. A step joins its adds, then removes its deletes.
+ * Answered: answer[1] is the number of sets written, N. Refused: 1 to 5, 7, 10 (N sets), 11, 12.
+ */
+size_t mogzift_run(const uint8_t *file, size_t file_len, uint64_t set, const uint8_t *list, size_t list_len,
+                   uint32_t *out, size_t out_len, uint64_t answer[3]);
+
+/*
+ * The relaxed plan that supports the goal for the states of the set. Word j of out, for j below the level, is the set of the
+ * actions marked at action layer j.
+ * Answered: answer[1] is the level, which is the number of words written, answer[2] how many actions are marked in all.
+ * Refused: 1 to 5, 6, 7, 8, 9, 10 (as many words as the depth), 13, 14.
+ */
+size_t mogzift_plan(const uint8_t *file, size_t file_len, size_t depth, uint64_t set, uint32_t goal,
+                    const uint64_t *words, size_t words_len, uint32_t *out, size_t out_len, uint64_t answer[3]);
+
+/*
+ * The greatest depth up to 255 whose graph for the file fits room words.
+ * Answered: answer[1] is the depth. Refused: 1 to 5, 9 (not even depth 0 fits; the words that it needs).
+ */
+size_t mogzift_depth(const uint8_t *file, size_t file_len, size_t room, uint64_t answer[3]);
+
+#ifdef __cplusplus
+}
+#endif
+
+#endif

@@ -1,0 +1,356 @@
+//! The proved calls of Mogzift: one planning graph for up to 64 start states.
+//!
+//! Each function hands its slices to the proved library and turns the numbers that come back into Rust's enums. No
+//! argument is out of bounds: any bytes, depth, set, goal, list and memory are accepted, or turned away with a
+//! [`Refusal`], and then no lent memory has changed. Memory behind what an accepted call writes stays.
+//!
+//! [`reference`] has the same calls in plain Rust, written from the paper.
+//!
+//! ```
+//! // The paper's lamp: walk needs 0, adds 1, deletes 0; light needs 1, adds 2; states: at the door, at the desk.
+//! let mut file = b"SAG\x01\x00\x03\x02\x02".to_vec();
+//! for set in [1u32, 2, 1, 2, 4, 0, 1, 2] {
+//!     file.extend(set.to_le_bytes());
+//! }
+//! let mut words = vec![0; mogzift::word_count(3, 2, 2)];
+//! assert_eq!(mogzift::build(&file, 2, &mut words), Ok(48));
+//! assert_eq!(mogzift::level(&file, 2, 0b11, 1 << 2, &words), Ok(mogzift::Level::At(2)));
+//!
+//! let mut out = [0; 2];
+//! let plan = mogzift::plan(&file, 2, 0b11, 1 << 2, &words, &mut out);
+//! assert_eq!(plan, Ok(mogzift::Plan { level: 2, count: 3 }));
+//! assert_eq!(out, [3, 2]);
+//!
+//! assert_eq!(mogzift::build(&file, 2, &mut words[..47]), Err(mogzift::Refusal::Memory(48)));
+//! ```
+
+pub mod reference;
+
+/// Why a call is turned away: the paper's causes in the order of their numbers, with the place where it varies.
+#[derive(Clone, Copy, Debug, PartialEq, Eq, Hash)]
+pub enum Refusal {
+    /// Under 8 bytes, or no `SAG`.
+    Head,
+    /// Another version.
+    Version,
+    /// A count outside its range, with its offset: 5, 6 or 7.
+    Count(usize),
+    /// The file's length is wrong, with the right one.
+    Length(usize),
+    /// A set of propositions in the file with bit P or above, with the set's offset.
+    PropSet(usize),
+    /// Depth above 255.
+    Depth,
+    /// The set of start states is empty, or has bit N or above.
+    StateSet,
+    /// The goal has bit P or above.
+    Goal,
+    /// The graph's memory is too short, with the number of words needed.
+    Memory(usize),
+    /// The output is too short, with the number of elements needed.
+    Output(usize),
+    /// The sequence is longer than 65,535 (that number), else has an action number of A or above (its index).
+    Sequence(usize),
+    /// A step lacks its precondition in some state of the set, with the step's index.
+    Precondition(usize),
+    /// A plan is wanted and there is no level, with the depth.
+    NoLevel(usize),
+    /// The graph's words were altered: states are left uncovered at this layer, or a need lies outside its label at 0.
+    Uncovered(usize),
+}
+
+impl Refusal {
+    /// The paper's number, 1 to 14.
+    pub fn number(self) -> usize {
+        match self {
+            Refusal::Head => 1,
+            Refusal::Version => 2,
+            Refusal::Count(_) => 3,
+            Refusal::Length(_) => 4,
+            Refusal::PropSet(_) => 5,
+            Refusal::Depth => 6,
+            Refusal::StateSet => 7,
+            Refusal::Goal => 8,
+            Refusal::Memory(_) => 9,
+            Refusal::Output(_) => 10,
+            Refusal::Sequence(_) => 11,
+            Refusal::Precondition(_) => 12,
+            Refusal::NoLevel(_) => 13,
+            Refusal::Uncovered(_) => 14,
+        }
+    }
+
+    /// The paper's place.
+    pub fn place(self) -> usize {
+        match self {
+            Refusal::Head | Refusal::StateSet | Refusal::Goal => 0,
+            Refusal::Version => 3,
+            Refusal::Depth => 255,
+            Refusal::Count(place)
+            | Refusal::Length(place)
+            | Refusal::PropSet(place)
+            | Refusal::Memory(place)
+            | Refusal::Output(place)
+            | Refusal::Sequence(place)
+            | Refusal::Precondition(place)
+            | Refusal::NoLevel(place)
+            | Refusal::Uncovered(place) => place,
+        }
+    }
+
+    fn of(number: usize, place: usize) -> Refusal {
+        let refusal = match number {
+            1 => Refusal::Head,
+            2 => Refusal::Version,
+            3 => Refusal::Count(place),
+            4 => Refusal::Length(place),
+            5 => Refusal::PropSet(place),
+            6 => Refusal::Depth,
+            7 => Refusal::StateSet,
+            8 => Refusal::Goal,
+            9 => Refusal::Memory(place),
+            10 => Refusal::Output(place),
+            11 => Refusal::Sequence(place),
+            12 => Refusal::Precondition(place),
+            13 => Refusal::NoLevel(place),
+            14 => Refusal::Uncovered(place),
+            _ => unreachable!("no refusal has the number {number}"),
+        };
+        assert_eq!(refusal.place(), place, "the place of refusal {number}");
+        refusal
+    }
+}
+
+impl std::fmt::Display for Refusal {
+    fn fmt(&self, f: &mut std::fmt::Formatter<'_>) -> std::fmt::Result {
+        write!(f, "refused {} {}", self.number(), self.place())
+    }
+}
+
+impl std::error::Error for Refusal {}
+
+/// What a goal's level is.
+#[derive(Clone, Copy, Debug, PartialEq, Eq, Hash)]
+pub enum Level {
+    /// The first layer that meets the goal.
+    At(usize),
+    /// No layer does, and the graph rests: no depth would help.
+    Never,
+    /// No layer does, and the graph does not rest.
+    NotByDepth,
+}
+
+/// Where the graph rests.
+#[derive(Clone, Copy, Debug, PartialEq, Eq, Hash)]
+pub enum Rest {
+    /// The first layer that equals the next one.
+    At(usize),
+    /// No layer below the depth does.
+    None,
+}
+
+/// A relaxed plan that was written.
+#[derive(Clone, Copy, Debug, PartialEq, Eq, Hash)]
+pub struct Plan {
+    /// The goal's level, which is the number of words written.
+    pub level: usize,
+    /// How many actions are marked, over all words.
+    pub count: usize,
+}
+
+/// The number of words of a graph: what a build needs.
+pub fn word_count(props: usize, actions: usize, depth: usize) -> usize {
+    let vertices = actions + props;
+    (depth + 1) * (props * (props + 1) / 2) + depth * (vertices * (vertices + 1) / 2)
+}
+
+mod proved {
+    // A slice is a pointer and a length; the answer's room is a pointer to three numbers. See include/mogzift.h.
+    extern "C" {
+        pub fn mogzift_build(
+            file: *const u8,
+            file_len: usize,
+            depth: usize,
+            words: *mut u64,
+            words_len: usize,
+            answer: *mut [u64; 3],
+        ) -> usize;
+        pub fn mogzift_rest(
+            file: *const u8,
+            file_len: usize,
+            depth: usize,
+            words: *const u64,
+            words_len: usize,
+            answer: *mut [u64; 3],
+        ) -> usize;
+        pub fn mogzift_level(
+            file: *const u8,
+            file_len: usize,
+            depth: usize,
+            set: u64,
+            goal: u32,
+            words: *const u64,
+            words_len: usize,
+            answer: *mut [u64; 3],
+        ) -> usize;
+        pub fn mogzift_extract(
+            file: *const u8,
+            file_len: usize,
+            depth: usize,
+            set: u64,
+            words: *const u64,
+            words_len: usize,
+            out: *mut u64,
+            out_len: usize,
+            answer: *mut [u64; 3],
+        ) -> usize;
+        pub fn mogzift_run(
+            file: *const u8,
+            file_len: usize,
+            set: u64,
+            list: *const u8,
+            list_len: usize,
+            out: *mut u32,
+            out_len: usize,
+            answer: *mut [u64; 3],
+        ) -> usize;
+        pub fn mogzift_plan(
+            file: *const u8,
+            file_len: usize,
+            depth: usize,
+            set: u64,
+            goal: u32,
+            words: *const u64,
+            words_len: usize,
+            out: *mut u32,
+            out_len: usize,
+            answer: *mut [u64; 3],
+        ) -> usize;
+        pub fn mogzift_depth(file: *const u8, file_len: usize, room: usize, answer: *mut [u64; 3]) -> usize;
+    }
+}
+
+/// The kinds of an answer, as the library tells them.
+const REFUSED: u64 = 0;
+const ANSWERED: u64 = 1;
+const NONE: u64 = 2;
+const NOT_BY_DEPTH: u64 = 3;
+
+/// Makes a call with room for its answer, and gives the answer's kind and two numbers, or the refusal.
+fn told(call: impl FnOnce(*mut [u64; 3]) -> usize) -> Result<(u64, usize, usize), Refusal> {
+    let mut answer = [u64::MAX; 3];
+    let code = call(&mut answer);
+    let [kind, first, second] = answer;
+    let (first, second) = (first as usize, second as usize);
+    assert_eq!(kind == REFUSED, code != 0, "kind {kind} and {code} returned");
+    if kind == REFUSED {
+        assert_eq!(first, code, "the number told and the number returned");
+        return Err(Refusal::of(first, second));
+    }
+    Ok((kind, first, second))
+}
+
+fn count(answer: (u64, usize, usize)) -> usize {
+    match answer {
+        (ANSWERED, count, 0) => count,
+        _ => unreachable!("{answer:?} of a call that counts"),
+    }
+}
+
+// In each call below the pointers and lengths are those of slices that live as long as the call, and what is written is
+// borrowed alone. The library asks nothing else.
+
+/// Builds the file's graph to the depth, and answers the number of words written.
+pub fn build(file: &[u8], depth: usize, words: &mut [u64]) -> Result<usize, Refusal> {
+    told(|answer| unsafe {
+        proved::mogzift_build(file.as_ptr(), file.len(), depth, words.as_mut_ptr(), words.len(), answer)
+    })
+    .map(count)
+}
+
+/// The layer at which the graph rests.
+pub fn rest(file: &[u8], depth: usize, words: &[u64]) -> Result<Rest, Refusal> {
+    let answer = told(|answer| unsafe {
+        proved::mogzift_rest(file.as_ptr(), file.len(), depth, words.as_ptr(), words.len(), answer)
+    })?;
+    Ok(match answer {
+        (ANSWERED, layer, 0) => Rest::At(layer),
+        (NONE, 0, 0) => Rest::None,
+        _ => unreachable!("{answer:?} of a rest"),
+    })
+}
+
+/// The level of a goal for a set of states.
+pub fn level(file: &[u8], depth: usize, set: u64, goal: u32, words: &[u64]) -> Result<Level, Refusal> {
+    let answer = told(|answer| unsafe {
+        proved::mogzift_level(file.as_ptr(), file.len(), depth, set, goal, words.as_ptr(), words.len(), answer)
+    })?;
+    Ok(match answer {
+        (ANSWERED, layer, 0) => Level::At(layer),
+        (NONE, 0, 0) => Level::Never,
+        (NOT_BY_DEPTH, 0, 0) => Level::NotByDepth,
+        _ => unreachable!("{answer:?} of a level"),
+    })
+}
+
+/// The graph's words cut to a set of states, bits closed up in order; answers the number of words written.
+pub fn extract(file: &[u8], depth: usize, set: u64, words: &[u64], out: &mut [u64]) -> Result<usize, Refusal> {
+    told(|answer| unsafe {
+        proved::mogzift_extract(
+            file.as_ptr(),
+            file.len(),
+            depth,
+            set,
+            words.as_ptr(),
+            words.len(),
+            out.as_mut_ptr(),
+            out.len(),
+            answer,
+        )
+    })
+    .map(count)
+}
+
+/// Runs a sequence of actions from each state of a set; answers the number of sets written, which is N.
+pub fn run(file: &[u8], set: u64, list: &[u8], out: &mut [u32]) -> Result<usize, Refusal> {
+    told(|answer| unsafe {
+        proved::mogzift_run(
+            file.as_ptr(),
+            file.len(),
+            set,
+            list.as_ptr(),
+            list.len(),
+            out.as_mut_ptr(),
+            out.len(),
+            answer,
+        )
+    })
+    .map(count)
+}
+
+/// The relaxed plan of a goal for a set of states.
+pub fn plan(file: &[u8], depth: usize, set: u64, goal: u32, words: &[u64], out: &mut [u32]) -> Result<Plan, Refusal> {
+    let answer = told(|answer| unsafe {
+        proved::mogzift_plan(
+            file.as_ptr(),
+            file.len(),
+            depth,
+            set,
+            goal,
+            words.as_ptr(),
+            words.len(),
+            out.as_mut_ptr(),
+            out.len(),
+            answer,
+        )
+    })?;
+    Ok(match answer {
+        (ANSWERED, level, count) => Plan { level, count },
+        _ => unreachable!("{answer:?} of a plan"),
+    })
+}
+
+/// The greatest depth up to 255 whose graph for the file fits so many words.
+pub fn fitting_depth(file: &[u8], room: usize) -> Result<usize, Refusal> {
+    told(|answer| unsafe { proved::mogzift_depth(file.as_ptr(), file.len(), room, answer) }).map(count)
+}
