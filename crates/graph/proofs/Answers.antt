@@ -1,12 +1,12 @@
 -- The build's rule, given what each check says.
 -- Assumes nothing.
 use Prim.Native.Nat.{ℕ, suc, _+_, _*_}
-use mathlib.Core.Path.{_≡_, refl, sym, ap, _∙_}
+use mathlib.Core.Path.{_≡_}
 use mathlib.Core.List.{List}
 use Rattle.rules.specs.Domain.{domain}
 use Rattle.rules.specs.Layer.{size, wordCount}
 use Rattle.rules.specs.Shared.{graphWords}
-use Rattle.graph.specs.Verdict.{Verdict, accepted, refused}
+use Rattle.graph.specs.Verdict.{accepted, refused}
 use Rattle.graph.specs.File.{actionsOf, startOf, fileRule}
 use Rattle.graph.specs.Calls.{depthRule, memoryRule}
 use Rattle.graph.specs.Build.{deepRule, takenRule, buildRule}

@@ -3,32 +3,42 @@
 use Prim.Native.Nat.{ℕ, zero, suc, _+_, _-_, _*_, _≤_, _<_}
 use mathlib.Core.Path.{_≡_, refl, sym, ap, ap₂, subst, _∙_}
 use mathlib.Core.List.{List, [], _∷_, _++_, append-assoc, append-nil}
-use native.Mathlib.Nat.{le-refl, zero-add, add-zero, suc-mul, zero-mul, mul-le-mul-right}
+use native.Mathlib.Nat.{le-refl, add-zero, suc-mul, zero-mul, mul-le-mul-right}
 use native.Mathlib.Numerals.{add-one}
 use native.Mathlib.Omega.{arith}
 use borrow.Rule.Slice.PartMut.{putMid}
-use lib.ListN.{length, getD, take, drop, length-append, length-drop}
+use lib.ListN.{length, take, drop, length-append}
 use lib.Seq.{take-at, drop-at, drop-drop}
 use Rattle.rules.specs.Word.{common, first}
 use Rattle.rules.specs.Lists.{listOver, runOver}
 use Rattle.rules.specs.Domain.{Domain}
-use Rattle.rules.specs.Layer.{size, pairs, rowOf, layerOf, stride, wordCount}
+use Rattle.rules.specs.Layer.{size, pairs, rowOf, layerOf, stride}
 use Rattle.rules.specs.Shared.{startLayer, actionLayer, nextLabel, nextMutex, nextLayer, propLayer, vertexLayer, graphWords}
-use Rattle.rules.proofs.Layers.{length-listOver, length-layerOf, length-rows, size-pairs, pairs-sub, pairs-row, labels-in, runOver-eq}
-use Rattle.graph.specs.Listed.{listed, nextWord, layerAfter, stepWords, propFrom, Sizes}
+use Rattle.rules.proofs.Layers.{length-listOver, length-layerOf, length-rows, size-pairs, pairs-sub, pairs-row, labels-in}
+use Rattle.graph.specs.Listed.{addedBy, listed, pairWord, layerOver, nextWord, layerAfter, stepWords, propFrom, Sizes}
 use Rattle.graph.specs.Memory.{putAt}
 use Rattle.graph.proofs.Writes.{Runs, put-none, put-put, put-back, put-within, put-length, put-take, tail-all, run-more, run-done}
 
--- ---- layer 0
+-- ---- lists by their index, and lists one behind the other, cut in two
 
--- one list of a constant behind another
-zeros-append : (a b : ℕ) → listOver a (λ i. 0) ++ listOver b (λ i. 0) ≡ listOver (a + b) (λ i. 0)
-unfolding listOver
-zeros-append a zero = append-nil (listOver a (λ i. 0)) ∙ ap (λ (x : ℕ). listOver x (λ i. 0)) (sym (add-zero a))
-zeros-append a (suc b) =
-    let e : suc (a + b) ≡ a + suc b = omega arith in
-    sym (append-assoc (listOver a (λ i. 0)) (listOver b (λ i. 0)) (0 ∷ []))
-    ∙ ap (λ (l : List ℕ). l ++ (0 ∷ [])) (zeros-append a b) ∙ ap (λ (x : ℕ). listOver x (λ i. 0)) e
+pub run-append : (a b : ℕ) (g : ℕ → List ℕ) → runOver (a + b) g ≡ runOver a g ++ runOver b (λ t. g (a + t))
+unfolding runOver
+run-append a zero g = ap (λ (x : ℕ). runOver x g) (add-zero a) ∙ sym (append-nil (runOver a g))
+run-append a (suc b) g =
+    let e : a + suc b ≡ suc (a + b) = omega arith in
+    ap (λ (x : ℕ). runOver x g) e
+    ∙ ap (λ (l : List ℕ). l ++ g (a + b)) (run-append a b g) ∙ append-assoc (runOver a g) (runOver b (λ t. g (a + t))) (g (a + b))
+
+list-run : (n : ℕ) (f : ℕ → ℕ) → listOver n f ≡ runOver n (λ i. f i ∷ [])
+unfolding listOver runOver
+list-run zero f = refl
+list-run (suc n) f = ap (λ (l : List ℕ). l ++ (f n ∷ [])) (list-run n f)
+
+pub list-append : (a b : ℕ) (f : ℕ → ℕ) → listOver (a + b) f ≡ listOver a f ++ listOver b (λ i. f (a + i))
+list-append a b f =
+    list-run (a + b) f ∙ run-append a b (λ i. f i ∷ []) ∙ ap₂ (λ (x y : List ℕ). x ++ y) (sym (list-run a f)) (sym (list-run b (λ i. f (a + i))))
+
+-- ---- layer 0
 
 -- empty mutex words, row by row
 zero-rows : (n i : ℕ) → i ≤ n → runOver i (rowOf n (λ p q. 0)) ≡ listOver (pairs n - pairs (n - i)) (λ i. 0)
@@ -36,7 +46,7 @@ unfolding runOver rowOf listOver
 zero-rows n zero h = ap (λ (x : ℕ). listOver x (λ i. 0)) (length-rows n (λ p q. 0) 0 h)
 zero-rows n (suc i) h =
     ap (λ (l : List ℕ). l ++ listOver (n - 1 - i) (λ k. 0)) (zero-rows n i (omega arith))
-    ∙ zeros-append (pairs n - pairs (n - i)) (n - 1 - i)
+    ∙ sym (list-append (pairs n - pairs (n - i)) (n - 1 - i) (λ i. 0))
     ∙ ap (λ (x : ℕ). listOver x (λ i. 0)) (sum (pairs n) (pairs (n - i)) (pairs (n - suc i)) (n - 1 - i) (pairs-row n i h) (pairs-sub n i))
   where
     sum : (p q r k : ℕ) → q ≡ k + r → q ≤ p → p - q + k ≡ p - r
@@ -61,12 +71,17 @@ start-put n end label w₀ w₁ w₂ room e e₁ e₂ =
 
 -- ---- the step
 
--- the proposition layer after an action layer of the listed Domain
-pub after-is : (n : ℕ) (needs adds dels a : List ℕ) → length adds ≡ length needs → layerAfter n adds a ≡ nextLayer (listed n needs adds dels) a
+-- the action layer over a proposition layer, and the proposition layer after an action layer, of the listed Domain
+pub over-is : (n all : ℕ) (needs adders foes l : List ℕ) → layerOver n all needs foes l ≡ actionLayer (listed n needs adders foes) all l
+unfolding layerOver pairWord actionLayer listed
+over-is n all needs adders foes l = refl
+
+pub after-is : (n : ℕ) (needs adders foes a : List ℕ) → length adders ≡ n → layerAfter (length needs) adders a ≡ nextLayer (listed n needs adders foes) a
 unfolding layerAfter nextLayer listed nextWord
-after-is n needs adds dels a e =
-    ap (λ (m : ℕ). layerOf n (nextLabel m (λ v. getD adds v 0) a)
-    (λ p q. nextMutex m (λ v. getD adds v 0) a (common (nextLabel m (λ v. getD adds v 0) a p) (nextLabel m (λ v. getD adds v 0) a q)) p q)) e
+after-is n needs adders foes a e =
+    ap (λ (k : ℕ). layerOf k (nextLabel (length needs) (addedBy adders) a)
+    (λ p q. nextMutex (length needs) (addedBy adders) a
+    (common (nextLabel (length needs) (addedBy adders) a p) (nextLabel (length needs) (addedBy adders) a q)) p q)) e
 
 pub length-actions : (D : Domain) (all : ℕ) (l : List ℕ) → length (actionLayer D all l) ≡ size (D .vertices)
 unfolding actionLayer
@@ -91,26 +106,28 @@ put-part b xs w₀ w₁ room e₁ =
     ap (take (length xs)) (tail-all b w₁ ∙ ap (drop b) e₁ ∙ put-back b xs w₀ room) ∙ take-at xs (drop (b + length xs) w₀) (length xs) refl
 
 -- the action layer put behind the proposition layer, then the next proposition layer behind it
-pub step-put : (n all at : ℕ) (needs adds dels w₀ w₁ p : List ℕ) → Sizes n needs adds dels → size n + size (length needs) + size n ≤ length w₀ → at ≡ size n
-    → w₁ ≡ putAt (size n) (actionLayer (listed n needs adds dels) all (take (size n) w₀)) w₀
-    → p ≡ putAt (size (length adds)) (layerAfter n adds (take (size (length adds)) (take (length w₁ - at) (drop at w₁)))) (take (length w₁ - at) (drop at w₁))
-    → putMid at (length w₁ - at) w₁ p ≡ putAt (size n) (stepWords (listed n needs adds dels) all (take (size n) w₀)) w₀
+pub step-put : (n all at : ℕ) (needs adders foes w₀ w₁ p : List ℕ) → Sizes n needs adders foes → size n + size (length needs) + size n ≤ length w₀
+    → at ≡ size n → w₁ ≡ putAt (size n) (layerOver n all needs foes (take (size n) w₀)) w₀
+    → p ≡ putAt (size (length needs)) (layerAfter (length needs) adders (take (size (length needs)) (take (length w₁ - at) (drop at w₁))))
+    (take (length w₁ - at) (drop at w₁))
+    → putMid at (length w₁ - at) w₁ p ≡ putAt (size n) (stepWords (listed n needs adders foes) all (take (size n) w₀)) w₀
 unfolding stepWords listed
-step-put n all at needs adds dels w₀ w₁ p sizes room q e₁ ep =
-    let a : List ℕ = actionLayer (listed n needs adds dels) all (take (size n) w₀) in
-    let la : length a ≡ size (length needs) = length-actions (listed n needs adds dels) all (take (size n) w₀) in
-    let ln : length (nextLayer (listed n needs adds dels) a) ≡ size n = length-next (listed n needs adds dels) a in
-    let m : size (length adds) ≡ size (length needs) = ap size (sizes .adders) in
-    let front : take (size (length adds)) (take (length w₁ - size n) (drop (size n) w₁)) ≡ a =
-    ap (λ (x : ℕ). take x (take (length w₁ - size n) (drop (size n) w₁))) (m ∙ sym la) ∙ put-part (size n) a w₀ w₁ (omega arith) e₁ in
-    let ep' : p ≡ putAt (size (length needs)) (nextLayer (listed n needs adds dels) a) (take (length w₁ - size n) (drop (size n) w₁)) =
+step-put n all at needs adders foes w₀ w₁ p sizes room q e₀ ep =
+    let D : Domain = listed n needs adders foes in
+    let a : List ℕ = actionLayer D all (take (size n) w₀) in
+    let e₁ : w₁ ≡ putAt (size n) a w₀ = e₀ ∙ ap (λ (l : List ℕ). putAt (size n) l w₀) (over-is n all needs adders foes (take (size n) w₀)) in
+    let la : length a ≡ size (length needs) = length-actions D all (take (size n) w₀) in
+    let ln : length (nextLayer D a) ≡ size n = length-next D a in
+    let front : take (size (length needs)) (take (length w₁ - size n) (drop (size n) w₁)) ≡ a =
+    ap (λ (x : ℕ). take x (take (length w₁ - size n) (drop (size n) w₁))) (sym la) ∙ put-part (size n) a w₀ w₁ (omega arith) e₁ in
+    let ep' : p ≡ putAt (size (length needs)) (nextLayer D a) (take (length w₁ - size n) (drop (size n) w₁)) =
     ep
-    ∙ ap (λ (x : ℕ). putAt (size (length adds)) (layerAfter n adds (take (size (length adds)) (take (length w₁ - x) (drop x w₁))))
+    ∙ ap (λ (x : ℕ). putAt (size (length needs)) (layerAfter (length needs) adders (take (size (length needs)) (take (length w₁ - x) (drop x w₁))))
     (take (length w₁ - x) (drop x w₁))) q
-    ∙ ap₂ (λ (x : ℕ) (l : List ℕ). putAt x l (take (length w₁ - size n) (drop (size n) w₁))) m
-    (ap (layerAfter n adds) front ∙ after-is n needs adds dels a (sizes .adders)) in
+    ∙ ap (λ (l : List ℕ). putAt (size (length needs)) l (take (length w₁ - size n) (drop (size n) w₁)))
+    (ap (layerAfter (length needs) adders) front ∙ after-is n needs adders foes a (sizes .adders-long)) in
     ap (λ (x : ℕ). putMid x (length w₁ - x) w₁ p) q
-    ∙ put-then (size n) (size (length needs)) a (nextLayer (listed n needs adds dels) a) w₀ w₁ p la (omega arith) e₁ ep'
+    ∙ put-then (size n) (size (length needs)) a (nextLayer D a) w₀ w₁ p la (omega arith) e₁ ep'
 
 -- ---- all steps
 

@@ -1,11 +1,11 @@
 -- What an accepted build leaves: memory that begins with the words of the file's graph, so that every law of `rules` about built words holds of it.
 -- Assumes nothing.
-use Prim.Native.Nat.{ℕ, zero, suc, _+_, _*_, _^_, _≤_, _<_}
-use mathlib.Core.Path.{_≡_, refl, sym, ap, ap₂, subst, _∙_}
+use Prim.Native.Nat.{ℕ, _+_, _*_, _^_, _≤_, _<_}
+use mathlib.Core.Path.{_≡_, sym, ap, subst, _∙_}
 use mathlib.Core.List.{List}
 use native.Mathlib.Omega.{arith}
 use lib.ListN.{length}
-use Rattle.rules.specs.Domain.{Actions, domain}
+use Rattle.rules.specs.Domain.{domain}
 use Rattle.rules.specs.Layer.{wordCount}
 use Rattle.rules.specs.Shared.{graphWords}
 use Rattle.rules.proofs.Layouts.{Built, built-append}

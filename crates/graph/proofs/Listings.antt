@@ -1,23 +1,28 @@
 -- The Domain of the lists that the build reads makes the same graph as the file's Domain.
 -- Assumes nothing.
-use Prim.Native.Nat.{ℕ, zero, suc, _+_, _*_, _<_}
-use mathlib.Core.Path.{_≡_, refl, sym, ap, ap₂, _∙_}
+use Prim.Native.Nat.{ℕ, zero, suc, _+_, _-_, _*_, _<_, _^_}
+use mathlib.Core.Path.{_≡_, refl, sym, ap, ap₂, subst, subst₂, _∙_}
 use mathlib.Core.Bool.{Bool}
 use mathlib.Core.List.{List, _++_}
 use native.Mathlib.Omega.{arith}
 use lib.ListN.{length, getD}
-use Rattle.rules.specs.Test.{_and_, _or_, fails, same}
-use Rattle.rules.specs.Word.{bit, common, union, without, meets, first}
+use Rattle.rules.specs.Test.{_and_, _or_, fails, same, below}
+use Rattle.rules.specs.Word.{bit, common, union, without, meets, single, first}
 use Rattle.rules.specs.Over.{keep, joinOver, removeOver}
 use Rattle.rules.specs.Lists.{listOver}
 use Rattle.rules.specs.Domain.{Domain, Actions, needsOf, addsOf, deletesOf, breaks, domain}
 use Rattle.rules.specs.Layer.{size, labelIn, mutexIn, wordCount}
-use Rattle.rules.specs.Shared.{startLayer, vertexLabel, vertexMutex, actionLayer, nextLabel, oneAdds}
+use Rattle.rules.specs.Shared.{startLabel, startLayer, vertexLabel, vertexMutex, actionLayer, nextLabel, oneAdds}
 use Rattle.rules.specs.Shared.{twoAdd, nextMutex, nextLayer, propLayer, vertexLayer, graphWords}
-use Rattle.rules.proofs.Overs.{joinOver-eq}
+use Rattle.rules.proofs.Tests.{below-at}
+use Rattle.rules.proofs.Words.{ext, single-lt}
+use Rattle.rules.proofs.Overs.{joinOver-eq, choose-lt}
+use Rattle.rules.proofs.Members.{bit-those, bit-startLabel, startLabel-lt}
 use Rattle.rules.proofs.Layers.{getD-listOver, length-listOver, layer-eq, runOver-eq}
 use Rattle.rules.proofs.Leaks.{graph-eq}
-use Rattle.graph.specs.Listed.{hurts, listed}
+use Rattle.graph.specs.Listed.{hurts, foesOf, addedBy, listed, Sizes}
+use Rattle.graph.specs.File.{Taken, setAt, actionsOf}
+use Rattle.graph.specs.declared.file.Counts.{Counts}
 
 removeOver-eq : (n : ℕ) (f g : ℕ → ℕ) (w : ℕ) → ((i : ℕ) → i < n → f i ≡ g i) → removeOver n f w ≡ removeOver n g w
 unfolding removeOver
@@ -89,20 +94,43 @@ hurt-is : (A : Actions) (needs adds dels : List ℕ) (v w : ℕ) → getD dels v
 unfolding hurts breaks
 hurt-is A needs adds dels v w d n a = ap₂ meets d (ap₂ union n a)
 
--- the lists of all vertices' sets make the graph of the actions
-pub listed-graph : (A : Actions) (needs adds dels starts : List ℕ) (n : ℕ) (start : ℕ → ℕ) (k : ℕ) → needs ≡ listOver (A .count + A .props) (needsOf A)
-    → adds ≡ listOver (A .count + A .props) (addsOf A) → dels ≡ listOver (A .count + A .props) (deletesOf A) → starts ≡ listOver n start
-    → graphWords (listed (A .props) needs adds dels) (length starts) (λ s. getD starts s 0) k ≡ graphWords (domain A) n start k
+-- the vertices with which v interferes, by their bits
+bit-foes : (needs adds dels : List ℕ) (v w : ℕ) → w < length needs
+    → bit w (foesOf needs adds dels v) ≡ (hurts needs adds dels v w or hurts needs adds dels w v)
+unfolding foesOf
+bit-foes needs adds dels v w h = bit-those (length needs) (λ w. hurts needs adds dels v w or hurts needs adds dels w v) w h
+
+-- what a vertex adds, turned into the adders of each proposition and back
+added-back : (n m : ℕ) (adders : List ℕ) (adds : ℕ → ℕ) (v : ℕ) → adders ≡ listOver n (startLabel m adds) → v < m → adds v < 2 ^ n → addedBy adders v ≡ adds v
+unfolding addedBy
+added-back n m adders adds v e h small =
+    let l : length adders ≡ n = ap length e ∙ length-listOver n (startLabel m adds) in
+    ext n _ _ (subst (λ (x : ℕ). startLabel (length adders) (λ p. getD adders p 0) v < 2 ^ x) l (startLabel-lt (length adders) (λ p. getD adders p 0) v)) small
+    (λ p k. bit-startLabel (length adders) (λ p. getD adders p 0) v p (omega arith)
+    ∙ ap (bit v) (ap (λ (x : List ℕ). getD x p 0) e ∙ getD-listOver n (startLabel m adds) p k) ∙ bit-startLabel m adds p v h)
+
+-- the lists of all vertices make the graph of the actions, whose adds are sets of the propositions
+pub listed-graph : (A : Actions) (needs adds dels adders foes starts : List ℕ) (n : ℕ) (start : ℕ → ℕ) (k : ℕ)
+    → needs ≡ listOver (A .count + A .props) (needsOf A) → adds ≡ listOver (A .count + A .props) (addsOf A)
+    → dels ≡ listOver (A .count + A .props) (deletesOf A) → adders ≡ listOver (A .props) (startLabel (length adds) (λ v. getD adds v 0))
+    → foes ≡ listOver (length needs) (foesOf needs adds dels) → starts ≡ listOver n start
+    → ((v : ℕ) → v < A .count + A .props → addsOf A v < 2 ^ A .props)
+    → graphWords (listed (A .props) needs adders foes) (length starts) (λ s. getD starts s 0) k ≡ graphWords (domain A) n start k
 unfolding listed domain
-listed-graph A needs adds dels starts n start k en ea ed es =
-    ap₂ (λ (x y : ℕ). graphWords (domainWith (A .props) x (λ v. getD needs v 0) (λ v. getD adds v 0)
-    (λ v w. hurts needs adds dels v w or hurts needs adds dels w v))
-    y (λ s. getD starts s 0) k) (ap length en ∙ length-listOver m (needsOf A)) (ap length es ∙ length-listOver n start)
-    ∙ same-graph (A .props) m _ _ _ _ _ _ n-eq a-eq (λ v w h l. ap₂ _or_ (hurt-eq v w h l) (hurt-eq w v l h)) n (λ s. getD starts s 0) k
+listed-graph A needs adds dels adders foes starts n start k en ea ed er ef es small =
+    ap₂ (λ (x y : ℕ). graphWords (domainWith (A .props) x (λ v. getD needs v 0) (addedBy adders) (λ v w. bit w (getD foes v 0)))
+    y (λ s. getD starts s 0) k) ln (ap length es ∙ length-listOver n start)
+    ∙ same-graph (A .props) m _ _ _ _ _ _ n-eq added-eq foe-eq n (λ s. getD starts s 0) k
     ∙ graph-eq _ _ _ _ _ (λ s h. ap (λ (l : List ℕ). getD l s 0) es ∙ getD-listOver n start s h)
   where
     m : ℕ
     m = A .count + A .props
+
+    ln : length needs ≡ m
+    ln = ap length en ∙ length-listOver m (needsOf A)
+
+    la : length adds ≡ m
+    la = ap length ea ∙ length-listOver m (addsOf A)
 
     n-eq : (v : ℕ) → v < m → getD needs v 0 ≡ needsOf A v
     n-eq v h = ap (λ (l : List ℕ). getD l v 0) en ∙ getD-listOver m (needsOf A) v h
@@ -116,8 +144,63 @@ listed-graph A needs adds dels starts n start k en ea ed es =
     hurt-eq : (v w : ℕ) → v < m → w < m → hurts needs adds dels v w ≡ breaks A v w
     hurt-eq v w h l = hurt-is A needs adds dels v w (d-eq v h) (n-eq w l) (a-eq w l)
 
+    added-eq : (v : ℕ) → v < m → addedBy adders v ≡ addsOf A v
+    added-eq v h =
+        added-back (A .props) (length adds) adders (λ v. getD adds v 0) v er (omega (arith, la))
+        (subst (λ (x : ℕ). x < 2 ^ A .props) (sym (a-eq v h)) (small v h))
+        ∙ a-eq v h
+
+    foe-eq : (v w : ℕ) → v < m → w < m → bit w (getD foes v 0) ≡ (breaks A v w or breaks A w v)
+    foe-eq v w h l =
+        ap (bit w) (ap (λ (x : List ℕ). getD x v 0) ef ∙ getD-listOver (length needs) (foesOf needs adds dels) v (omega (arith, ln)))
+        ∙ bit-foes needs adds dels v w (omega (arith, ln)) ∙ ap₂ _or_ (hurt-eq v w h l) (hurt-eq w v l h)
+
 -- and as many words
-pub listed-count : (A : Actions) (needs adds dels : List ℕ) (k : ℕ) → length needs ≡ A .count + A .props
-    → wordCount (listed (A .props) needs adds dels) k ≡ wordCount (domain A) k
+pub listed-count : (A : Actions) (needs adders foes : List ℕ) (k : ℕ) → length needs ≡ A .count + A .props
+    → wordCount (listed (A .props) needs adders foes) k ≡ wordCount (domain A) k
 unfolding listed domain wordCount
-listed-count A needs adds dels k e = ap (λ (x : ℕ). suc k * size (A .props) + k * size x) e
+listed-count A needs adders foes k e = ap (λ (x : ℕ). suc k * size (A .props) + k * size x) e
+
+-- ---- a taken file's vertices need and add sets of its propositions
+
+module _ (file : List ℕ) (c : Counts) (t : Taken file c) (v : ℕ) (h : v < c .actions + c .props) where
+  own : single (v - c .actions) < 2 ^ c .props
+  own = single-lt (c .props) (v - c .actions) (omega (arith, t .some-props))
+
+  pub needs-small : needsOf (actionsOf file c) v < 2 ^ c .props
+  unfolding needsOf actionsOf
+  needs-small =
+      let e : 8 + 4 * (3 * v) ≡ 8 + 12 * v = omega arith in
+      choose-lt (2 ^ c .props) (below v (c .actions)) _ _
+      (λ b. let l : v < c .actions = below-at _ _ b in subst (λ (x : ℕ). setAt file x < 2 ^ c .props) e (t .sets (3 * v) (omega arith))) own
+
+  pub adds-small : addsOf (actionsOf file c) v < 2 ^ c .props
+  unfolding addsOf actionsOf
+  adds-small =
+      let e : 8 + 4 * (3 * v + 1) ≡ 8 + 12 * v + 4 = omega arith in
+      choose-lt (2 ^ c .props) (below v (c .actions)) _ _
+      (λ b. let l : v < c .actions = below-at _ _ b in subst (λ (x : ℕ). setAt file x < 2 ^ c .props) e (t .sets (3 * v + 1) (omega arith))) own
+
+-- the lists that are read, turned and compared have the sizes that the build asks for
+pub listed-sizes : (file : List ℕ) (c : Counts) (needs adds dels adders foes : List ℕ) → Taken file c
+    → needs ≡ listOver (c .actions + c .props) (needsOf (actionsOf file c)) → adds ≡ listOver (c .actions + c .props) (addsOf (actionsOf file c))
+    → adders ≡ listOver (c .props) (startLabel (length adds) (λ v. getD adds v 0)) → foes ≡ listOver (length needs) (foesOf needs adds dels)
+    → Sizes (c .props) needs adders foes
+listed-sizes file c needs adds dels adders foes t en ea er ef =
+    let m : ℕ = c .actions + c .props in
+    let ln : length needs ≡ m = ap length en ∙ length-listOver m (needsOf (actionsOf file c)) in
+    let la : length adds ≡ m = ap length ea ∙ length-listOver m (addsOf (actionsOf file c)) in
+    let lr : length adders ≡ c .props = ap length er ∙ length-listOver (c .props) (startLabel (length adds) (λ v. getD adds v 0)) in
+    record {
+      acts = record {
+        few = t .props;
+        room = omega (arith, t .props, t .actions);
+        foes-long = ap length ef ∙ length-listOver (length needs) (foesOf needs adds dels);
+        need-sets = λ v h. subst (λ (x : ℕ). x < 2 ^ c .props)
+            (sym (ap (λ (l : List ℕ). getD l v 0) en ∙ getD-listOver m (needsOf (actionsOf file c)) v (omega arith))) (needs-small file c t v (omega arith));
+      };
+      adders-long = lr;
+      add-sets = λ p h. subst₂ (λ (x k : ℕ). x < 2 ^ k)
+          (sym (ap (λ (l : List ℕ). getD l p 0) er ∙ getD-listOver (c .props) (startLabel (length adds) (λ v. getD adds v 0)) p (omega arith)))
+          (la ∙ sym ln) (startLabel-lt (length adds) (λ v. getD adds v 0) p);
+    }

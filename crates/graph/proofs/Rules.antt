@@ -1,15 +1,14 @@
 -- What each rule of the file and of the caller's checks comes to, given its tests.
 -- Assumes nothing.
 use Prim.Native.Nat.{ℕ, _+_, _*_, _^_, _≤_, _<_}
-use mathlib.Core.Path.{_≡_, refl, sym, ap, _∙_}
-use mathlib.Core.Bool.{Bool, true, false, So}
+use mathlib.Core.Path.{_≡_}
+use mathlib.Core.Bool.{true, false}
 use mathlib.Core.List.{List}
-use native.Mathlib.Omega.{arith}
 use lib.ListN.{length, getD}
-use Rattle.rules.specs.Test.{_and_, _or_, fails, same, below, choose}
+use Rattle.rules.specs.Test.{_and_, _or_, fails, same, choose}
 use Rattle.rules.proofs.Tests.{same-of, same-not, below-of, below-not}
-use Rattle.graph.specs.Verdict.{Verdict, accepted, refused}
-use Rattle.graph.specs.File.{setAt, letters, version, countsIn, rightLength, setsRule, lengthRule, countsRule, fileRule}
+use Rattle.graph.specs.Verdict.{accepted, refused}
+use Rattle.graph.specs.File.{letters, version, countsIn, rightLength, setsRule, lengthRule, countsRule, fileRule}
 use Rattle.graph.specs.Calls.{depthRule, setRule, goalRule, memoryRule, outputRule}
 use Rattle.graph.specs.declared.file.Counts.{Counts}
 

@@ -3,7 +3,7 @@
 use Prim.Native.Nat.{ℕ, suc, _+_, _-_, _≤_, _<_}
 use mathlib.Core.Path.{_≡_, refl, sym, ap, ap₂, _∙_}
 use mathlib.Core.Bool.{Bool, true, false}
-use mathlib.Core.List.{List, _++_}
+use mathlib.Core.List.{List}
 use native.Mathlib.Nat.{le-refl}
 use native.Mathlib.Omega.{arith}
 use lib.ListN.{length, getD, take}
@@ -12,7 +12,7 @@ use Rattle.rules.specs.Test.{_or_}
 use Rattle.rules.specs.Word.{common}
 use Rattle.rules.specs.Lists.{listOver, runOver}
 use Rattle.rules.specs.Layer.{size, pairs, rowOf, layerOf}
-use Rattle.rules.proofs.Layers.{length-listOver, getD-listOver, runOver-eq, listOver-eq, length-rows, pairs-row, pairs-sub, size-pairs, labels-in}
+use Rattle.rules.proofs.Layers.{length-listOver, getD-listOver, runOver-eq, listOver-eq, length-rows, pairs-row, pairs-sub, labels-in}
 use Rattle.graph.specs.Listed.{over}
 use Rattle.graph.specs.Memory.{putAt}
 use Rattle.graph.proofs.Writes.{same-word, same-part, put-put, put-front, put-word}

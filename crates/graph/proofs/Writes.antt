@@ -1,13 +1,13 @@
 -- Words written into lent memory: one by one, list behind list, and through a lent part.
 -- Assumes nothing.
-use mathlib.Core.Path.{_≡_, refl, sym, ap, ap₂, subst, _∙_}
+use mathlib.Core.Path.{_≡_, refl, sym, ap, ap₂, _∙_}
 use mathlib.Core.List.{List, [], _∷_, _++_, append-assoc, append-nil}
-use Prim.Native.Nat.{ℕ, zero, suc, _+_, _-_, _≤_, _<_}
-use native.Mathlib.Nat.{add-assoc, add-zero, zero-add}
+use Prim.Native.Nat.{ℕ, _+_, _-_, _≤_, _<_}
+use native.Mathlib.Nat.{add-assoc, add-zero}
 use native.Mathlib.Numerals.{add-one}
 use native.Mathlib.Omega.{arith}
 use borrow.Rule.Slice.PartMut.{putMid}
-use lib.ListN.{length, getD, take, drop, set, length-append, length-drop, length-take, length-set, drop-of-length-le, take-append-drop, List·getD-append}
+use lib.ListN.{length, getD, take, drop, set, length-append, length-drop, length-set, drop-of-length-le, take-append-drop, List·getD-append}
 use lib.Seq.{getD-take, getD-drop, take-at, drop-at, take-all, take-take, drop-drop, length-take-le, take-append-le, take-add, set-split}
 use Rattle.rules.specs.Lists.{listOver, runOver}
 use Rattle.rules.proofs.Layers.{length-listOver}
@@ -149,6 +149,16 @@ list-whole {f} {n} {i} {w₀} s h e = list-done s h ∙ put-whole (listOver n f)
 -- what stands before the words stays while they are written
 pub list-front : {f : ℕ → ℕ} {base n i : ℕ} {w₀ w : List ℕ} (b : ℕ) → Lists f base n w₀ i w → b ≤ base → take b w ≡ take b w₀
 list-front {f} {base} {n} {i} {w₀} b s h = ap (take b) (s .is) ∙ put-front base (listOver i f) w₀ (omega (arith, length-listOver i f, s .within, s .room)) b h
+
+-- a loop that writes from the front on has not yet changed what lies ahead
+pub list-ahead : {f : ℕ → ℕ} {n i : ℕ} {w₀ w : List ℕ} → Lists f 0 n w₀ i w → getD w i 0 ≡ getD w₀ i 0
+list-ahead {f} {n} {i} {w₀} {w} s =
+    let l : i ≡ 0 + length (listOver i f) = omega (arith, length-listOver i f) in
+    let e : drop i w ≡ drop i w₀ =
+    ap (drop i) (s .is) ∙ ap (λ (x : ℕ). drop x (putAt 0 (listOver i f) w₀)) l
+    ∙ put-rest 0 (listOver i f) w₀ (omega (arith, length-listOver i f, s .within, s .room)) ∙ ap (λ (x : ℕ). drop x w₀) (sym l) in
+    ap (λ (x : ℕ). getD w x 0) (sym (add-zero i)) ∙ sym (getD-drop i w 0 0) ∙ ap (λ (x : List ℕ). getD x 0 0) e ∙ getD-drop i w₀ 0 0
+    ∙ ap (λ (x : ℕ). getD w₀ x 0) (add-zero i)
 
 -- ---- a loop that writes lists g 0, g 1 .. one behind the other from `base` on: t of n are written, up to `at`
 

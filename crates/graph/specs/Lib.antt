@@ -4,5 +4,7 @@ pub mod Verdict
 pub mod Memory
 pub mod File
 pub mod Calls
+pub mod Rows
 pub mod Listed
+pub mod Rests
 pub mod Build

@@ -1,43 +1,59 @@
--- The Domain whose vertices' sets lie in lists, as the build has them.
+-- The Domain whose vertices lie in lists, as the build has them.
 use Prim.Native.Nat.{ℕ, zero, suc, _+_, _≤_}
 use mathlib.Core.Path.{_≡_}
 use mathlib.Core.Bool.{Bool}
 use mathlib.Core.List.{List, _++_}
 use lib.ListN.{length, getD, take}
 use Rattle.rules.specs.Test.{_or_}
-use Rattle.rules.specs.Word.{common, union, meets}
+use Rattle.rules.specs.Word.{bit, common, union, meets, single}
+use Rattle.rules.specs.Over.{keep, joinOver}
 use Rattle.rules.specs.Domain.{Domain}
 use Rattle.rules.specs.Layer.{layerOf}
-use Rattle.rules.specs.Shared.{vertexMutex, nextLabel, nextMutex, actionLayer, nextLayer}
+use Rattle.rules.specs.Shared.{startLabel, vertexLabel, vertexMutex, nextLabel, nextMutex, actionLayer, nextLayer}
 use Rattle.graph.specs.Width.{propWidth}
+use Rattle.graph.specs.Rows.{Inside}
 
 -- v deletes something that w needs or adds
 unfoldable pub hurts : List ℕ → List ℕ → List ℕ → ℕ → ℕ → Bool
 hurts needs adds dels v w = meets (getD dels v 0) (union (getD needs w 0) (getD adds w 0))
 
+-- the vertices with which v interferes, of all that the lists have
+unfoldable pub foesOf : List ℕ → List ℕ → List ℕ → ℕ → ℕ
+foesOf needs adds dels v = joinOver (length needs) (λ w. keep (hurts needs adds dels v w or hurts needs adds dels w v) (single w))
+
+-- what vertex v adds, by the adders of each proposition
+unfoldable pub addedBy : List ℕ → ℕ → ℕ
+addedBy adders v = startLabel (length adders) (λ p. getD adders p 0) v
+
+-- by what each vertex needs, by who adds each proposition, and by the foes of each vertex
 unfoldable pub listed : ℕ → List ℕ → List ℕ → List ℕ → Domain
-listed props needs adds dels = record {
+listed props needs adders foes = record {
   props = props;
   vertices = length needs;
   needs = λ v. getD needs v 0;
-  adds = λ v. getD adds v 0;
-  interfere = λ v w. hurts needs adds dels v w or hurts needs adds dels w v;
+  adds = addedBy adders;
+  interfere = λ v w. bit w (getD foes v 0);
 }
 
 -- the mutex word of v and w over the proposition layer l, where their labels share `both`
-unfoldable pub pairWord : ℕ → List ℕ → List ℕ → List ℕ → List ℕ → ℕ → ℕ → ℕ → ℕ
-pairWord props needs adds dels l both v w =
-    vertexMutex props l (hurts needs adds dels v w or hurts needs adds dels w v) both (getD needs v 0) (getD needs w 0)
+unfoldable pub pairWord : ℕ → List ℕ → List ℕ → List ℕ → ℕ → ℕ → ℕ → ℕ
+pairWord props needs foes l both v w = vertexMutex props l (bit w (getD foes v 0)) both (getD needs v 0) (getD needs w 0)
 
--- the mutex word of p and q over the action layer a, where their labels share `both`
-unfoldable pub nextWord : List ℕ → List ℕ → ℕ → ℕ → ℕ → ℕ
-nextWord adds a both p q = nextMutex (length adds) (λ v. getD adds v 0) a both p q
+-- the layer of the vertices over the proposition layer l
+unfoldable pub layerOver : ℕ → ℕ → List ℕ → List ℕ → List ℕ → List ℕ
+layerOver props all needs foes l =
+    let label : ℕ → ℕ = λ v. vertexLabel props all l (getD needs v 0) in
+    layerOf (length needs) label (λ v w. pairWord props needs foes l (common (label v) (label w)) v w)
 
--- the layer of n propositions over the action layer a
+-- the mutex word of p and q over the layer a of m vertices, where their labels share `both`
+unfoldable pub nextWord : ℕ → List ℕ → List ℕ → ℕ → ℕ → ℕ → ℕ
+nextWord m adders a both p q = nextMutex m (addedBy adders) a both p q
+
+-- the layer of the propositions over the layer a of m vertices
 unfoldable pub layerAfter : ℕ → List ℕ → List ℕ → List ℕ
-layerAfter n adds a =
-    let label : ℕ → ℕ = nextLabel (length adds) (λ v. getD adds v 0) a in
-    layerOf n label (λ p q. nextWord adds a (common (label p) (label q)) p q)
+layerAfter m adders a =
+    let label : ℕ → ℕ = nextLabel m (addedBy adders) a in
+    layerOf (length adders) label (λ p q. nextWord m adders a (common (label p) (label q)) p q)
 
 -- the action layer over the proposition layer l, and the next proposition layer behind it
 unfoldable pub stepWords : Domain → ℕ → List ℕ → List ℕ
@@ -52,9 +68,14 @@ propFrom D all l (suc t) = nextLayer D (actionLayer D all (propFrom D all l t))
 abbrev pub over : (List ℕ → ℕ → ℕ → ℕ → ℕ) → ℕ → List ℕ → ℕ → ℕ → ℕ
 over pair at w i j = pair (take at w) (common (getD w (at + i) 0) (getD w (at + j) 0)) i j
 
--- the sizes that the lent lists have
-pub record Sizes (props : ℕ) (needs adds dels : List ℕ) : Type 0 where
+-- what is known of the lists of needs and foes, and of the adders: their lengths, and that each set is one of the propositions or of the vertices
+pub record Acts (props : ℕ) (needs foes : List ℕ) : Type 0 where
   pub few : props ≤ propWidth
   pub room : length needs ≤ 64
-  pub adders : length adds ≡ length needs
-  pub deleters : length dels ≡ length needs
+  pub foes-long : length foes ≡ length needs
+  pub need-sets : Inside props needs
+
+pub record Sizes (props : ℕ) (needs adders foes : List ℕ) : Type 0 where
+  pub acts : Acts props needs foes
+  pub adders-long : length adders ≡ props
+  pub add-sets : Inside (length needs) adders

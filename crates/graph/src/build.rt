@@ -5,8 +5,10 @@ use crate::calls::check_memory;
 use crate::file::Counts;
 use crate::file::FileAnswer;
 use crate::file::check_file;
+use crate::foes::foe_sets;
 use crate::label::word_count;
 use crate::layers::layers;
+use crate::layers::start_labels;
 use crate::read::read_starts;
 use crate::read::read_vertices;
 use crate::refusal::Refusal;
@@ -36,19 +38,23 @@ fn build_in(
     adds: &mut [u32],
     dels: &mut [u32],
     starts: &mut [u32],
+    adders: &mut [u64],
+    foes: &mut [u64],
 )
     requires { ⌜ Taken (now file) c × (depth ≤ 255) × (wordCount (domain (actionsOf (now file) c)) depth ≤ length (now words)) ⌝ }
-    requires { ⌜ (length (now needs) ≡ c .actions + c .props) × (length (now adds) ≡ c .actions + c .props) × (length (now dels) ≡ c .actions + c .props) × (length (now starts) ≡ c .states) ⌝ }
+    requires { ⌜ (length (now needs) ≡ c .actions + c .props) × (length (now adds) ≡ c .actions + c .props) × (length (now dels) ≡ c .actions + c .props) × (length (now starts) ≡ c .states) × (length (now adders) ≡ c .props) × (length (now foes) ≡ c .actions + c .props) ⌝ }
     ensures { λ r. ⌜ now (words .exit) ≡ putAt 0 (graphWords (domain (actionsOf (now (file .entry)) c)) (c .states) (startOf (now (file .entry)) c) depth) (now (words .entry)) ⌝ }
 {
     read_vertices(file, c, &mut *needs, &mut *adds, &mut *dels);
     read_starts(file, c, &mut *starts);
+    start_labels(&mut *adders, c.props, &adds[..]);
+    foe_sets(&needs[..], &adds[..], &dels[..], &mut *foes);
     layers(
         words,
         c.props,
         &needs[..],
-        &adds[..],
-        &dels[..],
+        &adders[..],
+        &foes[..],
         &starts[..],
         depth,
     );
@@ -59,12 +65,15 @@ fn build_words(file: &[u8], c: Counts, depth: usize, words: &mut [u64])
     requires { ⌜ Taken (now file) c × (depth ≤ 255) × (wordCount (domain (actionsOf (now file) c)) depth ≤ length (now words)) ⌝ }
     ensures { λ r. ⌜ now (words .exit) ≡ putAt 0 (graphWords (domain (actionsOf (now (file .entry)) c)) (c .states) (startOf (now (file .entry)) c) depth) (now (words .entry)) ⌝ }
 {
+    let p = c.props;
     let v = c.actions + c.props;
     let n = c.states;
     let mut needs = [0u32; 64];
     let mut adds = [0u32; 64];
     let mut dels = [0u32; 64];
     let mut starts = [0u32; 64];
+    let mut adders = [0u64; 32];
+    let mut foes = [0u64; 64];
     build_in(
         file,
         c,
@@ -74,6 +83,8 @@ fn build_words(file: &[u8], c: Counts, depth: usize, words: &mut [u64])
         &mut adds[..v],
         &mut dels[..v],
         &mut starts[..n],
+        &mut adders[..p],
+        &mut foes[..v],
     );
 }
 

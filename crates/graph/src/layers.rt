@@ -5,15 +5,17 @@ use crate::props::prop_step;
 use crate::sets::Props;
 use crate::sets::States;
 ghost use mathlib.Core.Path.{_≡_};
-ghost use Prim.Native.Nat.{_+_, _-_, _*_, _≤_, _<_};
+ghost use Prim.Native.Nat.{_+_, _-_, _*_, _%_, _≤_, _<_};
 ghost use lib.ListN.{length, getD, take};
+ghost use Rattle.rules.specs.Test.{same};
 ghost use Rattle.rules.specs.Word.{bit, single, first};
-ghost use Rattle.rules.specs.Over.{keep};
+ghost use Rattle.rules.specs.Over.{keep, allBelow};
 ghost use Rattle.rules.specs.Lists.{listOver, runOver};
 ghost use Rattle.rules.specs.Layer.{size, layerOf, stride, wordCount};
 ghost use Rattle.rules.specs.Shared.{startLabel, graphWords};
 ghost use Rattle.graph.specs.Listed.{listed, stepWords, propFrom, Sizes};
 ghost use Rattle.graph.specs.Memory.{putAt};
+ghost use Rattle.graph.specs.Rests.{Stepped};
 ghost use Rattle.graph.specs.Width.{propWidth, stateWidth};
 
 // Just s where state s contains p, else no state.
@@ -39,7 +41,7 @@ fn start_label(starts: &[u32], p: usize) -> u64
     joined
 }
 
-fn start_labels(words: &mut [u64], n: usize, starts: &[u32])
+pub fn start_labels(words: &mut [u64], n: usize, starts: &[u32])
     requires { ⌜ (n ≤ propWidth) × (length (now starts) ≤ stateWidth) × (n ≤ length (now words)) ⌝ }
     ensures { λ r. ⌜ now (words .exit) ≡ putAt 0 (listOver n (startLabel (length (now (starts .entry))) (λ s. getD (now (starts .entry)) s 0))) (now (words .entry)) ⌝ }
 {
@@ -70,33 +72,83 @@ fn start_step(words: &mut [u64], n: usize, starts: &[u32])
 }
 
 // Writes the action layer behind the proposition layer at the front, and the next proposition layer behind that.
-fn step(words: &mut [u64], n: usize, needs: &[u32], adds: &[u32], dels: &[u32], all: u64)
-    requires { ⌜ Sizes n (now needs) (now adds) (now dels) × (size n + size (length (now needs)) + size n ≤ length (now words)) ⌝ }
-    ensures { λ r. ⌜ now (words .exit) ≡ putAt (size n) (stepWords (listed n (now (needs .entry)) (now (adds .entry)) (now (dels .entry))) all (take (size n) (now (words .entry)))) (now (words .entry)) ⌝ }
+fn step(words: &mut [u64], n: usize, needs: &[u32], adders: &[u64], foes: &[u64], all: u64)
+    requires { ⌜ Sizes n (now needs) (now adders) (now foes) × (size n + size (length (now needs)) + size n ≤ length (now words)) ⌝ }
+    ensures { λ r. ⌜ now (words .exit) ≡ putAt (size n) (stepWords (listed n (now (needs .entry)) (now (adders .entry)) (now (foes .entry))) all (take (size n) (now (words .entry)))) (now (words .entry)) ⌝ }
 {
-    action_step(&mut *words, n, needs, adds, dels, all);
+    action_step(&mut *words, n, needs, foes, all);
     let at = layer_size(n);
-    prop_step(&mut words[at..], n, adds);
+    prop_step(&mut words[at..], needs.len(), adders);
 }
 
-// Writes so many action and proposition layers behind the proposition layer at the front.
+// Whether the layer of `count` words at the front equals the one that lies `stride` words on.
+fn rested(words: &[u64], count: usize, stride: usize) -> bool
+    requires { ⌜ stride + count ≤ length (now words) ⌝ }
+    ensures { λ r. ⌜ r ≡ allBelow count (λ i. same (getD (now (words .entry)) i 0) (getD (now (words .entry)) (stride + i) 0)) ⌝ }
+{
+    for i in 0..count {
+        if words[i] != words[stride + i] {
+            return false;
+        }
+    }
+    true
+}
+
+// Writes steps until the graph rests or the depth is reached; how many.
+fn steps_until(
+    words: &mut [u64],
+    n: usize,
+    needs: &[u32],
+    adders: &[u64],
+    foes: &[u64],
+    all: u64,
+    depth: usize,
+) -> usize
+    requires { ⌜ Sizes n (now needs) (now adders) (now foes) × (depth ≤ 255) × (depth * stride (listed n (now needs) (now adders) (now foes)) + size n ≤ length (now words)) ⌝ }
+    ensures { λ r. ⌜ Stepped (listed n (now (needs .entry)) (now (adders .entry)) (now (foes .entry))) all (take (size n) (now (words .entry))) depth (now (words .entry)) r (now (words .exit)) ⌝ }
+{
+    let count = layer_size(n);
+    let stride = count + layer_size(needs.len());
+    let mut at = 0;
+    for t in 0..depth {
+        step(&mut words[at..], n, needs, adders, foes, all);
+        if rested(&words[at..], count, stride) {
+            return t + 1;
+        }
+        at += stride;
+    }
+    depth
+}
+
+// Writes the `stride` words before `to` again and again, `count` words in all: one flat loop, which copies what it wrote itself.
+fn repeat(words: &mut [u64], to: usize, stride: usize, count: usize)
+    requires { ⌜ (0 < count → (0 < stride) × (stride ≤ to)) × (to + count ≤ length (now words)) ⌝ }
+    ensures { λ r. ⌜ now (words .exit) ≡ putAt to (listOver count (λ i. getD (now (words .entry)) (to - stride + i % stride) 0)) (now (words .entry)) ⌝ }
+{
+    for i in 0..count {
+        words[to + i] = words[to + i - stride];
+    }
+}
+
+// Writes so many action and proposition layers behind the proposition layer at the front. Where the graph rests, those that are left are copies.
 fn steps(
     words: &mut [u64],
     n: usize,
     needs: &[u32],
-    adds: &[u32],
-    dels: &[u32],
+    adders: &[u64],
+    foes: &[u64],
     all: u64,
     depth: usize,
 )
-    requires { ⌜ Sizes n (now needs) (now adds) (now dels) × (depth ≤ 255) × (depth * stride (listed n (now needs) (now adds) (now dels)) + size n ≤ length (now words)) ⌝ }
-    ensures { λ r. ⌜ now (words .exit) ≡ putAt (size n) (runOver depth (λ t. stepWords (listed n (now (needs .entry)) (now (adds .entry)) (now (dels .entry))) all (propFrom (listed n (now (needs .entry)) (now (adds .entry)) (now (dels .entry))) all (take (size n) (now (words .entry))) t))) (now (words .entry)) ⌝ }
+    requires { ⌜ Sizes n (now needs) (now adders) (now foes) × (depth ≤ 255) × (depth * stride (listed n (now needs) (now adders) (now foes)) + size n ≤ length (now words)) ⌝ }
+    ensures { λ r. ⌜ now (words .exit) ≡ putAt (size n) (runOver depth (λ t. stepWords (listed n (now (needs .entry)) (now (adders .entry)) (now (foes .entry))) all (propFrom (listed n (now (needs .entry)) (now (adders .entry)) (now (foes .entry))) all (take (size n) (now (words .entry))) t))) (now (words .entry)) ⌝ }
 {
-    let mut at = 0;
-    for t in 0..depth {
-        step(&mut words[at..], n, needs, adds, dels, all);
-        at += layer_size(n) + layer_size(needs.len());
-    }
+    let done = steps_until(&mut *words, n, needs, adders, foes, all, depth);
+    let count = layer_size(n);
+    let stride = count + layer_size(needs.len());
+    let to = count + done * stride;
+    let left = (depth - done) * stride;
+    repeat(words, to, stride, left);
 }
 
 // All layers to the depth.
@@ -104,15 +156,15 @@ pub fn layers(
     words: &mut [u64],
     n: usize,
     needs: &[u32],
-    adds: &[u32],
-    dels: &[u32],
+    adders: &[u64],
+    foes: &[u64],
     starts: &[u32],
     depth: usize,
 )
-    requires { ⌜ Sizes n (now needs) (now adds) (now dels) × (length (now starts) ≤ stateWidth) × (depth ≤ 255) × (wordCount (listed n (now needs) (now adds) (now dels)) depth ≤ length (now words)) ⌝ }
-    ensures { λ r. ⌜ now (words .exit) ≡ putAt 0 (graphWords (listed n (now (needs .entry)) (now (adds .entry)) (now (dels .entry))) (length (now (starts .entry))) (λ s. getD (now (starts .entry)) s 0) depth) (now (words .entry)) ⌝ }
+    requires { ⌜ Sizes n (now needs) (now adders) (now foes) × (length (now starts) ≤ stateWidth) × (depth ≤ 255) × (wordCount (listed n (now needs) (now adders) (now foes)) depth ≤ length (now words)) ⌝ }
+    ensures { λ r. ⌜ now (words .exit) ≡ putAt 0 (graphWords (listed n (now (needs .entry)) (now (adders .entry)) (now (foes .entry))) (length (now (starts .entry))) (λ s. getD (now (starts .entry)) s 0) depth) (now (words .entry)) ⌝ }
 {
     start_step(&mut *words, n, starts);
     let all = States::first(starts.len()).0;
-    steps(words, n, needs, adds, dels, all, depth);
+    steps(words, n, needs, adders, foes, all, depth);
 }

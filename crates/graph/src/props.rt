@@ -1,68 +1,131 @@
 // The step that writes a proposition layer behind the action layer at the front of the lent words.
 use crate::label::layer_size;
-use crate::next::next_label;
-use crate::next::next_mutex;
+use crate::rows::join_at;
+use crate::sets::States;
+use crate::tables::free_table;
+use crate::tables::joined_row;
 ghost use mathlib.Core.Path.{_≡_};
-ghost use Prim.Native.Nat.{_+_, _-_, _≤_, _<_};
+ghost use Prim.Native.Nat.{_+_, _-_, _*_, _≤_, _<_};
 ghost use lib.ListN.{length, getD, take};
-ghost use Rattle.rules.specs.Word.{common};
+ghost use Rattle.rules.specs.Over.{joinOf};
 ghost use Rattle.rules.specs.Lists.{listOver, runOver};
-ghost use Rattle.rules.specs.Layer.{size, rowOf};
+ghost use Rattle.rules.specs.Layer.{size, rowOf, freeIn};
 ghost use Rattle.rules.specs.Shared.{nextLabel};
-ghost use Rattle.graph.specs.Listed.{over, nextWord, layerAfter};
+ghost use Rattle.graph.specs.Listed.{over, addedBy, nextWord, layerAfter};
 ghost use Rattle.graph.specs.Memory.{putAt};
+ghost use Rattle.graph.specs.Rows.{tableOf, Inside};
 ghost use Rattle.graph.specs.Width.{propWidth};
 
-// Writes the labels of n propositions at `at`, where the layer at the front ends.
-fn prop_labels(words: &mut [u64], n: usize, at: usize, adds: &[u32])
-    requires { ⌜ (n ≤ propWidth) × (length (now adds) ≤ at) × (at + n ≤ length (now words)) ⌝ }
-    ensures { λ r. ⌜ now (words .exit) ≡ putAt at (listOver n (nextLabel (length (now (adds .entry))) (λ v. getD (now (adds .entry)) v 0) (take at (now (words .entry))))) (now (words .entry)) ⌝ }
+// Writes the labels of the propositions at `at`, where the layer of m vertices at the front ends.
+fn prop_labels(words: &mut [u64], m: usize, at: usize, adders: &[u64])
+    requires { ⌜ (length (now adders) ≤ propWidth) × (m ≤ 64) × (m ≤ at) × (at + length (now adders) ≤ length (now words)) × Inside m (now adders) ⌝ }
+    ensures { λ r. ⌜ now (words .exit) ≡ putAt at (listOver (length (now (adders .entry))) (nextLabel m (addedBy (now (adders .entry))) (take at (now (words .entry))))) (now (words .entry)) ⌝ }
 {
-    for p in 0..n {
-        let label = next_label(&words[..at], adds, p);
+    for p in 0..adders.len() {
+        let label = join_at(&words[..m], adders[p]);
         words[at + p] = label;
     }
 }
 
-// The mutex word of p and q, over the layer at the front and the labels behind it.
-fn prop_pair(words: &[u64], n: usize, at: usize, adds: &[u32], p: usize, q: usize) -> u64
-    requires { ⌜ (n ≤ propWidth) × (length (now adds) ≤ 64) × (at ≡ size (length (now adds))) × (at + n ≤ length (now words)) × (p < n) × (q < n) ⌝ }
-    ensures { λ r. ⌜ r ≡ over (nextWord (now (adds .entry))) at (now (words .entry)) p q ⌝ }
+// The mutex word of p and q, over the layer at the front and the labels behind it. `with` has for each vertex the states in which an adder of p is free of it.
+fn prop_pair(
+    words: &[u64],
+    m: usize,
+    at: usize,
+    adders: &[u64],
+    with: &[u64],
+    p: usize,
+    q: usize,
+) -> u64
+    requires { ⌜ (m ≤ 64) × (at ≡ size m) × (at + length (now adders) ≤ length (now words)) × Inside m (now adders) × (p < length (now adders)) × (q < length (now adders)) × (now with ≡ listOver m (λ w. joinOf m (getD (now adders) p 0) (λ v. freeIn m (take at (now words)) v w))) ⌝ }
+    ensures { λ r. ⌜ r ≡ over (nextWord m (now (adders .entry))) at (now (words .entry)) p q ⌝ }
 {
     let both = words[at + p] & words[at + q];
-    next_mutex(&words[..at], adds, both, p, q)
+    if both == 0 {
+        return 0;
+    }
+    States(both).without(States(join_at(with, adders[q]))).0
 }
 
 // Writes row p of the pairs from `to` on.
-fn prop_row(words: &mut [u64], n: usize, at: usize, to: usize, adds: &[u32], p: usize)
-    requires { ⌜ (n ≤ propWidth) × (length (now adds) ≤ 64) × (at ≡ size (length (now adds))) × (at + n ≤ to) × (to + (n - 1 - p) ≤ length (now words)) × (p < n) ⌝ }
-    ensures { λ r. ⌜ now (words .exit) ≡ putAt to (rowOf n (over (nextWord (now (adds .entry))) at (now (words .entry))) p) (now (words .entry)) ⌝ }
+fn prop_row(
+    words: &mut [u64],
+    m: usize,
+    at: usize,
+    to: usize,
+    adders: &[u64],
+    with: &[u64],
+    p: usize,
+)
+    requires { ⌜ (m ≤ 64) × (at ≡ size m) × (at + length (now adders) ≤ to) × (to + (length (now adders) - 1 - p) ≤ length (now words)) × Inside m (now adders) × (p < length (now adders)) × (now with ≡ listOver m (λ w. joinOf m (getD (now adders) p 0) (λ v. freeIn m (take at (now words)) v w))) ⌝ }
+    ensures { λ r. ⌜ now (words .exit) ≡ putAt to (rowOf (length (now (adders .entry))) (over (nextWord m (now (adders .entry))) at (now (words .entry))) p) (now (words .entry)) ⌝ }
 {
-    let m = n - 1 - p;
-    for k in 0..m {
-        let word = prop_pair(&words[..], n, at, adds, p, p + 1 + k);
+    let left = adders.len() - 1 - p;
+    for k in 0..left {
+        let word = prop_pair(&words[..], m, at, adders, with, p, p + 1 + k);
         words[to + k] = word;
     }
 }
 
-// Writes the pairs behind the labels.
-fn prop_pairs(words: &mut [u64], n: usize, at: usize, adds: &[u32])
-    requires { ⌜ (n ≤ propWidth) × (length (now adds) ≤ 64) × (at ≡ size (length (now adds))) × (at + size n ≤ length (now words)) ⌝ }
-    ensures { λ r. ⌜ now (words .exit) ≡ putAt (at + n) (runOver n (rowOf n (over (nextWord (now (adds .entry))) at (now (words .entry))))) (now (words .entry)) ⌝ }
+// Writes the pairs behind the labels, with room lent for a row.
+fn prop_pairs(
+    words: &mut [u64],
+    m: usize,
+    at: usize,
+    adders: &[u64],
+    free: &[u64],
+    with: &mut [u64],
+)
+    requires { ⌜ (length (now adders) ≤ propWidth) × (m ≤ 64) × (at ≡ size m) × (at + size (length (now adders)) ≤ length (now words)) × Inside m (now adders) × (now free ≡ tableOf m m (freeIn m (take at (now words)))) × (length (now with) ≡ m) ⌝ }
+    ensures { λ r. ⌜ now (words .exit) ≡ putAt (at + length (now (adders .entry))) (runOver (length (now (adders .entry))) (rowOf (length (now (adders .entry))) (over (nextWord m (now (adders .entry))) at (now (words .entry))))) (now (words .entry)) ⌝ }
 {
-    let mut to = at + n;
-    for p in 0..n {
-        prop_row(&mut *words, n, at, to, adds, p);
-        to += n - 1 - p;
+    let mut to = at + adders.len();
+    for p in 0..adders.len() {
+        joined_row(&mut *with, free, m, adders[p]);
+        prop_row(&mut *words, m, at, to, adders, &with[..], p);
+        to += adders.len() - 1 - p;
     }
 }
 
-// Writes the proposition layer behind the action layer at the front.
-pub fn prop_step(words: &mut [u64], n: usize, adds: &[u32])
-    requires { ⌜ (n ≤ propWidth) × (length (now adds) ≤ 64) × (size (length (now adds)) + size n ≤ length (now words)) ⌝ }
-    ensures { λ r. ⌜ now (words .exit) ≡ putAt (size (length (now (adds .entry)))) (layerAfter n (now (adds .entry)) (take (size (length (now (adds .entry)))) (now (words .entry)))) (now (words .entry)) ⌝ }
+// With room lent for the table of the layer at the front, and for a row.
+fn prop_in(words: &mut [u64], m: usize, adders: &[u64], free: &mut [u64], with: &mut [u64])
+    requires { ⌜ (length (now adders) ≤ propWidth) × (m ≤ 64) × (size m + size (length (now adders)) ≤ length (now words)) × Inside m (now adders) × (length (now free) ≡ m * m) × (length (now with) ≡ m) ⌝ }
+    ensures { λ r. ⌜ now (words .exit) ≡ putAt (size m) (layerAfter m (now (adders .entry)) (take (size m) (now (words .entry)))) (now (words .entry)) ⌝ }
 {
-    let at = layer_size(adds.len());
-    prop_labels(&mut *words, n, at, adds);
-    prop_pairs(words, n, at, adds);
+    let at = layer_size(m);
+    free_table(&words[..at], m, &mut *free);
+    prop_labels(&mut *words, m, at, adders);
+    prop_pairs(words, m, at, adders, &free[..], with);
+}
+
+// A table for up to 16 vertices.
+fn prop_small(words: &mut [u64], m: usize, adders: &[u64])
+    requires { ⌜ (length (now adders) ≤ propWidth) × (m ≤ 16) × (size m + size (length (now adders)) ≤ length (now words)) × Inside m (now adders) ⌝ }
+    ensures { λ r. ⌜ now (words .exit) ≡ putAt (size m) (layerAfter m (now (adders .entry)) (take (size m) (now (words .entry)))) (now (words .entry)) ⌝ }
+{
+    let f = m * m;
+    let mut free = [0u64; 256];
+    let mut with = [0u64; 16];
+    prop_in(words, m, adders, &mut free[..f], &mut with[..m]);
+}
+
+fn prop_wide(words: &mut [u64], m: usize, adders: &[u64])
+    requires { ⌜ (length (now adders) ≤ propWidth) × (m ≤ 64) × (size m + size (length (now adders)) ≤ length (now words)) × Inside m (now adders) ⌝ }
+    ensures { λ r. ⌜ now (words .exit) ≡ putAt (size m) (layerAfter m (now (adders .entry)) (take (size m) (now (words .entry)))) (now (words .entry)) ⌝ }
+{
+    let f = m * m;
+    let mut free = [0u64; 4096];
+    let mut with = [0u64; 64];
+    prop_in(words, m, adders, &mut free[..f], &mut with[..m]);
+}
+
+// Writes the proposition layer behind the layer of m vertices at the front. A small problem does not pay for a wide table.
+pub fn prop_step(words: &mut [u64], m: usize, adders: &[u64])
+    requires { ⌜ (length (now adders) ≤ propWidth) × (m ≤ 64) × (size m + size (length (now adders)) ≤ length (now words)) × Inside m (now adders) ⌝ }
+    ensures { λ r. ⌜ now (words .exit) ≡ putAt (size m) (layerAfter m (now (adders .entry)) (take (size m) (now (words .entry)))) (now (words .entry)) ⌝ }
+{
+    if 16 < m {
+        return prop_wide(words, m, adders);
+    }
+    prop_small(words, m, adders)
 }

@@ -4,6 +4,7 @@ pub mod Words
 pub mod Overs
 pub mod Firsts
 pub mod Layers
+pub mod Members
 pub mod Order
 pub mod Domains
 pub mod Bounds

@@ -5,20 +5,16 @@ use mathlib.Core.Path.{_≡_, sym, ap, subst, _∙_}
 use mathlib.Core.Bool.{Bool, false, true, So, false≢true}
 use mathlib.Core.List.{List, _++_}
 use mathlib.Core.Logic.{⊎-elim}
-use native.Mathlib.Nat.{add-zero, zero-add, le-trans}
+use native.Mathlib.Nat.{zero-add, le-trans}
 use native.Mathlib.Omega.{arith}
 use lib.ListN.{length, getD, drop}
-use lib.Seq.{getD-drop}
 use Rattle.rules.specs.Test.{fails, below}
 use Rattle.rules.specs.Over.{allBelow, firstBelow}
-use Rattle.rules.specs.Lists.{listOver}
 use Rattle.rules.proofs.Tests.{test-eq, choose-held, choose-failed, holds-or, fails-at, below-of, below-at, below-not, below-fails, is-fails}
 use Rattle.rules.proofs.Overs.{below-suc, all-of, all-at}
 use Rattle.rules.proofs.Firsts.{first-unique, first-before}
-use Rattle.rules.proofs.Layers.{length-listOver}
 use Rattle.graph.specs.Verdict.{accepted, refused}
 use Rattle.graph.specs.Memory.{putAt}
-use Rattle.graph.proofs.Writes.{Lists, put-rest}
 use Rattle.run.specs.Run.{firstUnknown, numbersRule, sequenceRule}
 use Rattle.run.specs.Table.{Known}
 use Rattle.graph.proofs.Takens.{passed-if-not}
@@ -72,17 +68,6 @@ sequence-means actions list e =
   where
     known : (i : ℕ) → (So (fails (below (getD list i 0) actions)) → ⊥) → getD list i 0 < actions
     known i known-not = ⊎-elim (below-at _ _) (λ t. absurd (known-not t)) (holds-or (below (getD list i 0) actions))
-
--- ---- a loop that writes from the front on has not yet changed what lies ahead
-
-pub list-ahead : {f : ℕ → ℕ} {n i : ℕ} {w₀ w : List ℕ} → Lists f 0 n w₀ i w → getD w i 0 ≡ getD w₀ i 0
-list-ahead {f} {n} {i} {w₀} {w} s =
-    let l : i ≡ 0 + length (listOver i f) = omega (arith, length-listOver i f) in
-    let e : drop i w ≡ drop i w₀ =
-    ap (drop i) (s .is) ∙ ap (λ (x : ℕ). drop x (putAt 0 (listOver i f) w₀)) l
-    ∙ put-rest 0 (listOver i f) w₀ (omega (arith, length-listOver i f, s .within, s .room)) ∙ ap (λ (x : ℕ). drop x w₀) (sym l) in
-    ap (λ (x : ℕ). getD w x 0) (sym (add-zero i)) ∙ sym (getD-drop i w 0 0) ∙ ap (λ (x : List ℕ). getD x 0 0) e ∙ getD-drop i w₀ 0 0
-    ∙ ap (λ (x : ℕ). getD w₀ x 0) (add-zero i)
 
 -- a list put at the front
 pub put-first : (xs w : List ℕ) → putAt 0 xs w ≡ xs ++ drop (length xs) w

@@ -1,46 +1,120 @@
--- `actions::action_labels` meets its contract: the loop writes one label after the other, and the layer at the front stays.
+-- The loop writes one label after the other, and the layer at the front stays.
 use mathlib.Core.List.{List}
-use mathlib.Core.Path.{refl, ap, sym, _∙_}
-use Prim.Native.Nat.{ℕ, _-_}
+use mathlib.Core.Path.{refl, sym, ap, subst, _∙_}
+use Prim.Native.Nat.{ℕ, _+_, _-_, _*_, _<_, _^_}
 use native.Mathlib.Omega.{arith}
 use native.Mathlib.Nat.{le-refl}
-use lib.ListN.{length, getD, take}
+use lib.ListN.{length, getD, take, drop}
 use borrow.Author.Needs.{needs as simple}
 use Rattle.rules.proofs.Layers.{labels-in}
+use Rattle.rules.specs.Word.{without}
+use Rattle.rules.specs.Over.{joinOf, meetOf}
 use Rattle.rules.specs.Shared.{vertexLabel}
+use Rattle.graph.specs.Rows.{needRows}
+use Rattle.graph.proofs.Places.{small}
 use Rattle.graph.proofs.Steps.{part-length}
 use Rattle.graph.proofs.Writes.{Lists, list-none, list-more, list-done, list-front}
+use Rattle.graph.proofs.Joins.{row-fits}
+use Rattle.graph.proofs.Cells.{mid-length, rows-length, label-here}
 use Rattle.graph.proofs.actions.action_labels.Statement.{statement}
 use Rattle.graph.proofs.actions.action_labels.Tie as tie
 
 abbrev Inv-loop : tie.InvT-loop
-Inv-loop words₀ n at needs all v₀ v-end words v = Lists (λ v. vertexLabel n all (take at words₀) (getD needs v 0)) at (length needs) words₀ v words
+Inv-loop words₀ n at needs rows all v₀ v-end words v = Lists (λ v. vertexLabel n all (take at words₀) (getD needs v 0)) at (length needs) words₀ v words
 
 abbrev μ-loop : tie.MeasureT-loop
-μ-loop words₀ n at needs all v₀ v-end words v = length needs - v
+μ-loop words₀ n at needs rows all v₀ v-end words v = length needs - v
 
 loop-holds : tie.Need-loop-holds Inv-loop μ-loop
 loop-holds c = list-none (search simple)
 
+mul-from : tie.Need-mul-from Inv-loop μ-loop
+mul-from c = omega (arith, small {a = c .before .loop .v} {b = c .before .before .before .before .before .args .n} (omega arith) (omega arith))
+
+add-end : tie.Need-add-end Inv-loop μ-loop
+add-end c = omega (arith, small {a = c .before .loop .v} {b = c .before .before .before .before .before .args .n} (omega arith) (omega arith))
+
 slice-reshare-prefix-vertex-label : tie.Need-slice-reshare-prefix-vertex-label Inv-loop μ-loop
-slice-reshare-prefix-vertex-label c = omega arith
+slice-reshare-prefix-vertex-label c = omega (arith, labels-in (c .before .before .before .before .before .args .n), c .before .loop .inv .long)
 
 slice-aggregate-vertex-label : tie.Need-slice-aggregate-vertex-label Inv-loop μ-loop
-slice-aggregate-vertex-label c = sym (part-length _ _ (omega arith))
+slice-aggregate-vertex-label c = sym (part-length _ _ (omega (
+  arith,
+  labels-in
+      (c .before .before .before .before .before .before .args .n),
+  c .before .before .loop .inv .long,
+)))
 
-mul-t12 : tie.Need-mul-t12 Inv-loop μ-loop
-mul-t12 c = search simple
+mul-vertex-label : tie.Need-mul-vertex-label Inv-loop μ-loop
+mul-vertex-label c = omega (
+  arith,
+  small {a = c .before .before .loop .v} {b = c .before .before .before .before .before .before .args .n} (omega arith)
+      (omega arith),
+)
 
-shared-slice-read-t14 : tie.Need-shared-slice-read-t14 Inv-loop μ-loop
-shared-slice-read-t14 c = search simple
+sub-vertex-label : tie.Need-sub-vertex-label Inv-loop μ-loop
+sub-vertex-label c = omega arith
+
+part-vertex-label-start : tie.Need-part-vertex-label-start Inv-loop μ-loop
+part-vertex-label-start c = omega arith
+
+part-vertex-label-end : tie.Need-part-vertex-label-end Inv-loop μ-loop
+part-vertex-label-end c = omega (
+  arith,
+  row-fits (c .before .before .loop .v) (length (c .before .before .before .before .before .before .args .needs .now))
+      (c .before .before .before .before .before .before .args .n) (length (c .before .before .before .before .before .before .args .rows .now)) (omega arith)
+      (omega (
+        arith,
+        rows-length (c .before .before .before .before .before .before .args .n) (c .before .before .before .before .before .before .args .at)
+            (c .before .before .before .before .before .before .args .words .now) (c .before .before .before .before .before .before .args .needs .now)
+            (c .before .before .before .before .before .before .args .rows .now) (omega (
+              arith,
+              labels-in
+                  (c .before .before .before .before .before .before .args .n),
+            )) (omega arith) (c .before .before .before .before .before .before .pre .5),
+      )),
+)
+
+mul-wide : tie.Need-mul-wide Inv-loop μ-loop
+mul-wide c = search simple
+
+shared-slice-read-wide : tie.Need-shared-slice-read-wide Inv-loop μ-loop
+shared-slice-read-wide c = search simple
+
+wide-requires : tie.Need-wide-requires Inv-loop μ-loop
+wide-requires c κs = tt
 
 vertex-label-requires : tie.Need-vertex-label-requires Inv-loop μ-loop
-vertex-label-requires c κs = omega (
-  arith,
-  labels-in (c .before .before .before .before .before .before .args .n),
-  part-length
-      (c .before .before .before .before .before .before .args .at) (c .before .before .before .loop .words) (omega arith),
-)
+vertex-label-requires c κs = let s = c .before .before .before .before .before .before .before .before .before in
+    let front = part-length (s .args .n) (c .before .before .before .before .before .loop .words) (omega (
+      arith,
+      labels-in
+          (s .args .n),
+      c .before .before .before .before .before .loop .inv .long,
+    )) in
+    let row = mid-length (c .before .before .before .before .before .loop .v * s .args .n) (s .args .n) (s .args .rows .now) (row-fits
+    (c .before .before .before .before .before .loop .v) (length
+    (c .before .before .before .before .before .before .before .before .before .args .needs .now))
+    (c .before .before .before .before .before .before .before .before .before .args .n) (length
+    (c .before .before .before .before .before .before .before .before .before .args .rows .now)) (omega arith)
+    (omega (
+      arith,
+      rows-length (c .before .before .before .before .before .before .before .before .before .args .n)
+          (c .before .before .before .before .before .before .before .before .before .args .at)
+          (c .before .before .before .before .before .before .before .before .before .args .words .now)
+          (c .before .before .before .before .before .before .before .before .before .args .needs .now)
+          (c .before .before .before .before .before .before .before .before .before .args .rows .now) (omega (
+            arith,
+            labels-in
+                (c .before .before .before .before .before .before .before .before .before .args .n),
+          )) (omega arith)
+          (c .before .before .before .before .before .before .before .before .before .pre .5),
+    ))) in (
+      omega (arith, front),
+      row ∙ sym front,
+      subst (λ (m : ℕ). c .wide .result < 2 ^ m) (sym front) (subst (λ (x : ℕ). x < 2 ^ s .args .n) (sym (c .wide .ensures)) (s .pre .4
+          (c .before .before .before .before .before .loop .v) (search simple))),
+    )
 
 add-words : tie.Need-add-words Inv-loop μ-loop
 add-words c = omega arith
@@ -49,7 +123,7 @@ mul-words : tie.Need-mul-words Inv-loop μ-loop
 mul-words c = omega arith
 
 slice-write-words : tie.Need-slice-write-words Inv-loop μ-loop
-slice-write-words c = omega arith
+slice-write-words c = omega (arith, c .before .before .before .before .before .before .loop .inv .long)
 
 add-v : tie.Need-add-v Inv-loop μ-loop
 add-v c = omega arith
@@ -58,11 +132,21 @@ loop-less : tie.Need-loop-less Inv-loop μ-loop
 loop-less c = omega arith
 
 loop-again : tie.Need-loop-again Inv-loop μ-loop
-loop-again c = list-more (c .before .before .before .before .loop .inv) (search simple) refl
-    (c .vertex-label .ensures ∙ ap (λ (l : List ℕ). vertexLabel (c .before .before .before .before .before .before .before .args .n)
-    (c .before .before .before .before .before .before .before .args .all) l
-    (getD (c .before .before .before .before .before .before .before .args .needs .now) (c .before .before .before .before .loop .v) 0))
-    (list-front _ (c .before .before .before .before .loop .inv) (le-refl _)))
+loop-again c = let s = c .before .before .before .before .before .before .before .before .before .before in
+    let w = c .before .before .before .before .before .before .loop .words in
+    let v = c .before .before .before .before .before .before .loop .v in
+    let n = s .args .n in
+    let front = list-front (s .args .at) (c .before .before .before .before .before .before .loop .inv) (le-refl _) in
+    list-more (c .before .before .before .before .before .before .loop .inv) (search simple) refl
+    (c .vertex-label .ensures
+    ∙ ap (λ (x : ℕ). without (meetOf (length (take n w)) x (λ i. getD (take n w) i 0) (s .args .all))
+    (joinOf (length (take (v * n + n - v * n) (drop (v * n) (s .args .rows .now)))) x (λ i. getD (take (v * n + n - v * n) (drop (v * n)
+    (s .args .rows .now))) i 0)))
+    (c .before .wide .ensures)
+    ∙ label-here n (s .args .at) w (s .args .needs .now) (s .args .rows .now) (omega (arith, labels-in n)) (omega
+    (arith, c .before .before .before .before .before .before .loop .inv .long))
+    (s .pre .5 ∙ ap (λ (l : List ℕ). needRows n l (s .args .needs .now)) (sym front)) v (s .args .all) (search simple)
+    ∙ ap (λ (l : List ℕ). vertexLabel n (s .args .all) l (getD (s .args .needs .now) v 0)) front)
 
 same-length : tie.Need-same-length Inv-loop μ-loop
 same-length c = c .before .loop .inv .long
@@ -77,10 +161,17 @@ action-labels-spec =
     Inv-loop
     μ-loop
     loop-holds
+    mul-from
+    add-end
     slice-reshare-prefix-vertex-label
     slice-aggregate-vertex-label
-    mul-t12
-    shared-slice-read-t14
+    mul-vertex-label
+    sub-vertex-label
+    part-vertex-label-start
+    part-vertex-label-end
+    mul-wide
+    shared-slice-read-wide
+    wide-requires
     vertex-label-requires
     add-words
     mul-words

@@ -1,14 +1,15 @@
--- `actions::action_pair` meets its contract: the layer is the part before the labels.
-use mathlib.Core.Bool.{Bool}
-use mathlib.Core.Path.{ap, sym, _∙_}
-use Prim.Native.Nat.{_+_}
+-- Each way out is the word of the pair.
+use mathlib.Core.Path.{sym, ap, subst, _∙_}
+use Prim.Native.Nat.{ℕ, _+_, _-_, _*_, _<_, _^_}
 use native.Mathlib.Omega.{arith}
-use lib.ListN.{getD, take}
-use borrow.Author.Needs.{needs}
+use lib.ListN.{length, getD, take, drop}
 use Rattle.rules.specs.Word.{common}
-use Rattle.rules.specs.Shared.{vertexMutex}
-use Rattle.graph.proofs.Steps.{part-length}
-use Rattle.graph.specs.Listed.{pairWord}
+use Rattle.rules.specs.Over.{joinOf}
+use Rattle.rules.proofs.Layers.{labels-in}
+use Rattle.graph.proofs.Places.{small}
+use Rattle.graph.proofs.Joins.{row-fits}
+use Rattle.graph.proofs.Cells.{mid-length, rows-length, pair-none, pair-foe, pair-row}
+use borrow.Author.Needs.{needs}
 use Rattle.graph.proofs.actions.action_pair.Statement.{statement}
 use Rattle.graph.proofs.actions.action_pair.Tie as tie
 
@@ -30,37 +31,172 @@ mul-both-2 c = search needs
 shared-slice-read-both-2 : tie.Need-shared-slice-read-both-2
 shared-slice-read-both-2 c = search needs
 
-interferes-requires : tie.Need-interferes-requires
-interferes-requires c κs = search needs
+returns : tie.Need-returns
+returns c = pair-none (c .before .before .before .before .before .before .before .args .n)
+    (c .before .before .before .before .before .before .before .args .at) (c .before .before .before .before .before .before .before .args .words .now)
+    (c .before .before .before .before .before .before .before .args .needs .now)
+    (c .before .before .before .before .before .before .before .args .rows .now) (omega (
+      arith,
+      labels-in
+          (c .before .before .before .before .before .before .before .args .n),
+    )) (omega arith) (c .before .before .before .before .before .before .before .pre .3)
+    (c .before .before .before .before .before .before .before .args .foes .now) (common (getD
+    (c .before .before .before .before .before .before .before .args .words .now)
+    (c .before .before .before .before .before .before .before .args .at + c .before .before .before .before .before .before .before .args .v) 0) (getD
+    (c .before .before .before .before .before .before .before .args .words .now)
+    (c .before .before .before .before .before .before .before .args .at + c .before .before .before .before .before .before .before .args .w) 0))
+    (c .before .before .before .before .before .before .before .args .v) (c .before .before .before .before .before .before .before .args .w)
+    (c .before .before .before .before .before .before .before .pre .4) (c .if1 .taken)
 
-slice-aggregate-vertex-mutex : tie.Need-slice-aggregate-vertex-mutex
-slice-aggregate-vertex-mutex c = sym (part-length _ _ (search needs))
+mul-join-at : tie.Need-mul-join-at
+mul-join-at c = search needs
 
-mul-t11 : tie.Need-mul-t11
-mul-t11 c = search needs
+shared-slice-read-join-at : tie.Need-shared-slice-read-join-at
+shared-slice-read-join-at c = search needs
 
-shared-slice-read-t22 : tie.Need-shared-slice-read-t22
-shared-slice-read-t22 c = search needs
+has-requires : tie.Need-has-requires
+has-requires c κs = search needs
 
-mul-t12 : tie.Need-mul-t12
-mul-t12 c = search needs
+returns-2 : tie.Need-returns-2
+returns-2 c = pair-foe (c .before .before .before .before .before .before .before .before .before .before .args .n)
+    (c .before .before .before .before .before .before .before .before .before .before .args .at)
+    (c .before .before .before .before .before .before .before .before .before .before .args .words .now)
+    (c .before .before .before .before .before .before .before .before .before .before .args .needs .now)
+    (c .before .before .before .before .before .before .before .before .before .before .args .rows .now) (omega (
+      arith,
+      labels-in
+          (c .before .before .before .before .before .before .before .before .before .before .args .n),
+    )) (omega arith)
+    (c .before .before .before .before .before .before .before .before .before .before .pre .3)
+    (c .before .before .before .before .before .before .before .before .before .before .args .foes .now) (common (getD
+    (c .before .before .before .before .before .before .before .before .before .before .args .words .now)
+    (c .before .before .before .before .before .before .before .before .before .before .args .at + c .before .before .before .before .before .before .before
+    .before .before .before .args .v) 0) (getD (c .before .before .before .before .before .before .before .before .before .before .args .words .now)
+    (c .before .before .before .before .before .before .before .before .before .before .args .at + c .before .before .before .before .before .before .before
+    .before .before .before .args .w) 0)) (c .before .before .before .before .before .before .before .before .before .before .args .v)
+    (c .before .before .before .before .before .before .before .before .before .before .args .w)
+    (c .before .before .before .before .before .before .before .before .before .before .pre .4) (sym (c .before .has .ensures) ∙ c .if2 .taken)
 
-shared-slice-read-t25 : tie.Need-shared-slice-read-t25
-shared-slice-read-t25 c = search needs
-
-vertex-mutex-requires : tie.Need-vertex-mutex-requires
-vertex-mutex-requires c κs = omega (
+mul-from : tie.Need-mul-from
+mul-from c = omega (
   arith,
-  part-length (c .before .before .before .before .before .before .before .before .before .before .args .at)
-      (c .before .before .before .before .before .before .before .before .before .before .args .words .now) (omega arith),
+  small {a = c .before .before .before .before .before .before .before .before .before .before .args .v} {b = c .before .before
+      .before .before .before .before .before .before .before .before .args .n} (omega
+      (arith, c .before .before .before .before .before .before .before .before .before .before .pre .0 .room)) (omega
+      (arith, c .before .before .before .before .before .before .before .before .before .before .pre .0 .few)),
 )
 
-returns : tie.Need-returns
-unfolding pairWord
-returns c = let a = c .before .before .before .before .before .before .before .before .before .before .before .args in
-    c .vertex-mutex .ensures ∙ ap (λ (b : Bool). vertexMutex (a .n) (take (a .at) (a .words .now)) b
-    (common (getD (a .words .now) (a .at + a .v) 0) (getD (a .words .now) (a .at + a .w) 0))
-    (getD (a .needs .now) (a .v) 0) (getD (a .needs .now) (a .w) 0)) (c .before .before .before .before .interferes .ensures)
+add-end : tie.Need-add-end
+add-end c = omega (
+  arith,
+  small {a = c .before .before .before .before .before .before .before .before .before .before .args .v} {b = c .before .before
+      .before .before .before .before .before .before .before .before .args .n} (omega
+      (arith, c .before .before .before .before .before .before .before .before .before .before .pre .0 .room)) (omega
+      (arith, c .before .before .before .before .before .before .before .before .before .before .pre .0 .few)),
+  c .before .before .before .before .before
+      .before .before .before .before .before .pre .0 .few,
+)
+
+mul-join-at-2 : tie.Need-mul-join-at-2
+mul-join-at-2 c = omega (
+  arith,
+  small {a = c .before .before .before .before .before .before .before .before .before .before .args .v} {b = c .before .before .before .before
+      .before .before .before .before .before .before .args .n} (omega
+      (arith, c .before .before .before .before .before .before .before .before .before .before .pre .0 .room)) (omega
+      (arith, c .before .before .before .before .before .before .before .before .before .before .pre .0 .few)),
+)
+
+sub-join-at : tie.Need-sub-join-at
+sub-join-at c = search needs
+
+part-join-at-start : tie.Need-part-join-at-start
+part-join-at-start c = search needs
+
+part-join-at-end : tie.Need-part-join-at-end
+part-join-at-end c = omega (
+  arith,
+  row-fits (c .before .before .before .before .before .before .before .before .before .before .args .v) (length
+      (c .before .before .before .before .before .before .before .before .before .before .args .needs .now))
+      (c .before .before .before .before .before .before .before .before .before .before .args .n) (length
+      (c .before .before .before .before .before .before .before .before .before .before .args .rows .now))
+      (c .before .before .before .before .before .before .before .before .before .before .pre .4)
+      (omega (
+        arith,
+        rows-length (c .before .before .before .before .before .before .before .before .before .before .args .n)
+            (c .before .before .before .before .before .before .before .before .before .before .args .at)
+            (c .before .before .before .before .before .before .before .before .before .before .args .words .now)
+            (c .before .before .before .before .before .before .before .before .before .before .args .needs .now)
+            (c .before .before .before .before .before .before .before .before .before .before .args .rows .now) (omega (
+              arith,
+              labels-in
+                  (c .before .before .before .before .before .before .before .before .before .before .args .n),
+            )) (omega arith)
+            (c .before .before .before .before .before .before .before .before .before .before .pre .3),
+      )),
+)
+
+mul-wide : tie.Need-mul-wide
+mul-wide c = search needs
+
+shared-slice-read-wide : tie.Need-shared-slice-read-wide
+shared-slice-read-wide c = search needs
+
+wide-requires : tie.Need-wide-requires
+wide-requires c κs = search needs
+
+join-at-requires : tie.Need-join-at-requires
+join-at-requires c κs = let s = c .before .before .before .before .before .before .before .before .before .before .before .before .before in
+    let row = mid-length (s .args .v * s .args .n) (s .args .n) (s .args .rows .now) (row-fits
+    (c .before .before .before .before .before .before .before .before .before .before .before .before .before .args .v) (length
+    (c .before .before .before .before .before .before .before .before .before .before .before .before .before .args .needs .now))
+    (c .before .before .before .before .before .before .before .before .before .before .before .before .before .args .n) (length
+    (c .before .before .before .before .before .before .before .before .before .before .before .before .before .args .rows .now))
+    (c .before .before .before .before .before .before .before .before .before .before .before .before .before .pre .4)
+    (omega (
+      arith,
+      rows-length (c .before .before .before .before .before .before .before .before .before .before .before .before .before .args .n)
+          (c .before .before .before .before .before .before .before .before .before .before .before .before .before .args .at)
+          (c .before .before .before .before .before .before .before .before .before .before .before .before .before .args .words .now)
+          (c .before .before .before .before .before .before .before .before .before .before .before .before .before .args .needs .now)
+          (c .before .before .before .before .before .before .before .before .before .before .before .before .before .args .rows .now) (omega (
+            arith,
+            labels-in
+                (c .before .before .before .before .before .before .before .before .before .before .before .before .before .args .n),
+          )) (omega arith)
+          (c .before .before .before .before .before .before .before .before .before .before .before .before .before .pre .3),
+    ))) in (
+      omega (arith, row, s .pre .0 .few),
+      subst (λ (m : ℕ). c .wide .result < 2 ^ m) (sym row) (subst (λ (x : ℕ). x < 2 ^ s .args .n) (sym (c .wide .ensures)) (s .pre .0 .need-sets (s .args .w)
+          (search needs))),
+    )
+
+returns-3 : tie.Need-returns-3
+returns-3 c = let s = c .before .before .before .before .before .before .before .before .before .before .before .before .before .before in
+    let n = s .args .n in
+    let from = s .args .v * n in
+    ap (common (common (getD (s .args .words .now) (s .args .at + s .args .v) 0) (getD (s .args .words .now) (s .args .at + s .args .w) 0)))
+    (c .join-at .ensures
+    ∙ ap (λ (x : ℕ). joinOf (length (take (from + n - from) (drop from (s .args .rows .now)))) x (λ i. getD (take (from + n - from) (drop from
+    (s .args .rows .now))) i 0))
+    (c .before .wide .ensures))
+    ∙ pair-row (c .before .before .before .before .before .before .before .before .before .before .before .before .before .before .args .n)
+    (c .before .before .before .before .before .before .before .before .before .before .before .before .before .before .args .at)
+    (c .before .before .before .before .before .before .before .before .before .before .before .before .before .before .args .words .now)
+    (c .before .before .before .before .before .before .before .before .before .before .before .before .before .before .args .needs .now)
+    (c .before .before .before .before .before .before .before .before .before .before .before .before .before .before .args .rows .now) (omega
+    (arith, labels-in (c .before .before .before .before .before .before .before .before .before .before .before .before .before .before .args .n)))
+    (omega arith) (c .before .before .before .before .before .before .before .before .before .before .before .before .before .before .pre .3)
+    (c .before .before .before .before .before .before .before .before .before .before .before .before .before .before .args .foes .now) (common (getD
+    (c .before .before .before .before .before .before .before .before .before .before .before .before .before .before .args .words .now)
+    (c .before .before .before .before .before .before .before .before .before .before .before .before .before .before .args .at + c .before .before .before
+    .before .before .before .before .before .before .before .before .before .before .before .args .v) 0) (getD
+    (c .before .before .before .before .before .before .before .before .before .before .before .before .before .before .args .words .now)
+    (c .before .before .before .before .before .before .before .before .before .before .before .before .before .before .args .at + c .before .before .before
+    .before .before .before .before .before .before .before .before .before .before .before .args .w) 0))
+    (c .before .before .before .before .before .before .before .before .before .before .before .before .before .before .args .v)
+    (c .before .before .before .before .before .before .before .before .before .before .before .before .before .before .args .w)
+    (c .before .before .before .before .before .before .before .before .before .before .before .before .before .before .pre .4) (sym
+    (c .before .before .before .before .before .has .ensures) ∙ c .before .before .before .before .if2 .left)
 
 pub action-pair-spec : {M : Type 1} → statement M
 action-pair-spec =
@@ -72,11 +208,19 @@ action-pair-spec =
     add-both-2
     mul-both-2
     shared-slice-read-both-2
-    interferes-requires
-    slice-aggregate-vertex-mutex
-    mul-t11
-    shared-slice-read-t22
-    mul-t12
-    shared-slice-read-t25
-    vertex-mutex-requires
-    returns)
+    returns
+    mul-join-at
+    shared-slice-read-join-at
+    has-requires
+    returns-2
+    mul-from
+    add-end
+    mul-join-at-2
+    sub-join-at
+    part-join-at-start
+    part-join-at-end
+    mul-wide
+    shared-slice-read-wide
+    wide-requires
+    join-at-requires
+    returns-3)

@@ -1,6 +1,6 @@
--- `actions::action_pairs` meets its contract: the loop writes one row behind the other, and the labels stay.
+-- The loop writes one row behind the other, and the labels stay.
 use mathlib.Core.List.{List}
-use mathlib.Core.Path.{ap, _∙_}
+use mathlib.Core.Path.{sym, ap, _∙_}
 use Prim.Native.Nat.{ℕ, _+_, _-_}
 use native.Mathlib.Omega.{arith}
 use native.Mathlib.Nat.{le-refl}
@@ -12,15 +12,16 @@ use Rattle.graph.proofs.Steps.{row-front, row-room}
 use Rattle.graph.proofs.Writes.{Runs, run-none, run-more, run-done, run-front}
 use Rattle.graph.specs.Memory.{putAt}
 use Rattle.graph.specs.Listed.{over, pairWord}
+use Rattle.graph.specs.Rows.{needRows}
 use Rattle.graph.proofs.actions.action_pairs.Statement.{statement}
 use Rattle.graph.proofs.actions.action_pairs.Tie as tie
 
 abbrev Inv-loop : tie.InvT-loop
-Inv-loop words₀ n at needs adds dels to₀ v₀ v-end words to v = Runs (rowOf (length needs) (over (pairWord n needs adds dels) at words₀)) (at + length needs)
+Inv-loop words₀ n at needs foes rows to₀ v₀ v-end words to v = Runs (rowOf (length needs) (over (pairWord n needs foes) at words₀)) (at + length needs)
     (length needs) words₀ v to words
 
 abbrev μ-loop : tie.MeasureT-loop
-μ-loop words₀ n at needs adds dels to₀ v₀ v-end words to v = length needs - v
+μ-loop words₀ n at needs foes rows to₀ v₀ v-end words to v = length needs - v
 
 add-to : tie.Need-add-to Inv-loop μ-loop
 add-to c = omega (arith, size-pairs (length (c .before .before .before .before .args .needs .now)))
@@ -34,10 +35,13 @@ action-row-requires c κs = let a = c .before .before .before .before .before .b
       search simple,
       search simple,
       omega (arith, i .here),
+      c .before .before .before .before .before .before .before .pre .2
+          ∙ ap (λ (l : List ℕ). needRows (a .n) l (a .needs .now)) (sym (run-front (a .at) i (omega arith))),
       omega (
         arith,
-        row-room (length (a .needs .now)) (a .at + length (a .needs .now)) _ _
-            (length (a .words .now)) _ (i .here) (search simple) (omega (arith, size-pairs (length (a .needs .now)))),
+        row-room (length (a .needs .now)) (a .at + length (a .needs .now)) (c .before .before .loop .v) _ (length (a .words .now)) _ (i .here)
+            (search simple)
+            (omega (arith, size-pairs (length (a .needs .now)))),
         i .long,
       ),
       search simple,
@@ -54,7 +58,8 @@ add-to-2 c = let a = c .before .before .before .before .before .before .before .
     let i = c .before .before .before .before .before .loop .inv in
     omega (
       arith,
-      row-room (length (a .needs .now)) (a .at + length (a .needs .now)) _ _ (length (a .words .now)) _ (i .here) (search simple)
+      row-room (length (a .needs .now)) (a .at + length (a .needs .now)) (c .before .before .before .before .before .loop .v) _ (length
+          (a .words .now)) _ (i .here) (search simple)
           (omega (arith, size-pairs (length (a .needs .now)))),
     )
 
@@ -68,12 +73,13 @@ loop-again : tie.Need-loop-again Inv-loop μ-loop
 loop-again c = let a = c .before .before .before .before .before .before .before .before .before .before .args in
     let i = c .before .before .before .before .before .loop .inv in
     run-more _ i (search simple) (row-room (length (a .needs .now)) (a .at + length (a .needs .now)) (c .before .before .before .before .before .loop .v) _
-    (length (a .words .now)) _ (i .here) (search simple) (omega (arith, size-pairs (length (a .needs .now))))) (length-rowOf _ _ _)
+    (length (a .words .now)) _ (i .here) (search simple)
+    (omega (arith, size-pairs (length (a .needs .now))))) (length-rowOf _ _ _)
     (c .before .before .action-row .ensures ∙ ap (λ (l : List ℕ). putAt (c .before .before .before .before .before .loop .to) l
     (c .before .before .before .before .before .loop .words))
-    (row-front (pairWord (a .n) (a .needs .now) (a .adds .now) (a .dels .now)) (length (a .needs .now)) (a .at) (a .at + length (a .needs .now))
-    (a .words .now) (c .before .before .before .before .before .loop .words) (c .before .before .before .before .before .loop .v)
-    (run-front _ i (le-refl _)) (le-refl _) (search simple)))
+    (row-front (pairWord (a .n) (a .needs .now) (a .foes .now)) (length (a .needs .now)) (a .at) (a .at + length (a .needs .now))
+    (a .words .now) (c .before .before .before .before .before .loop .words) (c .before .before .before .before .before .loop .v) (run-front _ i
+    (le-refl _)) (le-refl _) (search simple)))
 
 same-length : tie.Need-same-length Inv-loop μ-loop
 same-length c = c .before .loop .inv .long

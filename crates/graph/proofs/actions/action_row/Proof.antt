@@ -1,6 +1,7 @@
--- `actions::action_row` meets its contract: the loop writes one pair after the other, and all before the row stays.
-use mathlib.Core.Path.{refl}
-use Prim.Native.Nat.{_+_, _-_}
+-- The loop writes one pair after the other, and all before the row stays.
+use mathlib.Core.List.{List}
+use mathlib.Core.Path.{refl, sym, ap, _∙_}
+use Prim.Native.Nat.{ℕ, _+_, _-_}
 use native.Mathlib.Omega.{arith}
 use native.Mathlib.Nat.{le-refl}
 use lib.ListN.{length}
@@ -9,14 +10,15 @@ use Rattle.rules.specs.Layer.{rowOf}
 use Rattle.graph.proofs.Steps.{pair-front}
 use Rattle.graph.proofs.Writes.{Lists, list-none, list-more, list-done, list-front}
 use Rattle.graph.specs.Listed.{over, pairWord}
+use Rattle.graph.specs.Rows.{needRows}
 use Rattle.graph.proofs.actions.action_row.Statement.{statement}
 use Rattle.graph.proofs.actions.action_row.Tie as tie
 
 abbrev Inv-loop : tie.InvT-loop
-Inv-loop words₀ n at to needs adds dels v m k₀ words k = Lists (λ k. over (pairWord n needs adds dels) at words₀ v (v + 1 + k)) to m words₀ k words
+Inv-loop words₀ n at to needs foes rows v m k₀ words k = Lists (λ k. over (pairWord n needs foes) at words₀ v (v + 1 + k)) to m words₀ k words
 
 abbrev μ-loop : tie.MeasureT-loop
-μ-loop words₀ n at to needs adds dels v m k₀ words k = m - k
+μ-loop words₀ n at to needs foes rows v m k₀ words k = m - k
 
 sub-m : tie.Need-sub-m Inv-loop μ-loop
 sub-m c = search simple
@@ -34,7 +36,15 @@ add-action-pair-2 : tie.Need-add-action-pair-2 Inv-loop μ-loop
 add-action-pair-2 c = search simple
 
 action-pair-requires : tie.Need-action-pair-requires Inv-loop μ-loop
-action-pair-requires c κs = search simple
+action-pair-requires c κs = let a = c .before .before .before .before .before .before .before .args in (
+  search simple,
+  search simple,
+  omega (arith, c .before .before .loop .inv .long),
+  c .before .before .before .before .before .before .before .pre .3
+      ∙ ap (λ (l : List ℕ). needRows (a .n) l (a .needs .now)) (sym (list-front (a .at) (c .before .before .loop .inv) (omega arith))),
+  search simple,
+  omega arith,
+)
 
 add-words : tie.Need-add-words Inv-loop μ-loop
 add-words c = omega arith
@@ -43,7 +53,7 @@ mul-words : tie.Need-mul-words Inv-loop μ-loop
 mul-words c = omega arith
 
 slice-write-words : tie.Need-slice-write-words Inv-loop μ-loop
-slice-write-words c = omega arith
+slice-write-words c = omega (arith, c .before .before .before .loop .inv .long)
 
 add-k : tie.Need-add-k Inv-loop μ-loop
 add-k c = omega arith
@@ -54,7 +64,7 @@ loop-less c = omega arith
 loop-again : tie.Need-loop-again Inv-loop μ-loop
 loop-again c = let a = c .before .before .before .before .before .before .before .before .args in
     list-more (c .before .before .before .loop .inv) (search simple) refl
-    (pair-front (pairWord (a .n) (a .needs .now) (a .adds .now) (a .dels .now)) (length (a .needs .now)) (a .at) (a .to) (a .words .now)
+    (pair-front (pairWord (a .n) (a .needs .now) (a .foes .now)) (length (a .needs .now)) (a .at) (a .to) (a .words .now)
     (c .before .before .before .loop .words) (a .v) (a .v + 1 + c .before .before .before .loop .k) _
     (list-front _ (c .before .before .before .loop .inv) (le-refl _)) (omega arith) (omega arith) (omega arith) (c .action-pair .ensures))
 

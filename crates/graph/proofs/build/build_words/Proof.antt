@@ -1,8 +1,8 @@
--- `build::build_words` meets its contract: it lends its arrays, cut to size.
+-- It lends its arrays, cut to size.
 use mathlib.Core.Path.{sym}
 use native.Mathlib.Omega.{arith}
-use borrow.Author.Needs.{needs}
 use Rattle.graph.proofs.Steps.{part-length}
+use borrow.Author.Needs.{needs}
 use Rattle.graph.proofs.build.build_words.Statement.{statement}
 use Rattle.graph.proofs.build.build_words.Tie as tie
 
@@ -33,17 +33,36 @@ array-borrow-prefix-starts c = search needs
 slice-aggregate-build-in-4 : tie.Need-slice-aggregate-build-in-4
 slice-aggregate-build-in-4 c = sym (part-length _ _ (omega arith))
 
+array-borrow-prefix-adders : tie.Need-array-borrow-prefix-adders
+array-borrow-prefix-adders c = search needs
+
+slice-aggregate-build-in-5 : tie.Need-slice-aggregate-build-in-5
+slice-aggregate-build-in-5 c = sym (part-length _ _ (omega arith))
+
+array-borrow-prefix-foes : tie.Need-array-borrow-prefix-foes
+array-borrow-prefix-foes c = search needs
+
+slice-aggregate-build-in-6 : tie.Need-slice-aggregate-build-in-6
+slice-aggregate-build-in-6 c = sym (part-length _ _ (omega arith))
+
 build-in-requires : tie.Need-build-in-requires
 build-in-requires c κs = (
-  c .before .before .before .before .before .before .before .before .pre,
-  (part-length _ _ (omega arith), part-length _ _ (omega arith), part-length _ _ (omega arith), part-length _ _ (omega arith)),
+  c .before .before .before .before .before .before .before .before .before .before .pre,
+  (
+    part-length _ _ (omega arith),
+    part-length _ _ (omega arith),
+    part-length _ _ (omega arith),
+    part-length _ _ (omega arith),
+    part-length _ _ (omega arith),
+    part-length _ _ (omega arith),
+  ),
 )
 
 same-length : tie.Need-same-length
 same-length c = search needs
 
 returns : tie.Need-returns
-returns c = c .before .before .before .before .before .before .build-in .ensures
+returns c = search needs
 
 pub build-words-spec : {M : Type 1} → statement M
 build-words-spec =
@@ -58,6 +77,10 @@ build-words-spec =
     slice-aggregate-build-in-3
     array-borrow-prefix-starts
     slice-aggregate-build-in-4
+    array-borrow-prefix-adders
+    slice-aggregate-build-in-5
+    array-borrow-prefix-foes
+    slice-aggregate-build-in-6
     build-in-requires
     same-length
     returns)

@@ -1,24 +1,27 @@
--- The label of the needs, without what keeps two of them apart, is the rule itself.
-use mathlib.Core.Path.{ap₂, _∙_}
-use borrow.Author.Needs.{needs}
+-- The two joins over the needs.
+use mathlib.Core.Path.{sym, ap₂, subst, _∙_}
+use Prim.Native.Nat.{ℕ, _<_, _^_}
+use native.Mathlib.Omega.{arith}
 use Rattle.rules.specs.Word.{without}
-use Rattle.rules.specs.Shared.{vertexLabel}
+use borrow.Author.Needs.{needs}
 use Rattle.graph.proofs.label.vertex_label.Statement.{statement}
 use Rattle.graph.proofs.label.vertex_label.Tie as tie
 
-needs-label-requires : tie.Need-needs-label-requires
-needs-label-requires c κs = search needs
+meet-at-requires : tie.Need-meet-at-requires
+meet-at-requires c κs = search needs
 
-needs-apart-requires : tie.Need-needs-apart-requires
-needs-apart-requires c κs = search needs
+join-at-requires : tie.Need-join-at-requires
+join-at-requires c κs = (
+  omega arith,
+  subst (λ (n : ℕ). c .before .before .before .args .needs < 2 ^ n) (sym (c .before .before .before .pre .1))
+      (search needs),
+)
 
 without-requires : tie.Need-without-requires
 without-requires c κs = search needs
 
 returns : tie.Need-returns
-unfolding vertexLabel
-returns c = c .without .ensures ∙ ap₂ without (c .before .before .needs-label .ensures) (c .before .needs-apart .ensures)
+returns c = c .without .ensures ∙ ap₂ (λ (x y : ℕ). without x y) (c .before .before .meet-at .ensures) (c .before .join-at .ensures)
 
 pub vertex-label-spec : {M : Type 1} → statement M
-vertex-label-spec =
-    tie.close (tie.spec needs-label-requires needs-apart-requires without-requires returns)
+vertex-label-spec = tie.close (tie.spec meet-at-requires join-at-requires without-requires returns)

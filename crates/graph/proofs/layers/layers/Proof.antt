@@ -12,7 +12,7 @@ use Rattle.graph.proofs.layers.layers.Tie as tie
 start-step-requires : tie.Need-start-step-requires
 unfolding listed
 start-step-requires c κs = let a = c .before .before .before .before .before .before .args in omega
-    (arith, count-stride (listed (a .n) (a .needs .now) (a .adds .now) (a .dels .now)) (a .depth))
+    (arith, count-stride (listed (a .n) (a .needs .now) (a .adders .now) (a .foes .now)) (a .depth))
 
 first-requires : tie.Need-first-requires
 first-requires c κs = search needs
@@ -20,7 +20,7 @@ first-requires c κs = search needs
 steps-requires : tie.Need-steps-requires
 unfolding listed
 steps-requires c κs = let a = c .before .before .before .before .before .before .before .before .before .before .before .args in
-    (search needs, search needs, omega (arith, count-stride (listed (a .n) (a .needs .now) (a .adds .now) (a .dels .now)) (a .depth)))
+    (search needs, search needs, omega (arith, count-stride (listed (a .n) (a .needs .now) (a .adders .now) (a .foes .now)) (a .depth)))
 
 same-length : tie.Need-same-length
 same-length c = search needs
@@ -28,8 +28,8 @@ same-length c = search needs
 returns : tie.Need-returns
 unfolding listed startLayer
 returns c = let a = c .before .before .before .before .before .before .before .before .before .before .before .before .before .before .args in
-    layers-put (listed (a .n) (a .needs .now) (a .adds .now) (a .dels .now)) (length (a .starts .now)) (λ s. getD (a .starts .now) s 0) (a .depth) _
-    (a .words .now) _ _ (omega (arith, count-stride (listed (a .n) (a .needs .now) (a .adds .now) (a .dels .now)) (a .depth)))
+    layers-put (listed (a .n) (a .needs .now) (a .adders .now) (a .foes .now)) (length (a .starts .now)) (λ s. getD (a .starts .now) s 0) (a .depth) _
+    (a .words .now) _ _ (omega (arith, count-stride (listed (a .n) (a .needs .now) (a .adders .now) (a .foes .now)) (a .depth)))
     (c .before .before .before .before .first .ensures) (c .before .before .before .before .before .before .before .start-step .ensures)
     (c .before .before .steps .ensures)
 

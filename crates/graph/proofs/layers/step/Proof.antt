@@ -27,10 +27,15 @@ part-prop-step-end : tie.Need-part-prop-step-end
 part-prop-step-end c = search needs
 
 prop-step-requires : tie.Need-prop-step-requires
-prop-step-requires c κs = omega (
-  arith,
-  ap size (c .before .before .before .before .before .before .before .before .before .before .pre .0 .adders),
-  tail-length (c .before .layer-size .result) (c .before .before .before .before .action-step .last .0) (omega arith),
+prop-step-requires c κs = let s = c .before .before .before .before .before .before .before .before .before .before .pre .0 in (
+  omega (arith, s .adders-long, s .acts .few),
+  s .acts .room,
+  omega (
+    arith,
+    ap size (s .adders-long),
+    tail-length (c .before .layer-size .result) (c .before .before .before .before .action-step .last .0) (omega arith),
+  ),
+  s .add-sets,
 )
 
 same-length : tie.Need-same-length
@@ -38,7 +43,7 @@ same-length c = search needs
 
 returns : tie.Need-returns
 returns c = let a = c .before .before .before .before .before .before .before .before .before .before .before .before .before .args in
-    step-put (a .n) (a .all) _ (a .needs .now) (a .adds .now) (a .dels .now) (a .words .now) _ _
+    step-put (a .n) (a .all) _ (a .needs .now) (a .adders .now) (a .foes .now) (a .words .now) _ _
     (c .before .before .before .before .before .before .before .before .before .before .before .before .before .pre .0) (search needs) (search needs)
     (c .before .before .before .before .before .before .before .action-step .ensures) (c .before .before .prop-step .ensures)
 

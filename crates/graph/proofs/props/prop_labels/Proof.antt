@@ -1,34 +1,47 @@
--- `props::prop_labels` meets its contract: the loop writes one label after the other, and the layer at the front stays.
+-- The loop writes one label after the other, and the layer at the front stays.
 use mathlib.Core.List.{List}
-use mathlib.Core.Path.{refl, ap, sym, _∙_}
-use Prim.Native.Nat.{ℕ, _-_}
+use mathlib.Core.Path.{refl, sym, ap, subst, _∙_}
+use Prim.Native.Nat.{ℕ, _-_, _<_, _^_}
 use native.Mathlib.Omega.{arith}
 use native.Mathlib.Nat.{le-refl}
 use lib.ListN.{length, getD, take}
 use borrow.Author.Needs.{needs as simple}
 use Rattle.rules.specs.Shared.{nextLabel}
+use Rattle.graph.specs.Listed.{addedBy}
 use Rattle.graph.proofs.Steps.{part-length}
 use Rattle.graph.proofs.Writes.{Lists, list-none, list-more, list-done, list-front}
+use Rattle.graph.proofs.Nexts.{label-next}
 use Rattle.graph.proofs.props.prop_labels.Statement.{statement}
 use Rattle.graph.proofs.props.prop_labels.Tie as tie
 
 abbrev Inv-loop : tie.InvT-loop
-Inv-loop words₀ n at adds p₀ words p = Lists (nextLabel (length adds) (λ v. getD adds v 0) (take at words₀)) at n words₀ p words
+Inv-loop words₀ m at adders p₀ p-end words p = Lists (nextLabel m (addedBy adders) (take at words₀)) at (length adders) words₀ p words
 
 abbrev μ-loop : tie.MeasureT-loop
-μ-loop words₀ n at adds p₀ words p = n - p
+μ-loop words₀ m at adders p₀ p-end words p = length adders - p
 
 loop-holds : tie.Need-loop-holds Inv-loop μ-loop
 loop-holds c = list-none (search simple)
 
-slice-reshare-prefix-next-label : tie.Need-slice-reshare-prefix-next-label Inv-loop μ-loop
-slice-reshare-prefix-next-label c = omega arith
+slice-reshare-prefix-join-at : tie.Need-slice-reshare-prefix-join-at Inv-loop μ-loop
+slice-reshare-prefix-join-at c = omega (arith, c .before .loop .inv .long)
 
-slice-aggregate-next-label : tie.Need-slice-aggregate-next-label Inv-loop μ-loop
-slice-aggregate-next-label c = sym (part-length _ _ (omega arith))
+slice-aggregate-join-at : tie.Need-slice-aggregate-join-at Inv-loop μ-loop
+slice-aggregate-join-at c = sym (part-length _ _ (omega (arith, c .before .before .loop .inv .long)))
 
-next-label-requires : tie.Need-next-label-requires Inv-loop μ-loop
-next-label-requires c κs = omega (arith, part-length (c .before .before .before .before .before .args .at) (c .before .before .loop .words) (omega arith))
+mul-join-at : tie.Need-mul-join-at Inv-loop μ-loop
+mul-join-at c = omega arith
+
+shared-slice-read-join-at : tie.Need-shared-slice-read-join-at Inv-loop μ-loop
+shared-slice-read-join-at c = omega arith
+
+join-at-requires : tie.Need-join-at-requires Inv-loop μ-loop
+join-at-requires c κs = let s = c .before .before .before .before .before .before in
+    let front = part-length (s .args .m) (c .before .before .before .loop .words) (omega (arith, c .before .before .before .loop .inv .long)) in (
+      omega (arith, front),
+      subst (λ (n : ℕ). getD (s .args .adders .now) (c .before .before .before .loop .p) 0 < 2 ^ n) (sym front)
+          (s .pre .4 (c .before .before .before .loop .p) (search simple)),
+    )
 
 add-words : tie.Need-add-words Inv-loop μ-loop
 add-words c = omega arith
@@ -37,7 +50,7 @@ mul-words : tie.Need-mul-words Inv-loop μ-loop
 mul-words c = omega arith
 
 slice-write-words : tie.Need-slice-write-words Inv-loop μ-loop
-slice-write-words c = omega arith
+slice-write-words c = omega (arith, c .before .before .before .before .loop .inv .long)
 
 add-p : tie.Need-add-p Inv-loop μ-loop
 add-p c = omega arith
@@ -46,10 +59,13 @@ loop-less : tie.Need-loop-less Inv-loop μ-loop
 loop-less c = omega arith
 
 loop-again : tie.Need-loop-again Inv-loop μ-loop
-loop-again c = let a = c .before .before .before .before .before .before .args in
-    list-more (c .before .before .before .loop .inv) (search simple) refl
-    (c .next-label .ensures ∙ ap (λ (l : List ℕ). nextLabel (length (a .adds .now)) (λ v. getD (a .adds .now) v 0) l (c .before .before .before .loop .p))
-    (list-front _ (c .before .before .before .loop .inv) (le-refl _)))
+loop-again c = let a = c .before .before .before .before .before .before .before .args in
+    let i = c .before .before .before .before .loop .inv in
+    let p = c .before .before .before .before .loop .p in
+    list-more i (search simple) refl
+    (c .join-at .ensures
+    ∙ label-next (a .m) (a .at) (c .before .before .before .before .loop .words) (a .adders .now) p (search simple) (omega (arith, i .long)) (search simple)
+    ∙ ap (λ (l : List ℕ). nextLabel (a .m) (addedBy (a .adders .now)) l p) (list-front (a .at) i (le-refl _)))
 
 same-length : tie.Need-same-length Inv-loop μ-loop
 same-length c = c .before .loop .inv .long
@@ -64,9 +80,11 @@ prop-labels-spec =
     Inv-loop
     μ-loop
     loop-holds
-    slice-reshare-prefix-next-label
-    slice-aggregate-next-label
-    next-label-requires
+    slice-reshare-prefix-join-at
+    slice-aggregate-join-at
+    mul-join-at
+    shared-slice-read-join-at
+    join-at-requires
     add-words
     mul-words
     slice-write-words

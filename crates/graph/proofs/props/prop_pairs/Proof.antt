@@ -1,46 +1,62 @@
--- `props::prop_pairs` meets its contract: the loop writes one row behind the other, and the labels stay.
+-- The loop writes one row behind the other, and the labels stay.
 use mathlib.Core.List.{List}
-use mathlib.Core.Path.{ap, _∙_}
-use Prim.Native.Nat.{ℕ, _+_, _-_}
+use mathlib.Core.Path.{_≡_, sym, ap, _∙_}
+use Prim.Native.Nat.{ℕ, _+_, _-_, _*_}
 use native.Mathlib.Omega.{arith}
-use native.Mathlib.Nat.{le-refl}
-use lib.ListN.{length}
+use lib.ListN.{length, getD, take}
 use borrow.Author.Needs.{needs as simple}
-use Rattle.rules.proofs.Layers.{size-pairs, length-rowOf}
+use Rattle.rules.proofs.Layers.{size-pairs}
 use Rattle.rules.specs.Layer.{rowOf}
-use Rattle.graph.proofs.Steps.{row-front, row-room}
-use Rattle.graph.proofs.Writes.{Runs, run-none, run-more, run-done, run-front}
-use Rattle.graph.specs.Memory.{putAt}
+use Rattle.graph.proofs.Writes.{Runs, run-none, run-done, run-front}
+use Rattle.graph.proofs.Cells.{table-length}
+use Rattle.graph.proofs.Nexts.{freeOf, free-joined, joined-long, pairs-room, pairs-more}
 use Rattle.graph.specs.Listed.{over, nextWord}
 use Rattle.graph.proofs.props.prop_pairs.Statement.{statement}
 use Rattle.graph.proofs.props.prop_pairs.Tie as tie
 
 abbrev Inv-loop : tie.InvT-loop
-Inv-loop words₀ n at adds to₀ p₀ words to p = Runs (rowOf n (over (nextWord adds) at words₀)) (at + n) n words₀ p to words
+Inv-loop words₀ m at adders free with₀ to₀ p₀ p-end words with to p =
+    Runs (rowOf (length adders) (over (nextWord m adders) at words₀)) (at + length adders) (length adders) words₀ p to words × (length with ≡ m)
 
 abbrev μ-loop : tie.MeasureT-loop
-μ-loop words₀ n at adds to₀ p₀ words to p = n - p
+μ-loop words₀ m at adders free with₀ to₀ p₀ p-end words with to p = length adders - p
 
 add-to : tie.Need-add-to Inv-loop μ-loop
-add-to c = omega (arith, size-pairs (c .before .before .args .n))
+add-to c = omega (arith, size-pairs (length (c .before .before .before .before .args .adders .now)))
 
 loop-holds : tie.Need-loop-holds Inv-loop μ-loop
-loop-holds c = run-none (omega (arith, size-pairs (c .before .before .args .n)))
+loop-holds c = (run-none (omega (arith, size-pairs (length (c .before .before .before .before .args .adders .now)))), c .before .before .before .before .pre .6)
+
+mul-joined-row : tie.Need-mul-joined-row Inv-loop μ-loop
+mul-joined-row c = omega arith
+
+shared-slice-read-joined-row : tie.Need-shared-slice-read-joined-row Inv-loop μ-loop
+shared-slice-read-joined-row c = omega arith
+
+joined-row-requires : tie.Need-joined-row-requires Inv-loop μ-loop
+joined-row-requires c κs = let s = c .before .before .before .before .before .before .before .before in
+    let e = c .before .before .before .loop .inv .1 in (
+      search simple,
+      omega (arith, e),
+      s .pre .4 (c .before .before .before .loop .p) (search simple),
+      omega (arith, ap (λ (x : ℕ). s .args .m * x) e, ap length (s .pre .5) ∙ table-length (s .args .m) (s .args .m) _),
+    )
 
 prop-row-requires : tie.Need-prop-row-requires Inv-loop μ-loop
-prop-row-requires c κs = let a = c .before .before .before .before .before .args in
-    let i = c .before .before .loop .inv in (
-      search simple,
+prop-row-requires c κs = let s = c .before .before .before .before .before .before .before .before .before .before .before .before .before in
+    let a = s .args in
+    let n = length (a .adders .now) in
+    let i = c .before .before .before .before .before .before .before .before .loop .inv .0 in
+    let set = getD (a .adders .now) (c .before .before .before .before .before .before .before .before .loop .p) 0 in (
       search simple,
       search simple,
       omega (arith, i .here),
-      omega (
-        arith,
-        row-room (a .n) (a .at + a .n) (c .before .before .loop .p) _ (length (a .words .now)) _ (i .here) (search simple)
-            (omega (arith, size-pairs (a .n))),
-        i .long,
-      ),
+      omega (arith, pairs-room (nextWord (a .m) (a .adders .now)) n (a .at) _ _ _ _ i (s .pre .3) (search simple), i .long),
+      s .pre .4,
       search simple,
+      free-joined (a .m) set (take (a .at) (a .words .now)) (a .free .now) (c .before .before .before .before .before .before .before .before .loop .with)
+          (s .pre .5) (c .before .before .before .before .before .before .before .before .loop .inv .1) (c .before .before .before .before .joined-row .ensures)
+          ∙ ap (λ (l : List ℕ). freeOf (a .m) l set) (sym (run-front (a .at) i (omega arith))),
     )
 
 sub-to : tie.Need-sub-to Inv-loop μ-loop
@@ -50,12 +66,12 @@ sub-to-2 : tie.Need-sub-to-2 Inv-loop μ-loop
 sub-to-2 c = search simple
 
 add-to-2 : tie.Need-add-to-2 Inv-loop μ-loop
-add-to-2 c = let a = c .before .before .before .before .before .before .before .before .args in
-    let i = c .before .before .before .before .before .loop .inv in
+add-to-2 c = let s = c .before .before .before .before .before .before .before .before .before .before .before .before .before .before .before .before in
+    let a = s .args in
     omega (
       arith,
-      row-room (a .n) (a .at + a .n) (c .before .before .before .before .before .loop .p) _ (length (a .words .now)) _ (i .here) (search simple)
-          (omega (arith, size-pairs (a .n))),
+      pairs-room (nextWord (a .m) (a .adders .now)) (length (a .adders .now)) (a .at) _ _ _ _ (c .before .before .before .before .before .before .before
+          .before .before .before .before .loop .inv .0) (s .pre .3) (search simple),
     )
 
 add-p : tie.Need-add-p Inv-loop μ-loop
@@ -65,20 +81,25 @@ loop-less : tie.Need-loop-less Inv-loop μ-loop
 loop-less c = omega arith
 
 loop-again : tie.Need-loop-again Inv-loop μ-loop
-loop-again c = let a = c .before .before .before .before .before .before .before .before .args in
-    let i = c .before .before .before .before .before .loop .inv in
-    run-more _ i (search simple) (row-room (a .n) (a .at + a .n) (c .before .before .before .before .before .loop .p) _ (length (a .words .now)) _ (i .here)
-    (search simple) (omega (arith, size-pairs (a .n)))) (length-rowOf _ _ _)
-    (c .before .before .prop-row .ensures ∙ ap (λ (l : List ℕ). putAt (c .before .before .before .before .before .loop .to) l
-    (c .before .before .before .before .before .loop .words))
-    (row-front (nextWord (a .adds .now)) (a .n) (a .at) (a .at + a .n) (a .words .now) (c .before .before .before .before .before .loop .words)
-    (c .before .before .before .before .before .loop .p) (run-front _ i (le-refl _)) (le-refl _) (search simple)))
+loop-again c = let s = c .before .before .before .before .before .before .before .before .before .before .before .before .before .before .before .before in
+    let a = s .args in (
+      pairs-more (nextWord (a .m) (a .adders .now)) (length (a .adders .now)) (a .at) _ _ _ _ (c .before .before .before .before .before .before .before
+          .before .before .before .before .loop .inv .0) (s .pre .3) (search simple)
+          (c .before .before .prop-row .ensures),
+      joined-long (a .m) (getD (a .adders .now) (c .before .before .before .before .before .before .before .before .before .before .before .loop .p) 0)
+          (a .free .now) (c .before .before .before .before .before .before .before .before .before .before .before .loop .with)
+          (c .before .before .before .before .before .before .before .before .before .before .before .loop .inv .1)
+          (c .before .before .before .before .before .before .before .joined-row .ensures),
+    )
 
 same-length : tie.Need-same-length Inv-loop μ-loop
-same-length c = c .before .loop .inv .long
+same-length c = c .before .loop .inv .0 .long
+
+same-length-2 : tie.Need-same-length-2 Inv-loop μ-loop
+same-length-2 c = c .before .loop .inv .1 ∙ sym (c .before .before .before .before .before .before .pre .6)
 
 returns : tie.Need-returns Inv-loop μ-loop
-returns c = run-done (c .before .loop .inv) (search simple)
+returns c = run-done (c .before .loop .inv .0) (search simple)
 
 pub prop-pairs-spec : {M : Type 1} → statement M
 prop-pairs-spec =
@@ -88,6 +109,9 @@ prop-pairs-spec =
     μ-loop
     add-to
     loop-holds
+    mul-joined-row
+    shared-slice-read-joined-row
+    joined-row-requires
     prop-row-requires
     sub-to
     sub-to-2
@@ -96,4 +120,5 @@ prop-pairs-spec =
     loop-less
     loop-again
     same-length
+    same-length-2
     returns)

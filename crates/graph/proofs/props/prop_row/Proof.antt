@@ -1,27 +1,30 @@
--- `props::prop_row` meets its contract: the loop writes one pair after the other, and all before the row stays.
-use mathlib.Core.Path.{refl}
-use Prim.Native.Nat.{_+_, _-_}
+-- The loop writes one pair after the other, and all before the row stays.
+use mathlib.Core.List.{List}
+use mathlib.Core.Path.{refl, sym, ap, _∙_}
+use Prim.Native.Nat.{ℕ, _+_, _-_}
 use native.Mathlib.Omega.{arith}
 use native.Mathlib.Nat.{le-refl}
+use lib.ListN.{length, getD}
 use borrow.Author.Needs.{needs as simple}
 use Rattle.rules.specs.Layer.{rowOf}
 use Rattle.graph.proofs.Steps.{pair-front}
 use Rattle.graph.proofs.Writes.{Lists, list-none, list-more, list-done, list-front}
+use Rattle.graph.proofs.Nexts.{freeOf}
 use Rattle.graph.specs.Listed.{over, nextWord}
 use Rattle.graph.proofs.props.prop_row.Statement.{statement}
 use Rattle.graph.proofs.props.prop_row.Tie as tie
 
 abbrev Inv-loop : tie.InvT-loop
-Inv-loop words₀ n at to adds p m k₀ words k = Lists (λ k. over (nextWord adds) at words₀ p (p + 1 + k)) to m words₀ k words
+Inv-loop words₀ m at to adders with p left k₀ words k = Lists (λ k. over (nextWord m adders) at words₀ p (p + 1 + k)) to left words₀ k words
 
 abbrev μ-loop : tie.MeasureT-loop
-μ-loop words₀ n at to adds p m k₀ words k = m - k
+μ-loop words₀ m at to adders with p left k₀ words k = left - k
 
-sub-m : tie.Need-sub-m Inv-loop μ-loop
-sub-m c = search simple
+sub-left : tie.Need-sub-left Inv-loop μ-loop
+sub-left c = search simple
 
-sub-m-2 : tie.Need-sub-m-2 Inv-loop μ-loop
-sub-m-2 c = search simple
+sub-left-2 : tie.Need-sub-left-2 Inv-loop μ-loop
+sub-left-2 c = search simple
 
 loop-holds : tie.Need-loop-holds Inv-loop μ-loop
 loop-holds c = list-none (search simple)
@@ -33,7 +36,16 @@ add-prop-pair-2 : tie.Need-add-prop-pair-2 Inv-loop μ-loop
 add-prop-pair-2 c = search simple
 
 prop-pair-requires : tie.Need-prop-pair-requires Inv-loop μ-loop
-prop-pair-requires c κs = search simple
+prop-pair-requires c κs = let s = c .before .before .before .before .before .before in
+    let i = c .before .before .loop .inv in (
+      search simple,
+      search simple,
+      omega (arith, i .long),
+      s .pre .4,
+      search simple,
+      search simple,
+      s .pre .6 ∙ ap (λ (l : List ℕ). freeOf (s .args .m) l (getD (s .args .adders .now) (s .args .p) 0)) (sym (list-front (s .args .at) i (omega arith))),
+    )
 
 add-words : tie.Need-add-words Inv-loop μ-loop
 add-words c = omega arith
@@ -42,7 +54,7 @@ mul-words : tie.Need-mul-words Inv-loop μ-loop
 mul-words c = omega arith
 
 slice-write-words : tie.Need-slice-write-words Inv-loop μ-loop
-slice-write-words c = omega arith
+slice-write-words c = omega (arith, c .before .before .before .loop .inv .long)
 
 add-k : tie.Need-add-k Inv-loop μ-loop
 add-k c = omega arith
@@ -51,11 +63,11 @@ loop-less : tie.Need-loop-less Inv-loop μ-loop
 loop-less c = omega arith
 
 loop-again : tie.Need-loop-again Inv-loop μ-loop
-loop-again c = let a = c .before .before .before .before .before .before .args in
-    list-more (c .before .before .before .loop .inv) (search simple) refl
-    (pair-front (nextWord (a .adds .now)) (a .n) (a .at) (a .to) (a .words .now) (c .before .before .before .loop .words) (a .p)
-    (a .p + 1 + c .before .before .before .loop .k) _
-    (list-front _ (c .before .before .before .loop .inv) (le-refl _)) (omega arith) (omega arith) (omega arith) (c .prop-pair .ensures))
+loop-again c = let a = c .before .before .before .before .before .before .before .args in
+    let i = c .before .before .before .loop .inv in
+    list-more i (search simple) refl
+    (pair-front (nextWord (a .m) (a .adders .now)) (length (a .adders .now)) (a .at) (a .to) (a .words .now) (c .before .before .before .loop .words) (a .p)
+    (a .p + 1 + c .before .before .before .loop .k) _ (list-front _ i (le-refl _)) (omega arith) (omega arith) (omega arith) (c .prop-pair .ensures))
 
 same-length : tie.Need-same-length Inv-loop μ-loop
 same-length c = c .before .loop .inv .long
@@ -70,8 +82,8 @@ prop-row-spec =
     (tie.spec
     Inv-loop
     μ-loop
-    sub-m
-    sub-m-2
+    sub-left
+    sub-left-2
     loop-holds
     add-prop-pair
     add-prop-pair-2

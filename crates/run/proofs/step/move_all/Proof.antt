@@ -1,5 +1,5 @@
 -- `step::move_all` meets its contract: the loop writes one state after the other, and what lies ahead of it is as it was.
-use Rattle.run.proofs.Loops.{list-ahead}
+use Rattle.graph.proofs.Writes.{list-ahead}
 use Rattle.graph.proofs.Writes.{Lists, list-none, list-more, list-whole}
 use Rattle.rules.specs.Word.{bit, union, without}
 use Rattle.rules.specs.Test.{choose}
