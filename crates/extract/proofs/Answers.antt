@@ -11,10 +11,9 @@ use Rattle.rules.specs.Lists.{listOver}
 use Rattle.rules.specs.Domain.{domain}
 use Rattle.rules.specs.Layer.{size, wordCount}
 use Rattle.rules.specs.Extract.{closeUp, extractOf}
-use Rattle.rules.proofs.Tests.{below-at, below-fails, fails-of, fails-at, or-right}
 use Rattle.rules.proofs.Layers.{length-listOver, listOver-eq}
 use Rattle.graph.specs.Width.{stateWidth}
-use Rattle.graph.specs.Verdict.{Verdict, accepted, refused, turnedAway, andThen, written, laid}
+use Rattle.graph.specs.Verdict.{Verdict, accepted, refused, turnedAway, written, laid}
 use Rattle.graph.specs.Memory.{putAt}
 use Rattle.graph.specs.File.{actionsOf, fileRule}
 use Rattle.graph.specs.Calls.{depthRule, setRule, memoryRule, outputRule}

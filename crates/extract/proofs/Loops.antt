@@ -1,32 +1,32 @@
--- What holds at the heads of the loops that prepare the moves and carry them out, and the kinds of states that a mask meets.
+-- What holds at the heads of the loops that prepare the moves and carry them out, and what a state does in a move.
 -- Assumes nothing.
-use mathlib.Core.Path.{_≡_, refl, sym, ap, ap₂, _∙_}
-use mathlib.Core.Bool.{true, false}
+use mathlib.Core.Path.{_≡_, refl, sym, ap, subst, _∙_}
+use mathlib.Core.Bool.{Bool, true, false, So}
 use mathlib.Core.List.{List}
 use Prim.Native.Nat.{ℕ, suc, _+_, _-_, _*_, _/_, _%_, _^_, _≤_, _<_}
+use native.Mathlib.Decide.{le-ind}
 use native.Mathlib.Numerals.{add-one}
 use native.Mathlib.Omega.{arith}
+use lib.Count.{trailingZeros}
 use lib.ListN.{getD}
 use lib.Pow.{pow-lt, pow-pos}
-use Rattle.rules.specs.Test.{_and_, same, choose}
+use Rattle.rules.specs.Test.{_and_, fails, choose}
 use Rattle.rules.specs.Word.{bit, common, union, without, single}
-use Rattle.rules.specs.Over.{keep, countBelow}
+use Rattle.rules.specs.Over.{keep, joinOf, countBelow}
 use Rattle.rules.specs.Lists.{listOver}
 use Rattle.rules.specs.Extract.{rank, closeUp}
-use Rattle.rules.proofs.Tests.{same-of, same-not, is-fails}
-use Rattle.rules.proofs.Words.{shift-single}
+use Rattle.rules.proofs.Tests.{same-of, same-not, fails-of}
+use Rattle.rules.proofs.Words.{shift-single, bit-without, bit-single, without-lt}
+use Rattle.rules.proofs.Overs.{joinOver-eq}
 use Rattle.rules.proofs.Layers.{getD-listOver}
 use Rattle.rules.proofs.Extracts.{rank-in, rank-out}
 use Rattle.graph.specs.Width.{stateWidth}
-use Rattle.graph.proofs.Folds.{Joins, join-none, join-more, join-done}
-use Rattle.extract.specs.Moves.{gap, place, moving, closing}
-use Rattle.extract.proofs.Moves.{mod-le, closing-first, closing-next, closing-last}
+use Rattle.graph.proofs.Joins.{Members, members-none, members-more, members-done, lowest-in, lowest-lt}
+use Rattle.graph.proofs.Lowest.{lowest-least, others-above}
+use Rattle.extract.specs.Moves.{gap, gaps, Enough, place, moving, closing}
+use Rattle.extract.proofs.Moves.{mod-le, rank-le, closing-first, closing-next, closing-enough, closing-last}
 
 -- ---- one state
-
-at-bit : (i w : ℕ) → bit i w ≡ same (w / 2 ^ i % 2) 1
-unfolding bit
-at-bit i w = refl
 
 -- a shift by 1 << i
 pub shift-is : (i : ℕ) → i < 6 → 1 * 2 ^ i % 2 ^ 64 ≡ 2 ^ i
@@ -39,71 +39,138 @@ pub shift-some : (i : ℕ) → i < 6 → 0 < 1 * 2 ^ i % 2 ^ 64
 shift-some i h = omega (arith, shift-is i h, pow-pos i)
 
 -- what is left of a state's number by 1 << i
-pub left-le : (s u i : ℕ) → i < 6 → (s - u) % (1 * 2 ^ i % 2 ^ 64) ≤ s
-left-le s u i h = omega (arith, ap (λ (x : ℕ). (s - u) % x) (shift-is i h), mod-le (s - u) i)
+pub left-le : (s g i : ℕ) → g ≤ s → i < 6 → g % (1 * 2 ^ i % 2 ^ 64) ≤ s
+left-le s g i l h = omega (arith, ap (λ (x : ℕ). g % x) (shift-is i h), mod-le g i)
 
-module _ (set s under : ℕ) (e : under ≡ rank set s) where
-  -- one more state of the set, or none more
-  pub rank-held : bit s set ≡ true → under + 1 ≡ rank set (suc s)
-  rank-held t = add-one under ∙ ap suc e ∙ sym (rank-in set s t)
+-- one state in one move
+module _ (s gap i : ℕ) where
+  pub moves-not : (gap / 2 ^ i % 2 ≡ 1 → ⊥) → 0 ≡ keep (bit i gap) (single (s - gap % 2 ^ i))
+  unfolding keep choose bit
+  moves-not f = simp (same-not (gap / 2 ^ i % 2) 1 f)
 
-  pub rank-same : bit s set ≡ false → under ≡ rank set (suc s)
-  rank-same t = e ∙ sym (rank-out set s (is-fails _ t))
+  pub moves-now : (r : ℕ) → gap / 2 ^ i % 2 ≡ 1 → i < 6 → r ≡ single (s - gap % (1 * 2 ^ i % 2 ^ 64)) → r ≡ keep (bit i gap) (single (s - gap % 2 ^ i))
+  unfolding keep choose bit
+  moves-now r f h q = q ∙ ap (λ (x : ℕ). single (s - gap % x)) (shift-is i h) ∙ simp (same-of (gap / 2 ^ i % 2) 1 f)
 
-  pub moves-not : (i : ℕ) → bit s set ≡ false → 0 ≡ keep (bit s set and bit i (gap set s)) (single (place set i s))
-  unfolding keep choose _and_
-  moves-not i t = simp t
+stays : (b : Bool) → (b and fails false) ≡ b
+unfolding _and_ fails
+stays true = refl
+stays false = refl
 
-  gap-is : gap set s ≡ s - under
-  unfolding gap
-  gap-is = ap (λ (x : ℕ). s - x) (sym e)
+-- ---- loops over the members of the set: those that are left are the members from some state on, and so many lie below it
 
-  pub moves-other : (i : ℕ) → bit s set ≡ true → ((s - under) / 2 ^ i % 2 ≡ 1 → ⊥) → 0 ≡ keep (bit s set and bit i (gap set s)) (single (place set i s))
-  unfolding keep choose _and_
-  moves-other i t f = simp (t, not-now)
-    where
-      not-now : bit i (gap set s) ≡ false
-      not-now = at-bit i (gap set s) ∙ same-not _ _ (λ q. f (ap (λ (x : ℕ). x / 2 ^ i % 2) (sym gap-is) ∙ q))
+pub record Ranked (set left under : ℕ) : Type 0 where
+  pub small : left < 2 ^ stateWidth
+  pub from : ℕ
+  pub past : (i : ℕ) → i < from → So (bit i left) → ⊥
+  pub ahead : (i : ℕ) → from ≤ i → bit i left ≡ bit i set
+  pub ranks : under ≡ rank set from
 
-  pub moves-now : (i r : ℕ) → bit s set ≡ true → (s - under) / 2 ^ i % 2 ≡ 1 → i < 6 → r ≡ single (s - (s - under) % (1 * 2 ^ i % 2 ^ 64))
-      → r ≡ keep (bit s set and bit i (gap set s)) (single (place set i s))
-  unfolding keep choose _and_ place
-  moves-now i r t f h q =
-      q ∙ ap₂ (λ (x y : ℕ). single (s - x % y)) (sym gap-is) (shift-is i h) ∙ simp (t, now)
-    where
-      now : bit i (gap set s) ≡ true
-      now = at-bit i (gap set s) ∙ same-of _ _ (ap (λ (x : ℕ). x / 2 ^ i % 2) gap-is ∙ f)
-
--- ---- the loop over the states: the mask of those so far, and how many of them are in the set
-
-pub record Masked (set i s mask under : ℕ) : Type 0 where
-  pub joins : Joins (λ s. keep (bit s set and bit i (gap set s)) (single (place set i s))) stateWidth s mask
-  pub ranks : under ≡ rank set s
-
-pub mask-none : {set i : ℕ} → Masked set i 0 0 0
+pub ranked-all : {set : ℕ} → set < 2 ^ stateWidth → Ranked set set 0
 unfolding rank countBelow
-mask-none = record { joins = join-none; ranks = refl }
+ranked-all h = record { small = h; from = 0; past = λ i l t. omega arith; ahead = λ i l. refl; ranks = refl }
 
-pub mask-more : {set i s mask under b v r : ℕ} → Masked set i s mask under → s < stateWidth → r ≡ union mask b
-    → b ≡ keep (bit s set and bit i (gap set s)) (single (place set i s)) → v ≡ rank set (suc s) → Masked set i (s + 1) r v
-mask-more {set} {i} {s} m h e q k = record { joins = join-more (m .joins) h e q; ranks = k ∙ ap (rank set) (sym (add-one s)) }
+-- no state of the set between two states: as many lie below
+rank-skip : (set a b : ℕ) → a ≤ b → ((i : ℕ) → a ≤ i → i < b → So (bit i set) → ⊥) → rank set b ≡ rank set a
+rank-skip set a b h none = le-ind (λ k. k ≤ b → rank set k ≡ rank set a) (λ l. refl)
+    (λ k g r l. rank-out set k (fails-of _ (none k g (omega arith))) ∙ r (omega arith)) b h (omega arith)
 
-pub mask-done : {set i s mask under : ℕ} → Masked set i s mask under → stateWidth ≤ s → mask ≡ moving stateWidth set i
-unfolding moving
-mask-done m h = join-done (m .joins) h
+module _ {set left under : ℕ} (m : Ranked set left under) (some : 0 < left) where
+  in-left : So (bit (trailingZeros 64 left) left)
+  in-left = lowest-in 64 left (omega arith) (m .small) some
+
+  from-le : m .from ≤ trailingZeros 64 left
+  from-le = let g : trailingZeros 64 left < m .from → ⊥ = λ l. m .past _ l in-left in omega arith
+
+  pub next-lt : trailingZeros 64 left < stateWidth
+  next-lt = lowest-lt 64 left (omega arith) (m .small) some
+
+  pub next-in : So (bit (trailingZeros 64 left) set)
+  next-in = sym (m .ahead _ from-le) ∙ in-left
+
+  -- so many states of the set lie below the next one
+  pub next-rank : under ≡ rank set (trailingZeros 64 left)
+  next-rank = m .ranks ∙ sym (rank-skip set (m .from) (trailingZeros 64 left) from-le (λ i g l t.
+      omega (arith, lowest-least 64 left i (m .small) (m .ahead i g ∙ t))))
+
+  pub next-under : under ≤ trailingZeros 64 left
+  next-under = omega (arith, next-rank, rank-le set (trailingZeros 64 left))
+
+  pub next-gap : trailingZeros 64 left - under ≡ gap set (trailingZeros 64 left)
+  unfolding gap
+  next-gap = ap (λ (x : ℕ). trailingZeros 64 left - x) next-rank
+
+  pub ranked-more : {left' : ℕ} → left' ≡ without left (single (trailingZeros 64 left)) → Ranked set left' (under + 1)
+  ranked-more {left'} l = record {
+    small = subst (λ (x : ℕ). x < 2 ^ stateWidth) (sym l) (without-lt 64 left _ (m .small));
+    from = suc (trailingZeros 64 left);
+    past = λ i h t. omega (arith, others-above 64 left i (m .small) (sym (ap (bit i) l) ∙ t));
+    ahead = λ i h. ap (bit i) l ∙ bit-without i left (single (trailingZeros 64 left))
+        ∙ ap (λ (b : Bool). bit i left and fails b) (bit-single i (trailingZeros 64 left) ∙ same-not _ _ (λ e. omega arith))
+        ∙ stays (bit i left) ∙ m .ahead i (omega (arith, from-le));
+    ranks = add-one under ∙ ap suc next-rank ∙ sym (rank-in set (trailingZeros 64 left) next-in);
+  }
+
+-- what they have to go, joined
+pub record Gapped (set left under joined : ℕ) : Type 0 where
+  pub ranked : Ranked set left under
+  pub joins : Members (gap set) stateWidth set left joined
+
+pub gap-none : {set : ℕ} → set < 2 ^ stateWidth → Gapped set set 0 0
+gap-none h = record { ranked = ranked-all h; joins = members-none h }
+
+pub gap-more : {set left under joined s left' : ℕ} → Gapped set left under joined → 0 < left → s ≡ trailingZeros 64 left
+    → left' ≡ without left (single (trailingZeros 64 left)) → Gapped set left' (under + 1) (union joined (s - under))
+gap-more {set} {left} {under} {joined} {s} m some e l = record {
+  ranked = ranked-more (m .ranked) some l;
+  joins = members-more (m .joins) (omega arith) some (ap (λ (x : ℕ). x - under) e ∙ next-gap (m .ranked) some) refl l;
+}
+
+pub gap-done : {set left under joined : ℕ} → Gapped set left under joined → left ≤ 0 → joined ≡ gaps set
+unfolding gaps
+gap-done m h = members-done (m .joins) h
+
+-- the mask of a move
+pub record Masked (set i left under mask : ℕ) : Type 0 where
+  pub ranked : Ranked set left under
+  pub joins : Members (λ s. keep (bit i (gap set s)) (single (place set i s))) stateWidth set left mask
+
+pub mask-none : {set i : ℕ} → set < 2 ^ stateWidth → Masked set i set 0 0
+mask-none h = record { ranked = ranked-all h; joins = members-none h }
+
+pub mask-more : {set i left under mask s b left' : ℕ} → Masked set i left under mask → 0 < left → s ≡ trailingZeros 64 left
+    → b ≡ keep (bit i (s - under)) (single (s - (s - under) % 2 ^ i))
+    → left' ≡ without left (single (trailingZeros 64 left)) → Masked set i left' (under + 1) (union mask b)
+unfolding place
+mask-more {set} {i} {left} {under} {mask} {s} {b} m some e q l = record {
+  ranked = ranked-more (m .ranked) some l;
+  joins = members-more (m .joins) (omega arith) some
+      (q ∙ ap (λ (x : ℕ). keep (bit i (x - under)) (single (x - (x - under) % 2 ^ i))) e
+      ∙ ap (λ (x : ℕ). keep (bit i x) (single (trailingZeros 64 left - x % 2 ^ i))) (next-gap (m .ranked) some))
+      refl l;
+}
+
+keep-keep : (a b : Bool) (w : ℕ) → keep a (keep b w) ≡ keep (a and b) w
+unfolding keep choose _and_
+keep-keep true b w = refl
+keep-keep false b w = refl
+
+pub mask-done : {set i left under mask : ℕ} → Masked set i left under mask → left ≤ 0 → mask ≡ moving stateWidth set i
+unfolding moving joinOf
+mask-done {set} {i} m h = members-done (m .joins) h ∙ joinOver-eq stateWidth _ _ (λ s l. keep-keep (bit s set) (bit i (gap set s)) (single (place set i s)))
 
 -- ---- the loop over the moves: the word before move i, whatever the set is that the moves were prepared for
 
-pub record Closes (masks : List ℕ) (w word₀ word i : ℕ) : Type 0 where
-  pub within : i ≤ 6
+pub record Closes (masks : List ℕ) (w moves word₀ word i : ℕ) : Type 0 where
+  pub within : i ≤ moves
   pub is : (set : ℕ) → set < 2 ^ stateWidth → masks ≡ listOver 6 (moving stateWidth set) → word₀ ≡ common set w → word ≡ closing stateWidth set w i
 
-pub close-none : {masks : List ℕ} {w word : ℕ} → Closes masks w word word 0
+pub close-none : {masks : List ℕ} {w moves word : ℕ} → Closes masks w moves word word 0
 close-none {masks} {w} = record { within = omega arith; is = λ set h m e. e ∙ closing-first stateWidth set w h }
 
-pub close-more : {masks : List ℕ} {w word₀ word i : ℕ} → Closes masks w word₀ word i → i < 6
-    → Closes masks w word₀ (union (without word (getD masks i 0)) (common word (getD masks i 0) / 2 ^ (1 * 2 ^ i % 2 ^ 64))) (i + 1)
-close-more {masks} {w} {word₀} {word} {i} s h = record {
+pub close-more : {masks : List ℕ} {w moves word₀ word i : ℕ} → Closes masks w moves word₀ word i → i < moves → i < 6
+    → Closes masks w moves word₀ (union (without word (getD masks i 0)) (common word (getD masks i 0) / 2 ^ (1 * 2 ^ i % 2 ^ 64))) (i + 1)
+close-more {masks} {w} {moves} {word₀} {word} {i} s k h = record {
   within = omega arith;
   is = λ set l m e.
       ap (λ (x : ℕ). union (without word (getD masks i 0)) (common word (getD masks i 0) / 2 ^ x)) (shift-is i h)
@@ -111,8 +178,8 @@ close-more {masks} {w} {word₀} {word} {i} s h = record {
       ∙ ap (closing stateWidth set w) (sym (add-one i));
 }
 
-pub close-done : {masks : List ℕ} {w word₀ word i : ℕ} (set : ℕ) → Closes masks w word₀ word i → 6 ≤ i → set < 2 ^ stateWidth
-    → masks ≡ listOver 6 (moving stateWidth set) → word₀ ≡ common set w → word ≡ closeUp stateWidth set w
-close-done {masks} {w} {word₀} {word} {i} set s h l m e =
-    let six : i ≡ 6 = omega (arith, s .within) in
-    s .is set l m e ∙ ap (closing stateWidth set w) six ∙ closing-last stateWidth set w (omega arith)
+pub close-done : {masks : List ℕ} {w moves word₀ word i : ℕ} (set : ℕ) → Closes masks w moves word₀ word i → moves ≤ i → Enough set moves
+    → set < 2 ^ stateWidth → masks ≡ listOver 6 (moving stateWidth set) → word₀ ≡ common set w → word ≡ closeUp stateWidth set w
+close-done {masks} {w} {moves} {word₀} {word} {i} set s h enough l m e =
+    let all : i ≡ moves = omega (arith, s .within) in
+    s .is set l m e ∙ ap (closing stateWidth set w) all ∙ closing-enough set w moves enough ∙ closing-last stateWidth set w (omega arith)

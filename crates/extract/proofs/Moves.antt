@@ -1,7 +1,7 @@
 -- The moves close up the bits: each takes every state of S from where it stands before it to where it stands before the next.
 -- Assumes nothing.
 use mathlib.Core.Path.{_≡_, refl, sym, ap, ap₂, subst, _∙_}
-use mathlib.Core.Bool.{Bool, So}
+use mathlib.Core.Bool.{Bool, true, false, So}
 use mathlib.Core.Logic.{⊎-elim}
 use Prim.Native.Nat.{ℕ, zero, suc, _+_, _-_, _*_, _/_, _%_, _^_, _≤_, _<_}
 use native.Mathlib.Nat.{zero-lt-suc, mod-lt, mod-eq-of-lt, mul-le-mul-right, lt-of-le-of-lt}
@@ -12,14 +12,15 @@ use lib.Bits.{or-zero-r}
 use lib.Pow.{pow-pos, shr-shr, shr-mono, shr-le, split, mod-pow-add}
 use Rattle.rules.specs.Test.{_and_, _or_, fails, same, choose}
 use Rattle.rules.specs.Word.{bit, common, union, without, single}
-use Rattle.rules.specs.Over.{keep, joinOver, anyBelow, countBelow}
+use Rattle.rules.specs.Over.{keep, joinOver, joinOf, anyBelow, countBelow}
 use Rattle.rules.specs.Extract.{rank, closeUp}
-use Rattle.rules.proofs.Tests.{and-of, and-left, and-right, or-left, or-right, or-at, fails-of, fails-at, holds-or, test-eq, same-of, same-at}
-use Rattle.rules.proofs.Words.{bit-above, bit-common, bit-union, bit-without, bit-single, ext, common-lt, union-lt, without-lt, single-lt}
+use Rattle.rules.proofs.Tests.{and-of, and-left, and-right, or-left, or-right, or-at, fails-of, fails-at, holds-or, test-eq, same-of, same-at, choose-failed}
+use Rattle.rules.proofs.Members.{bit-joinOf}
+use Rattle.rules.proofs.Words.{bit-above, bit-below, bit-common, bit-union, bit-without, bit-single, ext, common-lt, union-lt, without-lt, single-lt}
 use Rattle.rules.proofs.Overs.{any-of, any-at, any-only, any-eq, bit-keep, bit-joinOver, joinOver-eq, joinOver-lt, keep-lt}
 use Rattle.rules.proofs.Extracts.{rank-in, rank-out, rank-lt}
 use Rattle.graph.specs.Width.{stateWidth}
-use Rattle.extract.specs.Moves.{gap, place, moving, closing}
+use Rattle.extract.specs.Moves.{gap, gaps, Enough, place, moving, closing}
 
 -- ---- states that stand at places
 
@@ -182,6 +183,47 @@ module _ (set : ℕ) where
   place-last s h =
       let e : gap set s % 64 ≡ gap set s = mod-eq-of-lt (omega (arith, gap-le s)) in
       omega (arith, rank-le s)
+
+-- ---- moves that move nothing
+
+gaps-bit : (set s i : ℕ) → s < stateWidth → So (bit s set) → So (bit i (gap set s)) → So (bit i (gaps set))
+unfolding gaps
+gaps-bit set s i l t u = bit-joinOf i stateWidth set (gap set) ∙ any-of stateWidth _ s l (and-of _ _ t u)
+
+-- no state has 64 or more to go
+pub gaps-lt : (set : ℕ) → gaps set < 2 ^ 6
+unfolding gaps joinOf
+gaps-lt set = joinOver-lt 6 _ stateWidth (λ s l. keep-lt 6 (bit s set) (gap set s) (λ t. omega (arith, gap-le set s)))
+
+keep-same : (c : Bool) (x y : ℕ) → (So c → x ≡ y) → keep c x ≡ keep c y
+unfolding keep choose
+keep-same true x y f = f refl
+keep-same false x y f = refl
+
+keep-none : (c : Bool) (w : ℕ) → So (fails c) → keep c w ≡ 0
+unfolding keep
+keep-none c w f = choose-failed c w 0 f
+
+none-over : (n : ℕ) → joinOver n (λ s. 0) ≡ 0
+unfolding joinOver
+none-over zero = refl
+none-over (suc n) = ap (λ (x : ℕ). union x 0) (none-over n)
+
+-- no state goes down in a move whose bit no gap has
+pub moving-none : (set i : ℕ) → (So (bit i (gaps set)) → ⊥) → 0 ≡ moving stateWidth set i
+unfolding moving
+moving-none set i none = sym (
+    joinOver-eq stateWidth _ (λ s. 0) (λ s l. keep-none _ _ (fails-of _ (λ t. none (gaps-bit set s i l (and-left _ _ t) (and-right _ _ t)))))
+    ∙ none-over stateWidth)
+
+-- so further moves change nothing
+pub closing-enough : (set w moves : ℕ) → Enough set moves → closing stateWidth set w moves ≡ closing stateWidth set w 6
+unfolding closing
+closing-enough set w moves enough = le-ind (λ k. closing stateWidth set w moves ≡ closing stateWidth set w k) refl (λ k g r. r ∙ still k g) 6 (enough .few)
+  where
+    still : (k : ℕ) → moves ≤ k → closing stateWidth set w k ≡ closing stateWidth set w (suc k)
+    still k g = joinOver-eq stateWidth _ _ (λ s l. keep-same _ _ _ (λ t. ap single (place-stays set k s (fails-of _ (λ u.
+        omega (arith, bit-below k (gaps set) moves (enough .wide) (gaps-bit set s k l (and-left _ _ t) u)))))))
 
 -- ---- a word before the first move, from move to move, and after the last
 

@@ -1,10 +1,10 @@
 -- 'bits closed up in order' by moves: in move i the states that have 2 ^ i to go, of all they have to go, go down by so much at once.
-use Prim.Native.Nat.{ℕ, _-_, _%_, _^_}
+use Prim.Native.Nat.{ℕ, _-_, _%_, _^_, _≤_, _<_}
 use mathlib.Core.List.{List}
 use lib.ListN.{getD}
 use Rattle.rules.specs.Test.{_and_}
 use Rattle.rules.specs.Word.{bit, single}
-use Rattle.rules.specs.Over.{keep, joinOver}
+use Rattle.rules.specs.Over.{keep, joinOver, joinOf}
 use Rattle.rules.specs.Lists.{listOver}
 use Rattle.rules.specs.Extract.{rank, closeUp}
 use Rattle.graph.specs.Width.{stateWidth}
@@ -12,6 +12,15 @@ use Rattle.graph.specs.Width.{stateWidth}
 -- how far state s has to go down: the number of states below it that are not in S
 unfoldable pub gap : ℕ → ℕ → ℕ
 gap set s = s - rank set s
+
+-- how far the states of S have to go, joined
+unfoldable pub gaps : ℕ → ℕ
+gaps set = joinOf stateWidth set (gap set)
+
+-- with so many moves each state of S gets where it has to go
+pub record Enough (set moves : ℕ) : Type 0 where
+  pub few : moves ≤ 6
+  pub wide : gaps set < 2 ^ moves
 
 -- where state s stands before move i
 unfoldable pub place : ℕ → ℕ → ℕ → ℕ

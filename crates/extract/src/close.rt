@@ -1,85 +1,125 @@
-// The bits of a word closed up in six moves, which are prepared for a set once.
+// The bits of a word closed up in moves, which are prepared for a set once: no more moves than the set needs, at most six.
+use graph::rows::lowest;
+use graph::rows::others;
 use graph::sets::States;
 ghost use mathlib.Core.Path.{_≡_};
-ghost use Prim.Native.Nat.{suc, _<_, _≤_};
+ghost use Prim.Native.Nat.{_-_, _%_, _^_, _<_, _≤_};
 ghost use lib.ListN.{length};
-ghost use Rattle.rules.specs.Test.{_and_};
 ghost use Rattle.rules.specs.Word.{bit, single};
 ghost use Rattle.rules.specs.Over.{keep};
 ghost use Rattle.rules.specs.Lists.{listOver};
-ghost use Rattle.rules.specs.Extract.{rank, closeUp};
+ghost use Rattle.rules.specs.Extract.{closeUp};
 ghost use Rattle.graph.specs.Width.{stateWidth};
 ghost use Rattle.graph.specs.Memory.{putAt};
 ghost use Rattle.extract.specs.Moves as M;
 
-// How many states of the set lie below s + 1, of which `under` lie below s.
-fn next_rank(set: States, s: usize, under: usize) -> usize
-    requires { ⌜ (s < stateWidth) × (under ≡ rank (set .0) s) ⌝ }
-    ensures { λ r. ⌜ r ≡ rank (set .0) (suc s) ⌝ }
+// How far the states of the set have to go down, joined: the move i moves nothing where it lacks the bit i.
+fn gaps(set: States) -> usize
+    ensures { λ r. ⌜ (r ≡ M.gaps (set .0)) × (r < 64) ⌝ }
 {
-    if set.has(s) {
-        return under + 1;
+    let mut left = set.0;
+    let mut under = 0;
+    let mut joined = 0;
+    while 0 < left {
+        joined = joined | (lowest(left) - under);
+        left = others(left);
+        under += 1;
     }
-    under
+    joined
 }
 
-// Where state s stands before move i, if it is of the set and goes down in that move.
-fn moving_at(set: States, s: usize, under: usize, i: usize) -> u64
-    requires { ⌜ (s < stateWidth) × (under ≡ rank (set .0) s) × (i < 6) ⌝ }
-    ensures { λ r. ⌜ r ≡ keep (bit s (set .0) and bit i (M.gap (set .0) s)) (single (M.place (set .0) i s)) ⌝ }
+// Where state s stands before move i, if it goes down in that move.
+fn moving_at(s: usize, gap: usize, i: usize) -> u64
+    requires { ⌜ (s < stateWidth) × (gap ≤ s) × (i < 6) ⌝ }
+    ensures { λ r. ⌜ r ≡ keep (bit i gap) (single (s - gap % 2 ^ i)) ⌝ }
 {
-    if !set.has(s) {
-        return 0;
-    }
-    let gap = s - under;
     if (gap >> i) % 2 != 1 {
         return 0;
     }
     States::single(s - gap % (1usize << i)).0
 }
 
-// The states of the set that go down in move i, where they stand.
+// The states of the set that go down in move i, where they stand: one member after the other, `under` of them lie below it.
 fn move_mask(set: States, i: usize) -> u64
     requires { ⌜ i < 6 ⌝ }
     ensures { λ r. ⌜ r ≡ M.moving stateWidth (set .0) i ⌝ }
 {
-    let mut mask = 0;
+    let mut left = set.0;
     let mut under = 0;
-    for s in 0..64 {
-        mask = mask | moving_at(set, s, under, i);
-        under = next_rank(set, s, under);
+    let mut mask = 0;
+    while 0 < left {
+        let s = lowest(left);
+        let gap = s - under;
+        mask = mask | moving_at(s, gap, i);
+        left = others(left);
+        under += 1;
     }
     mask
 }
 
-fn prepare(set: States, masks: &mut [u64])
-    requires { ⌜ length (now masks) ≡ 6 ⌝ }
+// The same, where it is known how far the states have to go.
+fn mask_of(set: States, wide: usize, i: usize) -> u64
+    requires { ⌜ (i < 6) × (wide ≡ M.gaps (set .0)) ⌝ }
+    ensures { λ r. ⌜ r ≡ M.moving stateWidth (set .0) i ⌝ }
+{
+    if (wide >> i) % 2 != 1 {
+        return 0;
+    }
+    move_mask(set, i)
+}
+
+fn prepare(set: States, wide: usize, masks: &mut [u64])
+    requires { ⌜ (length (now masks) ≡ 6) × (wide ≡ M.gaps (set .0)) ⌝ }
     ensures { λ r. ⌜ now (masks .exit) ≡ listOver 6 (M.moving stateWidth (set .0)) ⌝ }
 {
     for i in 0..6 {
-        masks[i] = move_mask(set, i);
+        masks[i] = mask_of(set, wide, i);
     }
 }
 
-// The word cut to the set, bits closed up.
-fn close_up(masks: &[u64], set: States, w: u64) -> u64
-    requires { ⌜ now masks ≡ listOver 6 (M.moving stateWidth (set .0)) ⌝ }
+// The word cut to the set, bits closed up in so many moves.
+fn close_up(masks: &[u64], set: States, w: u64, moves: usize) -> u64
+    requires { ⌜ (now masks ≡ listOver 6 (M.moving stateWidth (set .0))) × M.Enough (set .0) moves ⌝ }
     ensures { λ r. ⌜ r ≡ closeUp stateWidth (set .0) w ⌝ }
 {
     let mut word = set.0 & w;
-    for i in 0..6 {
+    for i in 0..moves {
         let going = word & masks[i];
         word = (word ^ going) | (going >> (1usize << i));
     }
     word
 }
 
-fn cut_words(masks: &[u64], set: States, words: &[u64], out: &mut [u64], count: usize)
-    requires { ⌜ (now masks ≡ listOver 6 (M.moving stateWidth (set .0))) × (count ≤ length (now words)) × (count ≤ length (now out)) ⌝ }
+fn cut_words(masks: &[u64], set: States, moves: usize, words: &[u64], out: &mut [u64], count: usize)
+    requires { ⌜ (now masks ≡ listOver 6 (M.moving stateWidth (set .0))) × M.Enough (set .0) moves
+        × (count ≤ length (now words)) × (count ≤ length (now out)) ⌝ }
     ensures { λ r. ⌜ now (out .exit) ≡ putAt 0 (M.cutWords (set .0) (now (words .entry)) count) (now (out .entry)) ⌝ }
 {
     for j in 0..count {
-        out[j] = close_up(masks, set, words[j]);
+        out[j] = close_up(masks, set, words[j], moves);
+    }
+}
+
+// Each number of moves by itself: a loop whose number of turns is known is unrolled, and several words are closed up at once.
+fn cut_by(masks: &[u64], set: States, wide: usize, words: &[u64], out: &mut [u64], count: usize)
+    requires { ⌜ (now masks ≡ listOver 6 (M.moving stateWidth (set .0))) × (wide ≡ M.gaps (set .0)) × (wide < 64)
+        × (count ≤ length (now words)) × (count ≤ length (now out)) ⌝ }
+    ensures { λ r. ⌜ now (out .exit) ≡ putAt 0 (M.cutWords (set .0) (now (words .entry)) count) (now (out .entry)) ⌝ }
+{
+    if wide < 1 {
+        cut_words(masks, set, 0, words, &mut *out, count);
+    } else if wide < 2 {
+        cut_words(masks, set, 1, words, &mut *out, count);
+    } else if wide < 4 {
+        cut_words(masks, set, 2, words, &mut *out, count);
+    } else if wide < 8 {
+        cut_words(masks, set, 3, words, &mut *out, count);
+    } else if wide < 16 {
+        cut_words(masks, set, 4, words, &mut *out, count);
+    } else if wide < 32 {
+        cut_words(masks, set, 5, words, &mut *out, count);
+    } else {
+        cut_words(masks, set, 6, words, &mut *out, count);
     }
 }
 
@@ -87,8 +127,9 @@ fn cut_with(masks: &mut [u64], set: States, words: &[u64], out: &mut [u64], coun
     requires { ⌜ (length (now masks) ≡ 6) × (count ≤ length (now words)) × (count ≤ length (now out)) ⌝ }
     ensures { λ r. ⌜ now (out .exit) ≡ putAt 0 (M.cutWords (set .0) (now (words .entry)) count) (now (out .entry)) ⌝ }
 {
-    prepare(set, &mut *masks);
-    cut_words(&masks[..], set, words, &mut *out, count);
+    let wide = gaps(set);
+    prepare(set, wide, &mut *masks);
+    cut_by(&masks[..], set, wide, words, &mut *out, count);
 }
 
 // The first `count` words cut to the set, bits closed up.

@@ -4,6 +4,7 @@ pub mod Folds
 pub mod Places
 pub mod Writes
 pub mod Joins
+pub mod Lowest
 pub mod Cells
 pub mod Nexts
 pub mod Reading
@@ -16,3 +17,4 @@ pub mod Takens
 pub mod Verdicts
 pub mod Answers
 pub mod Graphs
+pub mod Files

@@ -1,13 +1,13 @@
 -- Where the graph rests: two layers are compared in memory, and if they are equal, all later words are copies.
 -- Assumes nothing.
-use Prim.Native.Nat.{ℕ, zero, suc, _+_, _-_, _*_, _%_, _≤_, _<_}
-use mathlib.Core.Path.{_≡_, refl, sym, ap, ap₂, _∙_}
+use Prim.Native.Nat.{ℕ, zero, suc, _+_, _-_, _*_, _/_, _%_, _≤_, _<_}
+use mathlib.Core.Path.{_≡_, refl, sym, ap, ap₂, subst, _∙_}
 use mathlib.Core.Bool.{Bool, false, So, false≢true}
 use mathlib.Core.Logic.{by-cases}
 use mathlib.Core.List.{List, _++_, append-nil}
 use native.Mathlib.Decide.{decLe, le-ind}
 use native.Mathlib.Nat.{le-refl, suc-mul, zero-mul, mul-zero, one-mul, add-mul, mul-le-mul-right, add-sub-of-le}
-use native.Mathlib.Nat.{mod-eq-of-lt, mod-eq-sub-mod, mul-add-mod-self-right}
+use native.Mathlib.Nat.{mod-lt, mod-eq-of-lt, mod-eq-sub-mod, mul-add-mod-self-right, div-add-mod', mul-assoc}
 use native.Mathlib.Numerals.{add-one}
 use native.Mathlib.Omega.{arith}
 use borrow.Rule.Slice.PartMut.{putMid}
@@ -224,3 +224,73 @@ module _ {D : Domain} {all : ℕ} {l : List ℕ} {depth : ℕ} {w₀ : List ℕ}
         ∙ put-put (size (D .props)) (runOver t (step D all l)) w₀ fits left
         ∙ ap (λ (x : List ℕ). putAt (size (D .props)) x w₀)
         (sym (run-append t (depth - t) (step D all l)) ∙ ap (λ (x : ℕ). runOver x (step D all l)) (add-sub-of-le (s .within)))
+
+-- ---- words copied from one stride back, then from many strides back
+
+-- a remainder by many strides, by one
+mod-many : (i m s : ℕ) → i % (m * s) % s ≡ i % s
+mod-many i m s =
+    let e : i ≡ i / (m * s) * (m * s) + i % (m * s) = sym (div-add-mod' i (m * s)) in
+    sym (mul-add-mod-self-right (i / (m * s) * m) s (i % (m * s))) ∙ ap (λ (x : ℕ). x % s) (ap (λ (x : ℕ). x + i % (m * s)) (mul-assoc (i / (m * s)) m s)
+    ∙ sym e)
+
+module _ (to s m : ℕ) (w₀ w₁ : List ℕ) (some : 0 < s) (back : s ≤ to) (room : to + m * s ≤ length w₀)
+    (e₁ : w₁ ≡ putAt to (listOver (m * s) (λ k. getD w₀ (to - s + k % s) 0)) w₀) where
+  abbrev copied : List ℕ
+  copied = listOver (m * s) (λ k. getD w₀ (to - s + k % s) 0)
+
+  long : to + length copied ≤ length w₀
+  long = omega (arith, length-listOver (m * s) (λ k. getD w₀ (to - s + k % s) 0))
+
+  -- what stands many strides back is what one stride back would give
+  far-word : (i x : ℕ) → x ≡ i % (suc m * s) → getD w₁ (to - s + x) 0 ≡ getD w₀ (to - s + (m * s + i) % s) 0
+  far-word i x e = by-cases (decLe s x) later sooner
+    where
+      short : x < suc m * s
+      short = subst (λ (y : ℕ). y < suc m * s) (sym e) (mod-lt i (omega (arith, suc-mul m s)))
+
+      target : getD w₀ (to - s + x % s) 0 ≡ getD w₀ (to - s + (m * s + i) % s) 0
+      target = ap (λ (y : ℕ). getD w₀ (to - s + y) 0) (ap (λ (y : ℕ). y % s) e ∙ mod-many i (suc m) s ∙ sym (mul-add-mod-self-right m s i))
+
+      later : s ≤ x → getD w₁ (to - s + x) 0 ≡ getD w₀ (to - s + (m * s + i) % s) 0
+      later h =
+          let q : to - s + x ≡ to + (x - s) = omega arith in
+          let k : x - s < m * s = omega (arith, short, suc-mul m s) in
+          ap₂ (λ (l : List ℕ) (y : ℕ). getD l y 0) e₁ q
+          ∙ put-word to copied w₀ long (x - s) (omega (arith, length-listOver (m * s) (λ k. getD w₀ (to - s + k % s) 0)))
+          ∙ getD-listOver (m * s) (λ k. getD w₀ (to - s + k % s) 0) (x - s) k
+          ∙ ap (λ (y : ℕ). getD w₀ (to - s + y) 0) (sym (mod-eq-sub-mod h)) ∙ target
+
+      sooner : (s ≤ x → ⊥) → getD w₁ (to - s + x) 0 ≡ getD w₀ (to - s + (m * s + i) % s) 0
+      sooner h =
+          let k : x < s = omega arith in
+          same-word to (to - s + x) w₁ w₀ (ap (take to) e₁ ∙ put-front to copied w₀ long to (le-refl to)) (omega arith)
+          ∙ ap (λ (y : ℕ). getD w₀ (to - s + y) 0) (sym (mod-eq-of-lt k)) ∙ target
+
+  pub again-put : (rest : ℕ) (w₂ : List ℕ)
+      → w₂ ≡ putAt (to + m * s) (listOver rest (λ i. getD w₁ (to + m * s - suc m * s + i % (suc m * s)) 0)) w₁
+      → w₂ ≡ putAt to (listOver (m * s + rest) (λ k. getD w₀ (to - s + k % s) 0)) w₀
+  again-put rest w₂ e₂ =
+      let g : ℕ → ℕ = λ k. getD w₀ (to - s + k % s) 0 in
+      let here : to + m * s - suc m * s ≡ to - s = omega (arith, suc-mul m s) in
+      let l : length copied ≡ m * s = length-listOver (m * s) g in
+      e₂
+      ∙ ap (λ (x : List ℕ). putAt (to + m * s) x w₁) (listOver-eq rest _ (λ i. g (m * s + i)) (λ i h.
+      ap (λ (y : ℕ). getD w₁ (y + i % (suc m * s)) 0) here ∙ far-word i (i % (suc m * s)) refl))
+      ∙ ap₂ (λ (x : ℕ) (y : List ℕ). putAt (to + x) (listOver rest (λ i. g (m * s + i))) y) (sym l) e₁
+      ∙ put-put to copied w₀ long (listOver rest (λ i. g (m * s + i)))
+      ∙ ap (λ (x : List ℕ). putAt to x w₀) (sym (list-append (m * s) rest g))
+
+  -- the code's numbers: `first` words from one stride back, the rest from `span` words back
+  pub two-copies : (count first span : ℕ) (w₂ : List ℕ) → first ≡ m * s → span ≡ suc m * s → first ≤ count
+      → w₂ ≡ putAt (to + first) (listOver (count - first) (λ i. getD w₁ (to + first - span + i % span) 0)) w₁
+      → w₂ ≡ putAt to (listOver count (λ k. getD w₀ (to - s + k % s) 0)) w₀
+  two-copies count first span w₂ ef es h e₂ =
+      let all : m * s + (count - first) ≡ count = omega arith in
+      again-put (count - first) w₂
+      (e₂ ∙ ap₂ (λ (x y : ℕ). putAt (to + x) (listOver (count - first) (λ i. getD w₁ (to + x - y + i % y) 0)) w₁) ef es)
+      ∙ ap (λ (x : ℕ). putAt to (listOver x (λ k. getD w₀ (to - s + k % s) 0)) w₀) all
+
+-- so many strides and one more
+pub one-stride : (m s : ℕ) → (m + 1) * s ≡ suc m * s
+one-stride m s = ap (λ (x : ℕ). x * s) (add-one m)

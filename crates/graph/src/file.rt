@@ -4,6 +4,7 @@ use crate::sets::Props;
 ghost use mathlib.Core.Path.{_≡_};
 ghost use Prim.Native.Nat.{_+_, _*_, _≤_, _<_, _^_};
 ghost use lib.ListN.{length, getD};
+ghost use Rattle.rules.specs.Over.{joinOver};
 ghost use Rattle.graph.specs.Width.{propWidth, stateWidth};
 ghost use Rattle.graph.specs.File as F;
 
@@ -54,7 +55,20 @@ fn letters(file: &[u8]) -> bool
     true
 }
 
-fn check_sets(file: &[u8], c: Counts) -> FileAnswer
+// What is in some set of the file. No way leads out of the loop, so that it takes many sets at a time.
+fn joined_sets(file: &[u8], count: usize) -> u32
+    requires { ⌜ (count ≤ 160) × (8 + 4 * count ≤ length (now file)) ⌝ }
+    ensures { λ r. ⌜ r ≡ joinOver count (λ i. F.setAt (now (file .entry)) (8 + 4 * i)) ⌝ }
+{
+    let mut joined = 0u32;
+    for i in 0..count {
+        joined = joined | set_at(file, 8 + 4 * i);
+    }
+    joined
+}
+
+// Cause 5, of a file that has such a set.
+fn find_set(file: &[u8], c: Counts) -> FileAnswer
     requires { ⌜ (c .props ≤ propWidth) × (c .actions ≤ 32) × (c .states ≤ stateWidth) × (length (now file) ≡ 8 + 12 * c .actions + 4 * c .states) ⌝ }
     ensures { λ r. ⌜ F.fileVerdict r ≡ F.setsRule (now (file .entry)) c (3 * c .actions + c .states) 8 ⌝ }
 {
@@ -67,6 +81,17 @@ fn check_sets(file: &[u8], c: Counts) -> FileAnswer
         at += 4;
     }
     FileAnswer::Taken(c)
+}
+
+// Cause 5: where no proposition of P or above is in all sets together, none has one.
+fn check_sets(file: &[u8], c: Counts) -> FileAnswer
+    requires { ⌜ (c .props ≤ propWidth) × (c .actions ≤ 32) × (c .states ≤ stateWidth) × (length (now file) ≡ 8 + 12 * c .actions + 4 * c .states) ⌝ }
+    ensures { λ r. ⌜ F.fileVerdict r ≡ F.setsRule (now (file .entry)) c (3 * c .actions + c .states) 8 ⌝ }
+{
+    if joined_sets(file, 3 * c.actions + c.states) <= Props::first(c.props).0 {
+        return FileAnswer::Taken(c);
+    }
+    find_set(file, c)
 }
 
 fn check_length(file: &[u8], c: Counts) -> FileAnswer

@@ -10,28 +10,28 @@ ghost use Rattle.rules.specs.Domain.{needsOf, addsOf, deletesOf};
 ghost use Rattle.graph.specs.File.{Taken, actionsOf, startOf};
 
 // The three sets of action a, and start state s: the file's sets in order are three of each action, then one of each state.
-fn precondition(file: &[u8], c: Counts, a: usize) -> u32
+pub fn precondition(file: &[u8], c: Counts, a: usize) -> u32
     requires { ⌜ Taken (now file) c × (a < c .actions) ⌝ }
     ensures { λ r. ⌜ r ≡ actionsOf (now (file .entry)) c .pre a ⌝ }
 {
     set_of(file, c.props, c.actions, c.states, 3 * a)
 }
 
-fn added(file: &[u8], c: Counts, a: usize) -> u32
+pub fn added(file: &[u8], c: Counts, a: usize) -> u32
     requires { ⌜ Taken (now file) c × (a < c .actions) ⌝ }
     ensures { λ r. ⌜ r ≡ actionsOf (now (file .entry)) c .add a ⌝ }
 {
     set_of(file, c.props, c.actions, c.states, 3 * a + 1)
 }
 
-fn deleted(file: &[u8], c: Counts, a: usize) -> u32
+pub fn deleted(file: &[u8], c: Counts, a: usize) -> u32
     requires { ⌜ Taken (now file) c × (a < c .actions) ⌝ }
     ensures { λ r. ⌜ r ≡ actionsOf (now (file .entry)) c .del a ⌝ }
 {
     set_of(file, c.props, c.actions, c.states, 3 * a + 2)
 }
 
-fn start(file: &[u8], c: Counts, s: usize) -> u32
+pub fn start(file: &[u8], c: Counts, s: usize) -> u32
     requires { ⌜ Taken (now file) c × (s < c .states) ⌝ }
     ensures { λ r. ⌜ r ≡ startOf (now (file .entry)) c s ⌝ }
 {

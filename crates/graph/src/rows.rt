@@ -9,14 +9,14 @@ ghost use Rattle.rules.specs.Lists.{listOver};
 ghost use Rattle.graph.specs.Rows.{cellIn};
 
 // The lowest member of a set that has one.
-fn lowest(set: u64) -> usize
+pub fn lowest(set: u64) -> usize
     ensures { λ r. ⌜ r ≡ trailingZeros 64 set ⌝ }
 {
     u64::trailing_zeros(set) as usize
 }
 
 // The set without it.
-fn others(set: u64) -> u64
+pub fn others(set: u64) -> u64
     requires { ⌜ 0 < set ⌝ }
     ensures { λ r. ⌜ (r ≡ without set (single (trailingZeros 64 set))) × (r < set) ⌝ }
 {
@@ -52,7 +52,7 @@ pub fn meet_at(row: &[u64], set: u64, all: u64) -> u64
 }
 
 // Joins a row to another, word by word.
-fn join_row(dst: &mut [u64], src: &[u64])
+pub fn join_row(dst: &mut [u64], src: &[u64])
     requires { ⌜ length (now dst) ≤ length (now src) ⌝ }
     ensures { λ r. ⌜ now (dst .exit) ≡ listOver (length (now (dst .entry))) (λ j. union (getD (now (dst .entry)) j 0) (getD (now (src .entry)) j 0)) ⌝ }
 {

@@ -1,5 +1,6 @@
 -- Laws that the proofs of the functions cite, and what the rules come to.
 pub mod Searches
+pub mod Goals
 pub mod Parts
 pub mod Stages
 pub mod Built

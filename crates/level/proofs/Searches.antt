@@ -1,11 +1,17 @@
 -- A loop that tests each index and is left early: what holds at its head, where it starts, one turn more, and each way out.
 -- Assumes nothing.
-use mathlib.Core.Path.{_≡_, refl, sym}
+use mathlib.Core.Path.{_≡_, refl, sym, ap, ap₂, subst, _∙_}
 use mathlib.Core.Bool.{Bool, true, false, So, false≢true}
-use Prim.Native.Nat.{ℕ, _+_, _≤_, _<_}
+use mathlib.Core.Logic.{by-cases}
+use Prim.Native.Nat.{ℕ, _+_, _-_, _≤_, _<_}
 use borrow.Author.Count.{below-more}
+use native.Mathlib.Decide.{decLe}
+use native.Mathlib.Numerals.{add-one}
 use native.Mathlib.Omega.{arith}
+use lib.Bits.{bitOr, bitXor, and-le-l, and-le-r, or-add-and, xor-add-and, xor-self}
+use Rattle.rules.specs.Test.{_and_, same}
 use Rattle.rules.specs.Over.{allBelow, firstBelow}
+use Rattle.rules.proofs.Tests.{and-of, and-left, and-right, test-eq, same-of, same-at}
 use Rattle.rules.proofs.Overs.{all-of, all-at}
 use Rattle.rules.proofs.Firsts.{first-unique}
 
@@ -35,6 +41,68 @@ held-not {f} {n} {i} h l e = go (allBelow n f) refl
     go : (b : Bool) → allBelow n f ≡ b → false ≡ b
     go true q = absurd (not-so (f i) e (all-at n f q i l))
     go false q = refl
+
+-- a block of k at once
+pub held-block : {f : ℕ → Bool} {n i : ℕ} (k : ℕ) → Held f n i → i + k ≤ n → So (allBelow k (λ j. f (i + j))) → Held f n (i + k)
+held-block {f} {n} {i} k h l t = record {
+  within = l;
+  each = λ j m. by-cases (decLe i j)
+      (λ g. let e : i + (j - i) ≡ j = omega arith in subst (λ (x : ℕ). So (f x)) e (all-at k (λ j. f (i + j)) t (j - i) (omega arith)))
+      (λ g. h .each j (omega arith));
+}
+
+pub held-blocked : {f : ℕ → Bool} {n i : ℕ} (k : ℕ) → Held f n i → i + k ≤ n → allBelow k (λ j. f (i + j)) ≡ false → false ≡ allBelow n f
+held-blocked {f} {n} {i} k h l e = go (allBelow n f) refl
+  where
+    go : (b : Bool) → allBelow n f ≡ b → false ≡ b
+    go true q = absurd (not-so _ e (all-of k (λ j. f (i + j)) (λ j m. all-at n f q (i + j) (omega arith))))
+    go false q = refl
+
+-- what holds of the first i, as one test
+pub held-so : {f : ℕ → Bool} {n i : ℕ} → Held f n i → So (allBelow i f)
+held-so {f} {n} {i} h = all-of i f (h .each)
+
+pub held-from : (f : ℕ → Bool) (n i : ℕ) → i ≤ n → So (allBelow i f) → Held f n i
+held-from f n i l t = record { within = l; each = all-at i f t }
+
+-- ---- words whose differences are joined
+
+xor-same : (a b : ℕ) → bitXor a b ≡ 0 → a ≡ b
+xor-same a b e = omega (arith, xor-add-and a b, and-le-l a b, and-le-r a b)
+
+differ-same : (a b : ℕ) → same (bitXor a b) 0 ≡ same a b
+differ-same a b = test-eq _ _
+    (λ t. same-of _ _ (xor-same a b (same-at _ _ t)))
+    (λ t. same-of _ _ (ap (bitXor a) (sym (same-at _ _ t)) ∙ xor-self a))
+
+join-same : (a b : ℕ) → same (bitOr a b) 0 ≡ (same a 0 and same b 0)
+join-same a b = test-eq _ _
+    (λ t.
+    let e = same-at (bitOr a b) 0 t in
+    let f = or-add-and a b in
+    and-of _ _ (same-of _ _ (omega (arith, and-le-l a b, and-le-r a b))) (same-of _ _ (omega (arith, and-le-l a b, and-le-r a b))))
+    (λ t. same-of _ _ (ap₂ bitOr (same-at _ _ (and-left _ _ t)) (same-at _ _ (and-right _ _ t))))
+
+-- of n words, no difference among the first i: each is the same as the other
+pub record Alike (one other : ℕ → ℕ) (n i differ : ℕ) : Type 0 where
+  pub within : i ≤ n
+  pub is : same differ 0 ≡ allBelow i (λ k. same (one k) (other k))
+
+pub alike-none : {one other : ℕ → ℕ} {n : ℕ} → Alike one other n 0 0
+unfolding allBelow
+alike-none = record { within = omega arith; is = same-of 0 0 refl }
+
+pub alike-more : {one other : ℕ → ℕ} {n i differ : ℕ} → Alike one other n i differ → i < n
+    → Alike one other n (i + 1) (bitOr differ (bitXor (one i) (other i)))
+unfolding allBelow
+alike-more {one} {other} {n} {i} {differ} a l = record {
+  within = omega arith;
+  is = join-same differ (bitXor (one i) (other i)) ∙ ap₂ _and_ (a .is) (differ-same (one i) (other i))
+      ∙ ap (λ (x : ℕ). allBelow x (λ k. same (one k) (other k))) (sym (add-one i));
+}
+
+pub alike-done : {one other : ℕ → ℕ} {n i differ : ℕ} → Alike one other n i differ → n ≤ i → same differ 0 ≡ allBelow n (λ k. same (one k) (other k))
+alike-done {one} {other} {n} {i} a h = let e : i ≡ n = omega (arith, a .within) in a .is ∙ ap (λ (x : ℕ). allBelow x (λ k. same (one k) (other k))) e
 
 -- the test holds at no index below i, of n
 pub record Sought (f : ℕ → Bool) (n i : ℕ) : Type 0 where

@@ -1,15 +1,29 @@
--- A goal in a layer, one proposition and one pair at a time.
-use Prim.Native.Nat.{ℕ}
-use mathlib.Core.Bool.{Bool}
+-- A goal in a layer, by its members: one proposition and one pair at a time.
+use Prim.Native.Nat.{ℕ, _<_}
+use mathlib.Core.Bool.{Bool, So}
 use mathlib.Core.List.{List}
-use Rattle.rules.specs.Test.{_and_, _implies_, fails}
+use lib.ListN.{getD}
+use Rattle.rules.specs.Test.{_implies_, fails, same}
 use Rattle.rules.specs.Word.{bit, within, meets}
+use Rattle.rules.specs.Over.{allBelow}
 use Rattle.rules.specs.Layer.{labelIn, mutexIn}
 
+-- f holds at each member of the set, of n
+unfoldable pub allOf : ℕ → ℕ → (ℕ → Bool) → Bool
+allOf n set f = allBelow n (λ i. bit i set implies f i)
+
 -- 'each goal label contains S'
-abbrev pub labelMeets : List ℕ → ℕ → ℕ → ℕ → Bool
-labelMeets l set goal p = bit p goal implies within set (labelIn l p)
+abbrev pub labelMeets : List ℕ → ℕ → ℕ → Bool
+labelMeets l set p = within set (labelIn l p)
 
 -- 'no mutex word of two goals meets S', in a layer of n propositions
-abbrev pub pairMeets : ℕ → List ℕ → ℕ → ℕ → ℕ → ℕ → Bool
-pairMeets n l set goal q p = (bit p goal and bit q goal) implies fails (meets set (mutexIn n l p q))
+unfoldable pub pairMeets : ℕ → List ℕ → ℕ → ℕ → ℕ → Bool
+pairMeets n l set p q = fails (meets set (mutexIn n l p q))
+
+-- each member of the set lies above p
+abbrev pub Above : ℕ → ℕ → Type 0
+Above p set = (q : ℕ) → So (bit q set) → p < q
+
+-- two lists have the same word at i
+abbrev pub alike : List ℕ → List ℕ → ℕ → Bool
+alike one other i = same (getD one i 0) (getD other i 0)

@@ -1,10 +1,9 @@
 -- A plan reads of the actions how many there are and what each vertex needs and adds: lists of those sets give the same plan.
 -- Assumes nothing.
-use mathlib.Core.Path.{_≡_, refl, sym, ap, ap₂, subst, _∙_}
+use mathlib.Core.Path.{_≡_, refl, sym, ap, ap₂, _∙_}
 use mathlib.Core.List.{List, [], _∷_}
-use mathlib.Core.Bool.{Bool, true, false, So}
 use mathlib.Core.Logic.{⊎-elim}
-use Prim.Native.Nat.{ℕ, zero, suc, _+_, _-_, _*_, _≤_, _<_}
+use Prim.Native.Nat.{ℕ, zero, suc, _+_, _-_, _*_, _≤_}
 use native.Mathlib.Omega.{arith}
 use lib.ListN.{length, getD, take, drop}
 use lib.Seq.{length-take-le}
@@ -15,8 +14,8 @@ use Rattle.rules.specs.Lists.{listOver}
 use Rattle.rules.specs.Domain.{Actions, persistence, needsOf, addsOf, domain}
 use Rattle.rules.specs.Layer.{size, stride, labelIn, propsIn, actionsIn}
 use Rattle.rules.specs.Level.{Level, level, never, notByDepth, firstMet, firstRest, layerRests, levelOf}
-use Rattle.rules.specs.Plan.{Support, takes, order, support, Covered, covered, uncovered, coverFrom, cover}
-use Rattle.rules.specs.Plan.{Planned, planned, stuck, noLevel, ground, onCover, descend, planAt, planOf}
+use Rattle.rules.specs.Plan.{Support, takes, order, support, Covered, uncovered, coverFrom, cover}
+use Rattle.rules.specs.Plan.{planned, stuck, ground, onCover, descend, planAt, planOf}
 use Rattle.rules.proofs.Tests.{holds-or, choose-held, choose-failed, below-at}
 use Rattle.rules.proofs.Layers.{length-listOver}
 use Rattle.graph.specs.File.{actionsOf}

@@ -2,18 +2,17 @@
 -- Assumes nothing.
 use mathlib.Core.Path.{_≡_, refl, sym, ap, _∙_}
 use mathlib.Core.List.{List}
-use mathlib.Core.Bool.{Bool, true, false}
 use Prim.Native.Nat.{ℕ, _^_, _≤_, _<_}
 use native.Mathlib.Omega.{arith}
 use lib.ListN.{length}
-use Rattle.rules.specs.Test.{_or_, fails, same, below, choose}
+use Rattle.rules.specs.Test.{_or_}
 use Rattle.rules.specs.Domain.{domain}
 use Rattle.rules.specs.Layer.{wordCount}
-use Rattle.rules.specs.Level.{Level, level, levelOf}
+use Rattle.rules.specs.Level.{level, levelOf}
 use Rattle.rules.specs.Plan.{Planned, planned, stuck, noLevel, planOf}
 use Rattle.rules.proofs.Plans.{RelaxedPlan}
 use Rattle.rules.proofs.Claims.{plan-of, never-stuck, plan-level, no-level-of}
-use Rattle.graph.specs.Verdict.{Verdict, accepted, refused, andThen}
+use Rattle.graph.specs.Verdict.{accepted, refused}
 use Rattle.graph.specs.File.{fileRule, actionsOf, startOf, Taken}
 use Rattle.graph.specs.Calls.{depthRule, setRule, goalRule, memoryRule, outputRule}
 use Rattle.graph.specs.declared.file.Counts.{Counts}

@@ -1,17 +1,17 @@
 -- The layers from the level down: where an action layer lies, one layer further down, and each way in which the descent ends.
 -- Assumes nothing.
-use mathlib.Core.Path.{_≡_, refl, sym, ap, ap₂, subst, _∙_}
-use mathlib.Core.List.{List, [], _∷_}
+use mathlib.Core.Path.{_≡_, sym, ap, ap₂, subst, _∙_}
+use mathlib.Core.List.{List, _∷_}
 use mathlib.Core.Bool.{Bool, true, false}
-use Prim.Native.Nat.{ℕ, zero, suc, _+_, _-_, _*_, _≤_, _<_}
+use Prim.Native.Nat.{ℕ, suc, _+_, _-_, _*_, _≤_, _<_}
 use native.Mathlib.Numerals.{add-one}
 use native.Mathlib.Omega.{arith}
-use lib.ListN.{length, getD, set, take, drop, drop-of-length-le}
+use lib.ListN.{length, getD, set, take, drop}
 use lib.Seq.{getD-take}
 use Rattle.rules.specs.Test.{choose}
 use Rattle.rules.specs.Word.{within}
 use Rattle.rules.specs.Over.{allBelow}
-use Rattle.rules.specs.Domain.{Actions, domain}
+use Rattle.rules.specs.Domain.{domain}
 use Rattle.rules.specs.Layer.{size, stride, labelIn, propsIn, actionsIn}
 use Rattle.rules.specs.Plan.{Covered, covered, uncovered, cover, Planned, planned, stuck, ground, onCover, descend}
 use Rattle.rules.proofs.Overs.{all-eq}

@@ -37,6 +37,9 @@ order-length : (A : Actions) (p : ℕ) → length (order A p) ≡ suc (A .count)
 unfolding order
 order-length A p = ap suc (length-listOver (A .count) (λ a. a))
 
+pub order-long : (A : Actions) (p k : ℕ) → A .count < k → length (order A p) ≤ k
+order-long A p k l = omega (arith, order-length A p)
+
 order-place : (A : Actions) (p k : ℕ) → k ≤ A .count → getD (order A p) k 0 ≡ orderAt (A .count) p k
 unfolding order persistence orderAt choose
 order-place A p zero h = simp (same-of 0 0 refl)

@@ -5,7 +5,9 @@ use mathlib.Core.List.{List}
 use lib.ListN.{length, getD}
 use Rattle.rules.specs.Test.{same, below, choose}
 use Rattle.rules.specs.Word.{single}
+use Rattle.rules.specs.Lists.{listOver}
 use Rattle.rules.specs.Domain.{Actions}
+use Rattle.rules.specs.Shared.{startLabel}
 use Rattle.rules.specs.Plan.{Covered, covered, uncovered, Planned, planned, stuck}
 use Rattle.graph.specs.Width.{propWidth}
 use Rattle.plan.specs.declared.layer.LayerAnswer.{LayerAnswer}
@@ -24,6 +26,10 @@ setOf sets v = choose (below v (length sets)) (getD sets v 0) (single (v - lengt
 -- 'persistence first .. Then actions .. in rising number': the vertex at place k of the order for p
 unfoldable pub orderAt : ℕ → ℕ → ℕ → ℕ
 orderAt actions p k = choose (same k 0) (actions + p) (k - 1)
+
+-- of each proposition the set of the actions that add it
+unfoldable pub addersOf : ℕ → List ℕ → List ℕ
+addersOf n adds = listOver n (startLabel (length adds) (λ a. getD adds a 0))
 
 -- the sizes of one layer's search
 pub record Sizes (wanted labels needs adds under : List ℕ) : Type 0 where

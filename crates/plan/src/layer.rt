@@ -1,4 +1,5 @@
 // The search for support of one layer.
+use crate::vertex::next_place;
 use crate::vertex::turn;
 use crate::vertex::vertex;
 ghost use mathlib.Core.Path.{_≡_};
@@ -6,7 +7,7 @@ ghost use Prim.Native.Nat.{_+_, _≤_};
 ghost use lib.ListN.{length};
 ghost use Rattle.rules.specs.Plan.{coverFrom, cover};
 ghost use Rattle.graph.specs.Width.{propWidth};
-ghost use Rattle.plan.specs.Search.{listed, Sizes, coveredAs};
+ghost use Rattle.plan.specs.Search.{listed, addersOf, Sizes, coveredAs};
 
 // The actions marked, or states left uncovered.
 pub enum LayerAnswer {
@@ -14,15 +15,16 @@ pub enum LayerAnswer {
     Uncovered,
 }
 
-// Each proposition's states are carried to the layer below.
+// Each proposition's states are carried to the layer below; of the actions only its adders come up.
 fn support(
     wanted: &[u64],
     labels: &[u64],
     needs: &[u32],
     adds: &[u32],
+    adders: &[u64],
     under: &mut [u64],
 ) -> LayerAnswer
-    requires { ⌜ Sizes (now wanted) (now labels) (now needs) (now adds) (now under) ⌝ }
+    requires { ⌜ Sizes (now wanted) (now labels) (now needs) (now adds) (now under) × (now adders ≡ addersOf (length (now wanted)) (now adds)) ⌝ }
     ensures { λ r. ⌜ coveredAs r (now (under .exit))
         ≡ coverFrom (listed (length (now (wanted .entry))) (now (needs .entry)) (now (adds .entry))) (now (labels .entry)) (now (wanted .entry)) (length (now (wanted .entry))) 0 0 (now (under .entry)) ⌝ }
 {
@@ -40,7 +42,7 @@ fn support(
             let took = turn(left, marks, v, p, labels, needs, adds, &mut *under);
             left = took.left;
             marks = took.marks;
-            k += 1;
+            k = next_place(adders[p], k);
         }
         if left != 0 {
             return LayerAnswer::Uncovered;
@@ -66,23 +68,30 @@ fn down(
     labels: &[u64],
     needs: &[u32],
     adds: &[u32],
+    adders: &[u64],
     under: &mut [u64],
 ) -> LayerAnswer
-    requires { ⌜ Sizes (now needed) (now labels) (now needs) (now adds) (now under) ⌝ }
+    requires { ⌜ Sizes (now needed) (now labels) (now needs) (now adds) (now under) × (now adders ≡ addersOf (length (now needed)) (now adds)) ⌝ }
     ensures { λ r. ⌜ coveredAs r (now (needed .exit))
         ≡ coverFrom (listed (length (now (needed .entry))) (now (needs .entry)) (now (adds .entry))) (now (labels .entry)) (now (needed .entry)) (length (now (needed .entry))) 0 0 (now (under .entry)) ⌝ }
 {
-    let answer = support(&*needed, labels, needs, adds, &mut *under);
+    let answer = support(&*needed, labels, needs, adds, adders, &mut *under);
     replace(&mut *needed, &*under);
     answer
 }
 
 // One layer down, from nothing needed below.
-pub fn step_down(needed: &mut [u64], labels: &[u64], needs: &[u32], adds: &[u32]) -> LayerAnswer
-    requires { ⌜ (length (now needed) ≤ propWidth) × (length (now needs) ≤ 32) × (length (now adds) ≡ length (now needs)) × (length (now needs) + length (now needed) ≤ length (now labels)) ⌝ }
+pub fn step_down(
+    needed: &mut [u64],
+    labels: &[u64],
+    needs: &[u32],
+    adds: &[u32],
+    adders: &[u64],
+) -> LayerAnswer
+    requires { ⌜ (length (now needed) ≤ propWidth) × (length (now needs) ≤ 32) × (length (now adds) ≡ length (now needs)) × (length (now needs) + length (now needed) ≤ length (now labels)) × (now adders ≡ addersOf (length (now needed)) (now adds)) ⌝ }
     ensures { λ r. ⌜ coveredAs r (now (needed .exit)) ≡ cover (listed (length (now (needed .entry))) (now (needs .entry)) (now (adds .entry))) (now (labels .entry)) (now (needed .entry)) ⌝ }
 {
     let n = needed.len();
     let mut under = [0u64; 32];
-    down(&mut *needed, labels, needs, adds, &mut under[..n])
+    down(&mut *needed, labels, needs, adds, adders, &mut under[..n])
 }

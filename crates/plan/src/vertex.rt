@@ -1,7 +1,10 @@
 // One vertex in the search for support.
+use graph::rows::lowest;
+use graph::rows::others;
 use graph::sets::Props;
 ghost use mathlib.Core.Path.{_≡_};
-ghost use Prim.Native.Nat.{_+_, _≤_, _<_};
+ghost use Prim.Native.Nat.{_+_, _/_, _^_, _≤_, _<_};
+ghost use lib.Count.{trailingZeros};
 ghost use lib.ListN.{length};
 ghost use Rattle.rules.specs.Test.{_and_, fails, same, below, choose};
 ghost use Rattle.rules.specs.Word as W;
@@ -30,6 +33,14 @@ pub fn vertex(k: usize, p: usize, actions: usize) -> usize
     k - 1
 }
 
+// The place of the next adder after place k, or one behind all places.
+pub fn next_place(adders: u64, k: usize) -> usize
+    requires { ⌜ k ≤ 32 ⌝ }
+    ensures { λ r. ⌜ r ≡ k + 1 + trailingZeros 64 (adders / 2 ^ k) ⌝ }
+{
+    k + 1 + lowest(adders >> k)
+}
+
 // An action's set, or the proposition of a persistence.
 fn set_of(sets: &[u32], v: usize) -> u32
     requires { ⌜ v < length (now sets) + propWidth ⌝ }
@@ -52,13 +63,19 @@ pub fn kept(among: Props, q: usize, t: u64) -> u64
     0
 }
 
-// `t` is needed of each need.
-fn spread(under: &mut [u64], needs: Props, t: u64)
+// `t` is needed of each need. Only the needs cost time, and where nothing is taken they do not.
+pub fn spread(under: &mut [u64], needs: Props, t: u64)
     requires { ⌜ length (now under) ≤ propWidth ⌝ }
     ensures { λ r. ⌜ now (under .exit) ≡ listOver (length (now (under .entry))) (λ q. W.union (labelIn (now (under .entry)) q) (keep (W.bit q (needs .0)) t)) ⌝ }
 {
-    for q in 0..under.len() {
-        under[q] = under[q] | kept(needs, q, t);
+    if t == 0 {
+        return;
+    }
+    let mut left = graph::tables::wide(Props::first(under.len()).common(needs).0);
+    while 0 < left {
+        let q = lowest(left);
+        under[q] = under[q] | t;
+        left = others(left);
     }
 }
 

@@ -10,7 +10,7 @@ use Rattle.graph.specs.File.{Taken, fileRule, actionsOf, startOf}
 use Rattle.graph.specs.Calls.{setRule, outputRule}
 use Rattle.graph.specs.declared.file.Counts.{Counts}
 use Rattle.run.specs.Run.{sequenceRule, ranVerdict, endRule, takenRule, runRule}
-use Rattle.run.specs.Table.{Known}
+use Rattle.run.specs.Course.{Known}
 use Rattle.graph.proofs.Takens.{passed-then, taken-means, set-means, output-means}
 use Rattle.run.proofs.Loops.{sequence-means}
 

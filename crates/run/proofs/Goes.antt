@@ -1,136 +1,96 @@
--- A run, step by step, and what it comes to once the file is read.
+-- A run, step by step, and what it comes to.
 -- Assumes nothing.
-use Prim.Native.Nat.{ℕ, suc, _+_, _≤_, _<_}
+use Prim.Native.Nat.{ℕ, suc, _+_, _*_, _^_, _≤_, _<_}
 use mathlib.Core.Path.{_≡_, refl, sym, ap, ap₂, subst, _∙_}
 use mathlib.Core.Bool.{Bool, true, false, So}
-use mathlib.Core.List.{List, [], _∷_, _++_}
+use mathlib.Core.List.{List}
 use native.Mathlib.Numerals.{add-one}
+use native.Mathlib.Nat.{lt-of-lt-of-le}
 use native.Mathlib.Omega.{arith}
 use lib.ListN.{length, getD, drop, drop-of-length-le}
+use lib.Pow.{pow-mono}
 use lib.Seq.{drop-cons}
-use Rattle.rules.specs.Test.{_implies_, choose}
-use Rattle.rules.specs.Word.{bit, union, without, within}
-use Rattle.rules.specs.Over.{allBelow}
-use Rattle.rules.specs.Lists.{listOver}
-use Rattle.rules.specs.Domain.{Actions, needsOf, addsOf, deletesOf}
-use Rattle.rules.specs.Run.{ready, after, stepped, Ran, ended, lacks, runFrom, runOf}
+use Rattle.rules.specs.Test.{choose}
+use Rattle.rules.specs.Word.{first}
+use Rattle.rules.specs.Over.{meetOf}
+use Rattle.rules.specs.Domain.{Actions}
+use Rattle.rules.specs.Run.{ready, stepped, Ran, ended, lacks, runFrom, runOf}
 use Rattle.rules.proofs.Tests.{choose-held, choose-failed, is-fails}
-use Rattle.rules.proofs.Layers.{length-listOver, getD-listOver}
-use Rattle.rules.proofs.Domains.{needs-action, adds-action, deletes-action}
+use Rattle.graph.specs.Width.{propWidth}
 use Rattle.graph.specs.Verdict.{accepted, refused, written, laid}
-use Rattle.graph.specs.File.{actionsOf, startOf}
+use Rattle.graph.specs.Memory.{putAt}
+use Rattle.graph.specs.File.{Taken, setAt, actionsOf}
 use Rattle.graph.specs.declared.file.Counts.{Counts}
 use Rattle.run.specs.Run.{ranVerdict}
-use Rattle.run.specs.Table.{tabled, Known, stepAnswer}
+use Rattle.run.specs.Course.{Some, setsOf, stepAnswer}
+use Rattle.run.specs.declared.step.Course.{Course}
 use Rattle.run.specs.declared.step.Stepped.the-variants as did
+use Rattle.run.proofs.Courses.{sets-new, sets-further, ready-sure}
+use Rattle.run.proofs.Loops.{put-first}
 
--- what a step's answer says of its precondition
-moved-ready : (b : Bool) → did.Moved ≡ stepAnswer b → b ≡ true
-unfolding stepAnswer choose
-moved-ready true e = refl
-moved-ready false e = cc
+-- what a step's answer says of its precondition, and what it did
+moved-means : (b : Bool) (w w' : Course) → did.Moved w' ≡ choose b (did.Moved w) did.Missing → So b × (w' ≡ w)
+unfolding choose
+moved-means true w w' e = (refl, cc)
+moved-means false w w' e = (cc, cc)
 
-missing-ready : (b : Bool) → did.Missing ≡ stepAnswer b → b ≡ false
-unfolding stepAnswer choose
-missing-ready true e = cc
-missing-ready false e = refl
+missing-means : (b : Bool) (w : Course) → did.Missing ≡ choose b (did.Moved w) did.Missing → b ≡ false
+unfolding choose
+missing-means true w e = cc
+missing-means false w e = refl
 
--- what a step answers and leaves, given whether its precondition is there
-module _ (A : Actions) (n set a : ℕ) (xs : List ℕ) where
-  pub step-missing : ready A n set a xs ≡ false
-      → (did.Missing ≡ stepAnswer (ready A n set a xs)) × (xs ≡ choose (ready A n set a xs) (stepped A n set a xs) xs)
-  unfolding stepAnswer choose
-  step-missing e = (sym (ap stepAnswer e), sym (choose-failed _ _ _ (is-fails _ e)))
+-- ---- at step i, what is left of the run is a run of the rest of the list from what the steps so far have made of the states
 
-  pub step-moved : (xs' : List ℕ) → ready A n set a xs ≡ true → xs' ≡ stepped A n set a xs
-      → (did.Moved ≡ stepAnswer (ready A n set a xs)) × (xs' ≡ choose (ready A n set a xs) (stepped A n set a xs) xs)
-  unfolding stepAnswer choose
-  step-moved xs' e q = (sym (ap stepAnswer e), q ∙ sym (choose-held _ _ _ e))
-
--- ---- at step i, what is left of the run is a run of the rest of the list from the sets as they are
-
-pub record Going (A : Actions) (n set : ℕ) (xs₀ list : List ℕ) (i : ℕ) (xs : List ℕ) : Type 0 where
+pub record Going (A : Actions) (n : ℕ) (start : ℕ → ℕ) (set : ℕ) (list : List ℕ) (i : ℕ) (w : Course) : Type 0 where
   pub inside : i ≤ length list
-  pub long : length xs ≡ n
-  pub is : runFrom A n set 0 xs₀ list ≡ runFrom A n set i xs (drop i list)
+  pub is : runOf A n start set list ≡ runFrom A n set i (setsOf n start set w) (drop i list)
 
-module _ {A : Actions} {n set : ℕ} {xs₀ list : List ℕ} where
-  pub go-none : length xs₀ ≡ n → Going A n set xs₀ list 0 xs₀
-  go-none l = record { inside = omega arith; long = l; is = refl }
+module _ {A : Actions} {n : ℕ} {start : ℕ → ℕ} {set : ℕ} {list : List ℕ} where
+  pub go-none : {w : Course} → w .removed ≡ 0 → w .added ≡ 0 → Going A n start set list 0 w
+  unfolding runOf
+  go-none {w} r a = record { inside = omega arith; is = ap (λ (xs : List ℕ). runFrom A n set 0 xs list) (sets-new n start set w r a) }
 
-  turn : {i : ℕ} {xs : List ℕ} (a : ℕ) → Going A n set xs₀ list i xs → i < length list → a ≡ getD list i 0
-      → runFrom A n set 0 xs₀ list ≡ choose (ready A n set a xs) (runFrom A n set (suc i) (stepped A n set a xs) (drop (suc i) list)) (lacks i)
+  turn : {i : ℕ} {w : Course} (a : ℕ) → Going A n start set list i w → i < length list → a ≡ getD list i 0
+      → runOf A n start set list
+      ≡ choose (ready A n set a (setsOf n start set w)) (runFrom A n set (suc i) (stepped A n set a (setsOf n start set w)) (drop (suc i) list)) (lacks i)
   unfolding runFrom
-  turn {i} {xs} a g h e =
+  turn {i} {w} a g h e =
+      let xs = setsOf n start set w in
       g .is ∙ ap (λ (l : List ℕ). runFrom A n set i xs l) (drop-cons list i 0 h)
       ∙ ap (λ (b : ℕ). choose (ready A n set b xs) (runFrom A n set (suc i) (stepped A n set b xs) (drop (suc i) list)) (lacks i)) (sym e)
 
-  pub go-more : {i : ℕ} {xs xs' : List ℕ} (a : ℕ) → Going A n set xs₀ list i xs → i < length list → a ≡ getD list i 0
-      → did.Moved ≡ stepAnswer (ready A (length xs) set a xs) → xs' ≡ choose (ready A (length xs) set a xs) (stepped A (length xs) set a xs) xs
-      → Going A n set xs₀ list (i + 1) xs'
-  unfolding stepped
-  go-more {i} {xs} {xs'} a g h e m q =
-      let r : So (ready A (length xs) set a xs) = moved-ready _ m in
-      let r' : So (ready A n set a xs) = subst (λ (k : ℕ). So (ready A k set a xs)) (g .long) r in
-      let q' : xs' ≡ stepped A n set a xs = q ∙ choose-held _ _ _ r ∙ ap (λ (k : ℕ). stepped A k set a xs) (g .long) in
-      record {
-        inside = omega arith;
-        long = ap length q' ∙ length-listOver n _;
-        is = turn a g h e ∙ choose-held _ _ _ r' ∙ ap₂ (λ (k : ℕ) (l : List ℕ). runFrom A n set k l (drop k list)) (sym (add-one i)) (sym q');
-      }
+  -- with what all states of the set started with, by which a step goes
+  module _ (few : n ≤ 64) (some : Some n set) {sure : ℕ} (is : sure ≡ meetOf n set start (first propWidth)) where
+    pub go-more : {i : ℕ} {w w' : Course} (a : ℕ) → Going A n start set list i w → i < length list → a ≡ getD list i 0 → A .pre a < 2 ^ propWidth
+        → did.Moved w' ≡ stepAnswer A sure w a → Going A n start set list (i + 1) w'
+    unfolding stepAnswer
+    go-more {i} {w} {w'} a g h e small m =
+        let (t, q) = moved-means _ _ _ m in
+        let r : So (ready A n set a (setsOf n start set w)) = ready-sure n start set few some w sure is A a small ∙ t in
+        record {
+          inside = omega arith;
+          is = turn a g h e ∙ choose-held _ _ _ r
+              ∙ ap₂ (λ (k : ℕ) (l : List ℕ). runFrom A n set k l (drop k list)) (sym (add-one i))
+              (sets-further n start set A a w ∙ ap (setsOf n start set) (sym q));
+        }
 
-  pub go-off : {i : ℕ} {xs : List ℕ} (a : ℕ) → Going A n set xs₀ list i xs → i < length list → a ≡ getD list i 0
-      → did.Missing ≡ stepAnswer (ready A (length xs) set a xs) → lacks i ≡ runFrom A n set 0 xs₀ list
-  go-off {i} {xs} a g h e m =
-      let r : ready A n set a xs ≡ false = subst (λ (k : ℕ). ready A k set a xs ≡ false) (g .long) (missing-ready _ m) in
-      sym (turn a g h e ∙ choose-failed _ _ _ (is-fails _ r))
+    pub go-off : {i : ℕ} {w : Course} (a : ℕ) → Going A n start set list i w → i < length list → a ≡ getD list i 0 → A .pre a < 2 ^ propWidth
+        → did.Missing ≡ stepAnswer A sure w a → lacks i ≡ runOf A n start set list
+    unfolding stepAnswer
+    go-off {i} {w} a g h e small m =
+        let r : ready A n set a (setsOf n start set w) ≡ false = ready-sure n start set few some w sure is A a small ∙ missing-means _ _ m in
+        sym (turn a g h e ∙ choose-failed _ _ _ (is-fails _ r))
 
-  pub go-done : {i : ℕ} {xs : List ℕ} → Going A n set xs₀ list i xs → length list ≤ i → ended xs ≡ runFrom A n set 0 xs₀ list
+  pub go-done : {i : ℕ} {w : Course} → Going A n start set list i w → length list ≤ i → ended (setsOf n start set w) ≡ runOf A n start set list
   unfolding runFrom
-  go-done {i} {xs} g h = sym (g .is ∙ ap (λ (l : List ℕ). runFrom A n set i xs l) (drop-of-length-le list h))
+  go-done {i} {w} g h = sym (g .is ∙ ap (λ (l : List ℕ). runFrom A n set i (setsOf n start set w) l) (drop-of-length-le list h))
 
--- ---- actions with the same three sets at the numbers of a list run alike over it
-
-pub record Alike (A B : Actions) (a : ℕ) : Type 0 where
-  pub pre : A .pre a ≡ B .pre a
-  pub add : A .add a ≡ B .add a
-  pub del : A .del a ≡ B .del a
-
-module _ (A B : Actions) (n set : ℕ) where
-  ready-same : (a : ℕ) (xs : List ℕ) → Alike A B a → ready A n set a xs ≡ ready B n set a xs
-  unfolding ready
-  ready-same a xs s = ap (λ (p : ℕ). allBelow n (λ s. bit s set implies within p (getD xs s 0))) (s .pre)
-
-  stepped-same : (a : ℕ) (xs : List ℕ) → Alike A B a → stepped A n set a xs ≡ stepped B n set a xs
-  unfolding stepped after
-  stepped-same a xs s =
-      ap₂ (λ (p d : ℕ). listOver n (λ s. choose (bit s set) (without (union (getD xs s 0) p) d) (getD xs s 0))) (s .add) (s .del)
-
-  pub run-same : (i : ℕ) (xs list : List ℕ) → ((k : ℕ) → k < length list → Alike A B (getD list k 0)) → runFrom A n set i xs list ≡ runFrom B n set i xs list
-  unfolding runFrom
-  run-same i xs [] s = refl
-  run-same i xs (a ∷ list) s =
-      let here : Alike A B a = s 0 (omega arith) in
-      ap₂ (λ (b : Bool) (l : List ℕ). choose b (runFrom A n set (suc i) l list) (lacks i)) (ready-same a xs here) (stepped-same a xs here)
-      ∙ ap (λ (r : Ran). choose (ready B n set a xs) r (lacks i)) (run-same (suc i) (stepped B n set a xs) list (λ k h. s (suc k) (omega arith)))
-
--- the sets read from the file are those of its actions
-module _ (file : List ℕ) (c : Counts) (set : ℕ) (list needs adds dels xs : List ℕ) where
-  pub run-read : needs ≡ listOver (c .actions + c .props) (needsOf (actionsOf file c)) → adds ≡ listOver (c .actions + c .props) (addsOf (actionsOf file c))
-      → dels ≡ listOver (c .actions + c .props) (deletesOf (actionsOf file c)) → xs ≡ listOver (c .states) (startOf file c) → Known (c .actions) list
-      → runFrom (tabled needs adds dels) (length xs) set 0 xs list ≡ runOf (actionsOf file c) (c .states) (startOf file c) set list
-  unfolding runOf tabled actionsOf
-  run-read en ea ed ex known =
-      run-same (tabled needs adds dels) (actionsOf file c) (length xs) set 0 xs list
-      (λ k h. record {
-        pre = look needs _ (getD list k 0) en (known k h) ∙ needs-action (actionsOf file c) (getD list k 0) (known k h);
-        add = look adds _ (getD list k 0) ea (known k h) ∙ adds-action (actionsOf file c) (getD list k 0) (known k h);
-        del = look dels _ (getD list k 0) ed (known k h) ∙ deletes-action (actionsOf file c) (getD list k 0) (known k h);
-      })
-      ∙ ap₂ (λ (m : ℕ) (l : List ℕ). runFrom (actionsOf file c) m set 0 l list) (ap length ex ∙ length-listOver (c .states) (startOf file c)) ex
-    where
-      look : (l : List ℕ) (f : ℕ → ℕ) (a : ℕ) → l ≡ listOver (c .actions + c .props) f → a < c .actions → getD l a 0 ≡ f a
-      look l f a e h = ap (λ (k : List ℕ). getD k a 0) e ∙ getD-listOver (c .actions + c .props) f a (omega arith)
+-- a precondition of the file is a set of propositions
+pub pre-small : (file : List ℕ) (c : Counts) (a : ℕ) → Taken file c → a < c .actions → actionsOf file c .pre a < 2 ^ propWidth
+unfolding actionsOf
+pre-small file c a taken h =
+    let at : 8 + 4 * (3 * a) ≡ 8 + 12 * a = omega arith in
+    lt-of-lt-of-le (subst (λ (x : ℕ). setAt file x < 2 ^ c .props) at (taken .sets (3 * a) (omega arith))) (pow-mono (taken .props))
 
 -- ---- what is answered and written
 
@@ -138,7 +98,10 @@ pub lacked : {i : ℕ} (r : Ran) (out : List ℕ) → lacks i ≡ r → (refused
 unfolding ranVerdict written laid
 lacked r out e = (ap (λ (x : Ran). written (ranVerdict x)) e, ap (λ (x : Ran). laid (ranVerdict x) out) e)
 
-pub ended-with : {ends : List ℕ} (r : Ran) (out out' : List ℕ) → ended ends ≡ r → out' ≡ ends ++ drop (length ends) out
-    → (accepted (length ends) ≡ written (ranVerdict r)) × (out' ≡ laid (ranVerdict r) out)
+pub ended-with : {ends : List ℕ} {n : ℕ} (r : Ran) (out out' : List ℕ) → ended ends ≡ r → length ends ≡ n → out' ≡ putAt 0 ends out
+    → (accepted n ≡ written (ranVerdict r)) × (out' ≡ laid (ranVerdict r) out)
 unfolding ranVerdict written laid
-ended-with r out out' e q = (ap (λ (x : Ran). written (ranVerdict x)) e, q ∙ ap (λ (x : Ran). laid (ranVerdict x) out) e)
+ended-with {ends} r out out' e l q = (
+  ap accepted (sym l) ∙ ap (λ (x : Ran). written (ranVerdict x)) e,
+  q ∙ put-first ends out ∙ ap (λ (x : Ran). laid (ranVerdict x) out) e,
+)

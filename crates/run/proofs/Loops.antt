@@ -1,23 +1,25 @@
--- Loops that look for a test that fails, that write over what they read, and that copy a list.
+-- The numbers of a list: the first that is unknown, the greatest, and a list put at the front.
 -- Assumes nothing.
-use Prim.Native.Nat.{ℕ, _+_, _≤_, _<_}
-use mathlib.Core.Path.{_≡_, sym, ap, subst, _∙_}
-use mathlib.Core.Bool.{Bool, false, true, So, false≢true}
+use Prim.Native.Nat.{ℕ, _+_, _≤_, _<_, max}
+use mathlib.Core.Path.{_≡_, refl, sym, ap, subst, _∙_}
+use mathlib.Core.Bool.{Bool, So}
 use mathlib.Core.List.{List, _++_}
 use mathlib.Core.Logic.{⊎-elim}
 use native.Mathlib.Nat.{zero-add, le-trans}
+use native.Mathlib.Numerals.{add-one}
 use native.Mathlib.Omega.{arith}
 use lib.ListN.{length, getD, drop}
 use Rattle.rules.specs.Test.{fails, below}
-use Rattle.rules.specs.Over.{allBelow, firstBelow}
-use Rattle.rules.proofs.Tests.{test-eq, choose-held, choose-failed, holds-or, fails-at, below-of, below-at, below-not, below-fails, is-fails}
-use Rattle.rules.proofs.Overs.{below-suc, all-of, all-at}
-use Rattle.rules.proofs.Firsts.{first-unique, first-before}
+use Rattle.rules.specs.Over.{firstBelow, greatest}
+use Rattle.rules.proofs.Tests.{choose-held, choose-failed, holds-or, fails-at, below-of, below-at, below-not, below-fails, is-fails}
+use Rattle.rules.proofs.Overs.{below-suc}
+use Rattle.rules.proofs.Firsts.{first-unique, first-before, greatest-at}
 use Rattle.graph.specs.Verdict.{accepted, refused}
 use Rattle.graph.specs.Memory.{putAt}
 use Rattle.run.specs.Run.{firstUnknown, numbersRule, sequenceRule}
-use Rattle.run.specs.Table.{Known}
-use Rattle.graph.proofs.Takens.{passed-if-not}
+use Rattle.run.specs.Course.{Known, Some}
+use Rattle.graph.specs.Calls.{setRule}
+use Rattle.graph.proofs.Takens.{passed-if-not, set-means}
 
 -- ---- at index i of n, f holds at all those so far
 
@@ -30,12 +32,6 @@ hold-none = record { within = omega arith; is = λ k h. absurd (omega arith) }
 
 pub hold-more : {f : ℕ → Bool} {n i : ℕ} → Holds f n i → i < n → So (f i) → Holds f n (i + 1)
 hold-more {f} {n} {i} h l t = record { within = omega arith; is = λ k m. below-suc (λ x. So (f x)) i t (h .is) k (omega arith) }
-
-pub hold-done : {f : ℕ → Bool} {n i : ℕ} → Holds f n i → n ≤ i → true ≡ allBelow n f
-hold-done {f} {n} h l = sym (all-of n f (λ k m. h .is k (omega arith)))
-
-pub hold-broken : {f : ℕ → Bool} {n i : ℕ} → Holds f n i → i < n → f i ≡ false → false ≡ allBelow n f
-hold-broken {f} {n} {i} h l e = test-eq false (allBelow n f) (λ t. absurd (false≢true t)) (λ t. sym e ∙ all-at n f t i l)
 
 -- ---- the numbers of a list, so far all below the number of actions
 
@@ -56,6 +52,36 @@ module _ (actions : ℕ) (list : List ℕ) (i : ℕ) (so-far : Holds (λ k. belo
   none-unknown h =
       let e = unknown-first (λ l. absurd (omega arith)) in
       sym (choose-failed _ _ _ (is-fails _ (below-not _ _ (subst (λ (x : ℕ). length list ≤ x) e h))))
+
+-- ---- the greatest of the numbers so far
+
+pub record Most (list : List ℕ) (i most : ℕ) : Type 0 where
+  pub within : i ≤ length list
+  pub is : most ≡ greatest i (λ k. getD list k 0)
+
+pub most-none : {list : List ℕ} → Most list 0 0
+unfolding greatest
+most-none = record { within = omega arith; is = refl }
+
+pub most-more : {list : List ℕ} {i most most' : ℕ} → Most list i most → i < length list → most' ≡ max most (getD list i 0) → Most list (i + 1) most'
+unfolding greatest
+most-more {list} {i} m l e = record {
+  within = omega arith;
+  is = e ∙ ap (λ (x : ℕ). max x (getD list i 0)) (m .is) ∙ ap (λ (x : ℕ). greatest x (λ k. getD list k 0)) (sym (add-one i));
+}
+
+pub most-done : {list : List ℕ} {i most : ℕ} → Most list i most → length list ≤ i → most ≡ greatest (length list) (λ k. getD list k 0)
+most-done {list} {i} m h = let e : i ≡ length list = omega (arith, m .within) in m .is ∙ ap (λ (x : ℕ). greatest x (λ k. getD list k 0)) e
+
+-- where the greatest is known, all are
+pub all-known : (actions : ℕ) (list : List ℕ) → greatest (length list) (λ k. getD list k 0) < actions → accepted tt ≡ numbersRule actions list
+all-known actions list h =
+    none-unknown actions list (length list)
+    (record { within = omega arith; is = λ k l. below-of _ _ (omega (arith, greatest-at (length list) (λ k. getD list k 0) k l)) }) (omega arith)
+
+-- a set that passes
+pub some-means : (n set : ℕ) → setRule n set ≡ accepted tt → Some n set
+some-means n set e = let (some, inside) = set-means n set e in record { some = omega arith; inside = inside }
 
 -- a sequence that passes is not too long, and each of its numbers is known
 pub sequence-means : (actions : ℕ) (list : List ℕ) → sequenceRule actions list ≡ accepted tt → (length list ≤ 65535) × Known actions list

@@ -1,3 +1,3 @@
--- The rule of a run, and the table of sets that it goes by.
-pub mod Table
+-- The rule of a run, and what its steps have done so far.
+pub mod Course
 pub mod Run

@@ -1,6 +1,7 @@
 // Running a sequence of actions from each state of a set.
 mod step;
 
+use crate::step::Course;
 use crate::step::Stepped;
 use crate::step::step;
 use graph::calls::Check;
@@ -10,27 +11,26 @@ use graph::file::Counts;
 use graph::file::FileAnswer;
 use graph::file::byte;
 use graph::file::check_file;
-use graph::read::read_starts;
-use graph::read::read_vertices;
+use graph::read::start;
 use graph::refusal::Refusal;
+use graph::rows::lowest;
+use graph::rows::others;
+use graph::sets::Props;
 use graph::sets::States;
 ghost use mathlib.Core.Path.{_≡_};
-ghost use mathlib.Core.List.{_++_};
-ghost use Prim.Native.Nat.{_+_, _≤_};
-ghost use lib.ListN.{length, drop};
-ghost use Rattle.rules.specs.Run as R;
-ghost use Rattle.graph.specs.Width.{stateWidth};
+ghost use Prim.Native.Nat.{_≤_, _<_, max};
+ghost use lib.ListN.{length, getD};
+ghost use Rattle.rules.specs.Test.{choose};
+ghost use Rattle.rules.specs.Word.{bit, first};
+ghost use Rattle.rules.specs.Over as O;
+ghost use Rattle.rules.specs.Over.{meetOf};
+ghost use Rattle.graph.specs.Width.{propWidth, stateWidth};
 ghost use Rattle.graph.specs.Verdict.{laid, written};
-ghost use Rattle.graph.specs.File.{Taken};
+ghost use Rattle.graph.specs.Memory.{putAt};
+ghost use Rattle.graph.specs.File.{Taken, startOf};
 ghost use Rattle.graph.specs.Calls.{checkVerdict};
-ghost use Rattle.run.specs.Table.{tabled, Table, Known, stopped};
+ghost use Rattle.run.specs.Course.{Known, Some, came, setsOf};
 ghost use Rattle.run.specs.Run.{numbersRule, sequenceRule, endRule, takenRule, runRule, runVerdict};
-
-// Where a run over the sets stopped: at the list's end, or at the step of this index, which lacks its precondition.
-enum Stop {
-    Ended,
-    Lacks(usize),
-}
 
 // The number of sets written, or why the run is turned away.
 pub enum RunAnswer {
@@ -38,8 +38,25 @@ pub enum RunAnswer {
     Refused(Refusal),
 }
 
-// Cause 11, of a list that is not too long.
-fn check_numbers(list: &[u8], actions: usize) -> Check
+fn larger(a: u8, b: u8) -> u8
+    ensures { λ r. ⌜ r ≡ max a b ⌝ }
+{
+    if a < b { b } else { a }
+}
+
+// The greatest number of the list. No way leads out of the loop, so that it takes many numbers at a time.
+fn greatest(list: &[u8]) -> u8
+    ensures { λ r. ⌜ r ≡ O.greatest (length (now (list .entry))) (λ i. getD (now (list .entry)) i 0) ⌝ }
+{
+    let mut most = 0u8;
+    for i in 0..list.len() {
+        most = larger(most, list[i]);
+    }
+    most
+}
+
+// Cause 11, of a list that has a number of A or above.
+fn find_unknown(list: &[u8], actions: usize) -> Check
     ensures { λ r. ⌜ checkVerdict r ≡ numbersRule actions (now (list .entry)) ⌝ }
 {
     for i in 0..list.len() {
@@ -48,6 +65,16 @@ fn check_numbers(list: &[u8], actions: usize) -> Check
         }
     }
     Check::Passed
+}
+
+// Cause 11, of a list that is not too long.
+fn check_numbers(list: &[u8], actions: usize) -> Check
+    ensures { λ r. ⌜ checkVerdict r ≡ numbersRule actions (now (list .entry)) ⌝ }
+{
+    if (greatest(list) as usize) < actions {
+        return Check::Passed;
+    }
+    find_unknown(list, actions)
 }
 
 // Cause 11.
@@ -60,93 +87,60 @@ fn check_sequence(list: &[u8], actions: usize) -> Check
     check_numbers(list, actions)
 }
 
-// The steps of the list, one after the other, over the sets xs themselves.
-fn run_list(
-    xs: &mut [u32],
-    set: States,
-    needs: &[u32],
-    adds: &[u32],
-    dels: &[u32],
-    list: &[u8],
-) -> Stop
-    requires { ⌜ (length (now xs) ≤ stateWidth) × Table (now needs) (now adds) (now dels) (now list) ⌝ }
-    ensures { λ r. ⌜ stopped r (now (xs .exit))
-        ≡ R.runFrom (tabled (now (needs .entry)) (now (adds .entry)) (now (dels .entry))) (length (now (xs .entry)))
-        (set .0) 0 (now (xs .entry)) (now (list .entry)) ⌝ }
+// What every state of the set starts with.
+fn shared_start(file: &[u8], c: Counts, set: States) -> Props
+    requires { ⌜ Taken (now file) c × Some (c .states) (set .0) ⌝ }
+    ensures { λ r. ⌜ r .0 ≡ meetOf (c .states) (set .0) (startOf (now (file .entry)) c) (first propWidth) ⌝ }
 {
+    let mut left = set.0;
+    let mut met = 0xffff_ffffu32;
+    while 0 < left {
+        met = met & start(file, c, lowest(left));
+        left = others(left);
+    }
+    Props(met)
+}
+
+// What state s has in the end, if it started with x. One outside the set keeps that.
+fn state_end(x: u32, s: usize, set: States, course: Course) -> u32
+    requires { ⌜ s < stateWidth ⌝ }
+    ensures { λ r. ⌜ r ≡ choose (bit s (set .0)) (came course x) x ⌝ }
+{
+    if !set.has(s) {
+        return x;
+    }
+    course.came(Props(x)).0
+}
+
+// The end sets of all states, at the front of the output.
+fn lay(file: &[u8], c: Counts, set: States, course: Course, out: &mut [u32])
+    requires { ⌜ Taken (now file) c × (c .states ≤ length (now out)) ⌝ }
+    ensures { λ r. ⌜ now (out .exit) ≡ putAt 0 (setsOf (c .states) (startOf (now (file .entry)) c) (set .0) course) (now (out .entry)) ⌝ }
+{
+    for s in 0..c.states {
+        out[s] = state_end(start(file, c, s), s, set, course);
+    }
+}
+
+// The run, once every check is passed: the steps of the list, one after the other. The output is written once the list has ended.
+fn run_passed(file: &[u8], c: Counts, set: States, list: &[u8], out: &mut [u32]) -> RunAnswer
+    requires { ⌜ Taken (now file) c × Some (c .states) (set .0) × Known (c .actions) (now list) × (c .states ≤ length (now out)) ⌝ }
+    ensures { λ r. ⌜ (runVerdict r ≡ written (endRule (now (file .entry)) c (set .0) (now (list .entry))))
+        × (now (out .exit) ≡ laid (endRule (now (file .entry)) c (set .0) (now (list .entry))) (now (out .entry))) ⌝ }
+{
+    let sure = shared_start(file, c, set);
+    let mut course = Course::new();
     let mut i = 0;
     while i < list.len() {
-        let a = byte(list, i);
-        let did = step(&mut *xs, set, needs, adds, dels, a);
-        let Stepped::Moved = did else {
-            return Stop::Lacks(i);
+        let did = step(file, c, sure, course, byte(list, i));
+        let Stepped::Moved(next) = did else {
+            return RunAnswer::Refused(Refusal::Precondition(i));
         };
+        course = next;
         i += 1;
     }
-    Stop::Ended
-}
-
-// The sets, at the front of the output.
-fn lay(sets: &[u32], out: &mut [u32])
-    requires { ⌜ length (now sets) ≤ length (now out) ⌝ }
-    ensures { λ r. ⌜ now (out .exit) ≡ now (sets .entry) ++ drop (length (now (sets .entry))) (now (out .entry)) ⌝ }
-{
-    for s in 0..sets.len() {
-        out[s] = sets[s];
-    }
-}
-
-// The run, with room lent for the vertices' sets and for the states'. The output is written once the list has ended.
-fn run_lent(
-    file: &[u8],
-    c: Counts,
-    set: States,
-    list: &[u8],
-    needs: &mut [u32],
-    adds: &mut [u32],
-    dels: &mut [u32],
-    xs: &mut [u32],
-    out: &mut [u32],
-) -> RunAnswer
-    requires { ⌜ Taken (now file) c × Known (c .actions) (now list) × (c .states ≤ length (now out)) ⌝ }
-    requires { ⌜ (length (now needs) ≡ c .actions + c .props) × (length (now adds) ≡ c .actions + c .props)
-        × (length (now dels) ≡ c .actions + c .props) × (length (now xs) ≡ c .states) ⌝ }
-    ensures { λ r. ⌜ (runVerdict r ≡ written (endRule (now (file .entry)) c (set .0) (now (list .entry))))
-        × (now (out .exit) ≡ laid (endRule (now (file .entry)) c (set .0) (now (list .entry))) (now (out .entry))) ⌝ }
-{
-    read_vertices(file, c, &mut *needs, &mut *adds, &mut *dels);
-    read_starts(file, c, &mut *xs);
-    let end = run_list(&mut *xs, set, &needs[..], &adds[..], &dels[..], list);
-    if let Stop::Lacks(i) = end {
-        return RunAnswer::Refused(Refusal::Precondition(i));
-    }
-    lay(&xs[..], &mut *out);
-    RunAnswer::Ran(xs.len())
-}
-
-// The run, with room of its own.
-fn run_alone(file: &[u8], c: Counts, set: States, list: &[u8], out: &mut [u32]) -> RunAnswer
-    requires { ⌜ Taken (now file) c × Known (c .actions) (now list) × (c .states ≤ length (now out)) ⌝ }
-    ensures { λ r. ⌜ (runVerdict r ≡ written (endRule (now (file .entry)) c (set .0) (now (list .entry))))
-        × (now (out .exit) ≡ laid (endRule (now (file .entry)) c (set .0) (now (list .entry))) (now (out .entry))) ⌝ }
-{
-    let v = c.actions + c.props;
-    let n = c.states;
-    let mut needs = [0u32; 64];
-    let mut adds = [0u32; 64];
-    let mut dels = [0u32; 64];
-    let mut xs = [0u32; 64];
-    run_lent(
-        file,
-        c,
-        set,
-        list,
-        &mut needs[..v],
-        &mut adds[..v],
-        &mut dels[..v],
-        &mut xs[..n],
-        &mut *out,
-    )
+    lay(file, c, set, course, &mut *out);
+    RunAnswer::Ran(c.states)
 }
 
 // The caller's checks over a file that was taken, then the run.
@@ -167,7 +161,7 @@ fn run_taken(file: &[u8], c: Counts, set: States, list: &[u8], out: &mut [u32]) 
     if let Check::Refused(why) = sequence {
         return RunAnswer::Refused(why);
     }
-    run_alone(file, c, set, list, &mut *out)
+    run_passed(file, c, set, list, &mut *out)
 }
 
 // Runs the list from each state of the set, and writes the N end sets at the front of the output.

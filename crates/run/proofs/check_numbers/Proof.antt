@@ -1,50 +1,25 @@
--- `check_numbers` meets its contract: every number so far is known, and the first that is not is answered.
-use Rattle.run.proofs.Loops.{Holds, hold-none, hold-more, unknown-found, none-unknown}
-use Rattle.rules.proofs.Tests.{below-of}
-use Rattle.rules.specs.Test.{below}
-use lib.ListN.{length, getD}
+-- `check_numbers` meets its contract: where the greatest number is known, all are, and else the first that is not is looked for.
+use Rattle.run.proofs.Loops.{all-known}
 use native.Mathlib.Omega.{arith}
-use Prim.Native.Nat.{_-_}
+use borrow.Author.Needs.{needs}
 use Rattle.run.proofs.check_numbers.Statement.{statement}
 use Rattle.run.proofs.check_numbers.Tie as tie
 
-abbrev Inv-loop : tie.InvT-loop
-Inv-loop list actions i₀ i-end i = Holds (λ k. below (getD list k 0) actions) (length list) i
+greatest-requires : tie.Need-greatest-requires
+greatest-requires c κs = search needs
 
-abbrev μ-loop : tie.MeasureT-loop
-μ-loop list actions i₀ i-end i = length list - i
+cast-if1 : tie.Need-cast-if1
+cast-if1 c = search needs
 
-loop-holds : tie.Need-loop-holds Inv-loop μ-loop
-loop-holds c = hold-none
+returns : tie.Need-returns
+returns c = all-known _ _ (omega (arith, c .before .greatest .ensures))
 
-byte-requires : tie.Need-byte-requires Inv-loop μ-loop
-byte-requires c κs = omega arith
+find-unknown-requires : tie.Need-find-unknown-requires
+find-unknown-requires c κs = search needs
 
-returns : tie.Need-returns Inv-loop μ-loop
-returns c = unknown-found _ _ _ (c .before .before .before .loop .inv) (omega arith) (omega arith)
-
-add-i : tie.Need-add-i Inv-loop μ-loop
-add-i c = omega arith
-
-loop-less : tie.Need-loop-less Inv-loop μ-loop
-loop-less c = omega arith
-
-loop-again : tie.Need-loop-again Inv-loop μ-loop
-loop-again c = hold-more (c .before .before .before .loop .inv) (omega arith) (below-of _ _ (omega arith))
-
-returns-2 : tie.Need-returns-2 Inv-loop μ-loop
-returns-2 c = none-unknown _ _ _ (c .before .loop .inv) (omega arith)
+returns-2 : tie.Need-returns-2
+returns-2 c = search needs
 
 pub check-numbers-spec : {M : Type 1} → statement M
 check-numbers-spec =
-    tie.close
-    (tie.spec
-    Inv-loop
-    μ-loop
-    loop-holds
-    byte-requires
-    returns
-    add-i
-    loop-less
-    loop-again
-    returns-2)
+    tie.close (tie.spec greatest-requires cast-if1 returns find-unknown-requires returns-2)

@@ -1,37 +1,38 @@
 -- `lay` meets its contract: the loop writes one set after the other.
-use Rattle.rules.proofs.Layers.{listOver-self}
-use Rattle.run.proofs.Loops.{put-first}
 use Rattle.graph.proofs.Writes.{Lists, list-none, list-more, list-done}
-use Rattle.graph.specs.Memory.{putAt}
-use lib.ListN.{length, getD}
+use Rattle.graph.specs.File.{startOf}
+use Rattle.rules.specs.Word.{bit}
+use Rattle.rules.specs.Test.{choose}
+use Rattle.run.specs.Course.{came, setsOf}
+use borrow.Author.Needs.{needs as simple}
 use native.Mathlib.Omega.{arith}
 use native.Mathlib.Nat.{zero-add}
 use Prim.Native.Nat.{ℕ, _-_}
-use mathlib.Core.List.{List}
-use mathlib.Core.Path.{refl, sym, ap, _∙_}
+use mathlib.Core.Path.{sym, ap, _∙_}
 use Rattle.run.proofs.lay.Statement.{statement}
 use Rattle.run.proofs.lay.Tie as tie
 
 abbrev Inv-loop : tie.InvT-loop
-Inv-loop sets out₀ s₀ s-end out s = Lists (λ k. getD sets k 0) 0 (length sets) out₀ s out
+Inv-loop file c set course out₀ s₀ s-end out s =
+    Lists (λ k. choose (bit k (set .0)) (came course (startOf file c k)) (startOf file c k)) 0 (c .states) out₀ s out
 
 abbrev μ-loop : tie.MeasureT-loop
-μ-loop sets out₀ s₀ s-end out s = length sets - s
+μ-loop file c set course out₀ s₀ s-end out s = c .states - s
 
 loop-holds : tie.Need-loop-holds Inv-loop μ-loop
 loop-holds c = list-none (omega arith)
 
+start-requires : tie.Need-start-requires Inv-loop μ-loop
+start-requires c κs = search simple
+
+state-end-requires : tie.Need-state-end-requires Inv-loop μ-loop
+state-end-requires c κs = omega arith
+
 mul-out : tie.Need-mul-out Inv-loop μ-loop
 mul-out c = omega arith
 
-shared-slice-read-out : tie.Need-shared-slice-read-out Inv-loop μ-loop
-shared-slice-read-out c = omega arith
-
-mul-out-2 : tie.Need-mul-out-2 Inv-loop μ-loop
-mul-out-2 c = omega (arith, c .before .before .loop .inv .long, c .before .before .loop .inv .room)
-
 slice-write-out : tie.Need-slice-write-out Inv-loop μ-loop
-slice-write-out c = omega (arith, c .before .before .loop .inv .long, c .before .before .loop .inv .room)
+slice-write-out c = omega (arith, c .before .before .before .loop .inv .long)
 
 add-s : tie.Need-add-s Inv-loop μ-loop
 add-s c = omega arith
@@ -40,16 +41,16 @@ loop-less : tie.Need-loop-less Inv-loop μ-loop
 loop-less c = omega arith
 
 loop-again : tie.Need-loop-again Inv-loop μ-loop
-loop-again c = list-more (c .before .before .loop .inv) (omega arith) (sym (zero-add _)) refl
+loop-again c = let a = c .before .before .before .before .before .before .args in let l = c .before .before .before .loop in
+    list-more (l .inv) (omega arith) (sym (zero-add _))
+    (c .state-end .ensures ∙ ap (λ (x : ℕ). choose (bit (l .s) (a .set .0)) (came (a .course) x) x) (c .before .start .ensures))
 
 same-length : tie.Need-same-length Inv-loop μ-loop
 same-length c = c .before .loop .inv .long
 
 returns : tie.Need-returns Inv-loop μ-loop
-returns c = let a = c .before .before .args in
-    list-done (c .before .loop .inv) (omega arith)
-    ∙ ap (λ (l : List ℕ). putAt 0 l (a .out .now)) (listOver-self (a .sets .now))
-    ∙ put-first (a .sets .now) (a .out .now)
+unfolding setsOf
+returns c = list-done (c .before .loop .inv) (omega arith)
 
 pub lay-spec : {M : Type 1} → statement M
 lay-spec =
@@ -58,9 +59,9 @@ lay-spec =
     Inv-loop
     μ-loop
     loop-holds
+    start-requires
+    state-end-requires
     mul-out
-    shared-slice-read-out
-    mul-out-2
     slice-write-out
     add-s
     loop-less

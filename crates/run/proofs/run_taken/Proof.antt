@@ -1,6 +1,6 @@
 -- `run_taken` meets its contract: each check is one of the chain, in its order, and nothing is written before the last.
 use Rattle.run.proofs.Chains.{set-away, room-away, sequence-away, all-passed}
-use Rattle.run.proofs.Loops.{sequence-means}
+use Rattle.run.proofs.Loops.{some-means, sequence-means}
 use Rattle.graph.proofs.Takens.{output-means}
 use Rattle.graph.proofs.Verdicts.{laid-refused, same-rule}
 use Rattle.graph.specs.Calls.{checkVerdict}
@@ -54,10 +54,12 @@ returns-3 c = let room-told = c .before .before .before .before in
 enum-told-3 : tie.Need-enum-told-3
 enum-told-3 c = search needs
 
-run-alone-requires : tie.Need-run-alone-requires
-run-alone-requires c κs = let list-told = c .before in
-    let room-told = list-told .before .before .before in (
-      room-told .before .before .before .before .before .before .before .before .before .pre,
+run-passed-requires : tie.Need-run-passed-requires
+run-passed-requires c κs = let list-told = c .before in
+    let room-told = list-told .before .before .before in
+    let set-told = room-told .before .before .before in (
+      set-told .before .before .before .before .before .before .pre,
+      some-means _ _ (sym (set-told .before .before .check-set .ensures) ∙ ap checkVerdict (set-told .enum-told .given .1)),
       sequence-means _ _ (sym (list-told .before .before .check-sequence .ensures) ∙ ap checkVerdict (list-told .enum-told3 .given .1)) .1,
       output-means _ _ (sym (room-told .before .before .check-output .ensures) ∙ ap checkVerdict (room-told .enum-told2 .given .1)),
     )
@@ -73,7 +75,7 @@ returns-4 c = let list-told = c .before .before .before .before in
     (all-passed _ _ _ _ _ (sym (set-told .before .before .check-set .ensures) ∙ ap checkVerdict (set-told .enum-told .given .1))
     (sym (room-told .before .before .check-output .ensures) ∙ ap checkVerdict (room-told .enum-told2 .given .1))
     (sym (list-told .before .before .check-sequence .ensures) ∙ ap checkVerdict (list-told .enum-told3 .given .1)))
-    (c .before .before .run-alone .ensures)
+    (c .before .before .run-passed .ensures)
 
 pub run-taken-spec : {M : Type 1} → statement M
 run-taken-spec =
@@ -91,6 +93,6 @@ run-taken-spec =
     enum-known-sequence
     returns-3
     enum-told-3
-    run-alone-requires
+    run-passed-requires
     same-length
     returns-4)

@@ -12,10 +12,10 @@ use Rattle.extract.proofs.close.cut_words.Statement.{statement}
 use Rattle.extract.proofs.close.cut_words.Tie as tie
 
 abbrev Inv-loop : tie.InvT-loop
-Inv-loop masks set words out₀ count j₀ out j = Lists (λ x. closeUp stateWidth (set .0) (getD words x 0)) 0 count out₀ j out
+Inv-loop masks set moves words out₀ count j₀ out j = Lists (λ x. closeUp stateWidth (set .0) (getD words x 0)) 0 count out₀ j out
 
 abbrev μ-loop : tie.MeasureT-loop
-μ-loop masks set words out₀ count j₀ out j = count - j
+μ-loop masks set moves words out₀ count j₀ out j = count - j
 
 loop-holds : tie.Need-loop-holds Inv-loop μ-loop
 loop-holds c = list-none (omega arith)
@@ -27,7 +27,7 @@ shared-slice-read-close-up : tie.Need-shared-slice-read-close-up Inv-loop μ-loo
 shared-slice-read-close-up c = omega arith
 
 close-up-requires : tie.Need-close-up-requires Inv-loop μ-loop
-close-up-requires c κs = c .before .before .before .before .before .before .pre .0
+close-up-requires c κs = (c .before .before .before .before .before .before .pre .0, c .before .before .before .before .before .before .pre .1)
 
 mul-out : tie.Need-mul-out Inv-loop μ-loop
 mul-out c = omega arith

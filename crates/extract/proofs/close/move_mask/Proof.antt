@@ -1,35 +1,41 @@
--- The loop joins the places of the states that go down, and counts the states of the set below.
-use Rattle.extract.proofs.Loops.{Masked, mask-none, mask-more, mask-done}
+-- The loop takes one state of the set after the other, counts those that lie below, and joins where it stands if it goes down.
 use borrow.Author.Needs.{needs}
 use native.Mathlib.Omega.{arith}
-use Prim.Native.Nat.{_-_}
-use mathlib.Core.Path.{refl}
+use Rattle.extract.proofs.Loops.{Masked, mask-none, mask-more, mask-done, next-under, next-lt}
 use Rattle.extract.proofs.close.move_mask.Statement.{statement}
 use Rattle.extract.proofs.close.move_mask.Tie as tie
 
 abbrev Inv-loop : tie.InvT-loop
-Inv-loop set i mask₀ under₀ s₀ mask under s = Masked (set .0) i s mask under
+Inv-loop i left₀ under₀ mask₀ left under mask = Masked left₀ i left under mask
 
 abbrev μ-loop : tie.MeasureT-loop
-μ-loop set i mask₀ under₀ s₀ mask under s = 64 - s
+μ-loop i left₀ under₀ mask₀ left under mask = left
 
 loop-holds : tie.Need-loop-holds Inv-loop μ-loop
-loop-holds c = mask-none
+loop-holds c = mask-none (search needs)
+
+lowest-requires : tie.Need-lowest-requires Inv-loop μ-loop
+lowest-requires c κs = tt
+
+sub-gap : tie.Need-sub-gap Inv-loop μ-loop
+sub-gap c = omega (arith, c .lowest .ensures, next-under (c .before .before .loop .inv .ranked) (search needs))
 
 moving-at-requires : tie.Need-moving-at-requires Inv-loop μ-loop
-moving-at-requires c κs = (omega arith, c .before .loop .inv .ranks, search needs)
+moving-at-requires c κs = (omega (arith, c .lowest .ensures, next-lt (c .before .before .loop .inv .ranked) (search needs)), omega arith, search needs)
 
-next-rank-requires : tie.Need-next-rank-requires Inv-loop μ-loop
-next-rank-requires c κs = (omega arith, c .before .before .loop .inv .ranks)
+others-requires : tie.Need-others-requires Inv-loop μ-loop
+others-requires c κs = search needs
 
-add-s : tie.Need-add-s Inv-loop μ-loop
-add-s c = omega arith
+add-under : tie.Need-add-under Inv-loop μ-loop
+add-under c = let r = c .before .before .before .before .loop .inv .ranked in omega (arith, next-under r (search needs), next-lt r (search needs))
 
 loop-less : tie.Need-loop-less Inv-loop μ-loop
-loop-less c = omega arith
+loop-less c = c .others .ensures .1
 
 loop-again : tie.Need-loop-again Inv-loop μ-loop
-loop-again c = mask-more (c .before .before .before .loop .inv) (omega arith) refl (c .before .moving-at .ensures) (c .next-rank .ensures)
+loop-again c =
+    let l = c .before .before .before .before .loop .inv in
+    mask-more l (search needs) (c .before .before .lowest .ensures) (c .before .moving-at .ensures) (c .others .ensures .0)
 
 returns : tie.Need-returns Inv-loop μ-loop
 returns c = mask-done (c .before .loop .inv) (omega arith)
@@ -41,9 +47,11 @@ move-mask-spec =
     Inv-loop
     μ-loop
     loop-holds
+    lowest-requires
+    sub-gap
     moving-at-requires
-    next-rank-requires
-    add-s
+    others-requires
+    add-under
     loop-less
     loop-again
     returns)

@@ -10,16 +10,16 @@ use Rattle.extract.proofs.close.prepare.Statement.{statement}
 use Rattle.extract.proofs.close.prepare.Tie as tie
 
 abbrev Inv-loop : tie.InvT-loop
-Inv-loop set masks₀ i₀ masks i = Lists (moving stateWidth (set .0)) 0 6 masks₀ i masks
+Inv-loop set wide masks₀ i₀ masks i = Lists (moving stateWidth (set .0)) 0 6 masks₀ i masks
 
 abbrev μ-loop : tie.MeasureT-loop
-μ-loop set masks₀ i₀ masks i = 6 - i
+μ-loop set wide masks₀ i₀ masks i = 6 - i
 
 loop-holds : tie.Need-loop-holds Inv-loop μ-loop
 loop-holds c = list-none (omega arith)
 
-move-mask-requires : tie.Need-move-mask-requires Inv-loop μ-loop
-move-mask-requires c κs = omega arith
+mask-of-requires : tie.Need-mask-of-requires Inv-loop μ-loop
+mask-of-requires c κs = (omega arith, c .before .before .before .pre .1)
 
 mul-masks : tie.Need-mul-masks Inv-loop μ-loop
 mul-masks c = omega arith
@@ -34,13 +34,13 @@ loop-less : tie.Need-loop-less Inv-loop μ-loop
 loop-less c = omega arith
 
 loop-again : tie.Need-loop-again Inv-loop μ-loop
-loop-again c = list-more (c .before .before .loop .inv) (omega arith) (sym (zero-add _)) (c .move-mask .ensures)
+loop-again c = list-more (c .before .before .loop .inv) (omega arith) (sym (zero-add _)) (c .mask-of .ensures)
 
 same-length : tie.Need-same-length Inv-loop μ-loop
 same-length c = c .before .loop .inv .long
 
 returns : tie.Need-returns Inv-loop μ-loop
-returns c = list-whole (c .before .loop .inv) (omega arith) (c .before .before .before .pre)
+returns c = list-whole (c .before .loop .inv) (omega arith) (c .before .before .before .pre .0)
 
 pub prepare-spec : {M : Type 1} → statement M
 prepare-spec =
@@ -49,7 +49,7 @@ prepare-spec =
     Inv-loop
     μ-loop
     loop-holds
-    move-mask-requires
+    mask-of-requires
     mul-masks
     slice-write-masks
     add-i

@@ -1,81 +1,134 @@
--- `layers::repeat` meets its contract: each word is copied from `stride` words before, where the memory or the loop itself put it.
-use mathlib.Core.Path.{refl}
-use Prim.Native.Nat.{_+_, _-_, _%_, _≤_, _<_}
+-- The two copies together are the words again and again.
+use mathlib.Core.Path.{_≡_, sym, ap, _∙_}
+use Prim.Native.Nat.{ℕ, _+_, _-_, _*_, _/_, _%_}
 use native.Mathlib.Omega.{arith}
+use native.Mathlib.Nat.{suc-mul, div-mul-le-self, div-le-self}
 use lib.ListN.{getD}
-use borrow.Author.Needs.{needs as simple}
-use Rattle.graph.proofs.Writes.{Lists, list-none, list-more, list-done}
-use Rattle.graph.proofs.Repeats.{repeat-word}
+use Rattle.rules.specs.Lists.{listOver}
+use Rattle.graph.specs.Memory.{putAt}
+use Rattle.graph.proofs.Writes.{put-none}
+use Rattle.graph.proofs.Repeats.{two-copies, one-stride}
+use borrow.Author.Needs.{needs}
 use Rattle.graph.proofs.layers.repeat.Statement.{statement}
 use Rattle.graph.proofs.layers.repeat.Tie as tie
 
-abbrev Inv-loop : tie.InvT-loop
-Inv-loop words₀ to stride count i₀ words i = Lists (λ k. getD words₀ (to - stride + k % stride) 0) to count words₀ i words
+returns : tie.Need-returns
+unfolding listOver
+returns c = let a = c .before .before .args in
+    sym (ap (λ (x : ℕ). putAt (a .to) (listOver x (λ i. getD (a .words .now) (a .to - a .stride + i % a .stride) 0)) (a .words .now)) (c .if1 .taken)
+    ∙ put-none (a .to) (a .words .now))
 
-abbrev μ-loop : tie.MeasureT-loop
-μ-loop words₀ to stride count i₀ words i = count - i
+div-span : tie.Need-div-span
+div-span c = c .before .before .pre .0 (omega (arith, c .if1 .left)) .0
 
-loop-holds : tie.Need-loop-holds Inv-loop μ-loop
-loop-holds c = list-none (omega arith)
+add-span : tie.Need-add-span
+add-span c = omega (arith, div-le-self 1024 (c .before .before .args .stride))
 
-add-words : tie.Need-add-words Inv-loop μ-loop
-add-words c = omega arith
+mul-span : tie.Need-mul-span
+mul-span c = omega (
+  arith,
+  one-stride (1024 / c .before .before .args .stride) (c .before .before .args .stride),
+  suc-mul
+      (1024 / c .before .before .args .stride) (c .before .before .args .stride),
+  div-mul-le-self 1024
+      (c .before .before .args .stride),
+  c .before .before .pre .0 (omega (arith, c .if1 .left)),
+)
 
--- there is a word to copy
-near : (c : tie.In-loop Inv-loop μ-loop) → (0 < c .before .before .args .stride) × (c .before .before .args .stride ≤ c .before .before .args .to)
-near c = c .before .before .pre .0 (omega arith)
+sub-first : tie.Need-sub-first
+sub-first c = search needs
 
-sub-words : tie.Need-sub-words Inv-loop μ-loop
-sub-words c = omega (arith, near c)
+copy-on-requires : tie.Need-copy-on-requires
+copy-on-requires c κs = search needs
 
-mul-words : tie.Need-mul-words Inv-loop μ-loop
-mul-words c = omega arith
+same-length : tie.Need-same-length
+same-length c = search needs
 
-slice-read-words : tie.Need-slice-read-words Inv-loop μ-loop
-slice-read-words c = omega (arith, near (c .before))
+returns-2 : tie.Need-returns-2
+returns-2 c = search needs
 
-add-words-2 : tie.Need-add-words-2 Inv-loop μ-loop
-add-words-2 c = omega arith
+copy-on-requires-2 : tie.Need-copy-on-requires-2
+copy-on-requires-2 c κs = (λ _. c .before .before .before .before .pre .0 (omega (arith, c .before .before .if1 .left)), omega (arith, c .before .if2 .left))
 
-mul-words-2 : tie.Need-mul-words-2 Inv-loop μ-loop
-mul-words-2 c = omega arith
+add-copy-on : tie.Need-add-copy-on
+add-copy-on c = search needs
 
-slice-write-words : tie.Need-slice-write-words Inv-loop μ-loop
-slice-write-words c = omega arith
+sub-copy-on : tie.Need-sub-copy-on
+sub-copy-on c = search needs
 
-add-i : tie.Need-add-i Inv-loop μ-loop
-add-i c = omega arith
+copy-on-requires-3 : tie.Need-copy-on-requires-3
+copy-on-requires-3 c κs = let near = c .before .before .before .before .before .before .before .before .pre .0 (omega
+    (arith, c .before .before .before .before .before .before .if1 .left)) in (
+      (λ _. (
+        omega (
+          arith,
+          one-stride (1024 / c .before .before .before .before .before .before .before .before .args .stride)
+              (c .before .before .before .before .before .before .before .before .args .stride),
+          suc-mul
+              (1024 / c .before .before .before .before .before .before .before .before .args .stride)
+              (c .before .before .before .before .before .before .before .before .args .stride),
+          div-mul-le-self 1024
+              (c .before .before .before .before .before .before .before .before .args .stride),
+          near,
+        ),
+        omega (
+          arith,
+          one-stride
+              (1024 / c .before .before .before .before .before .before .before .before .args .stride)
+              (c .before .before .before .before .before .before .before .before .args .stride),
+          suc-mul
+              (1024 / c .before .before .before .before .before .before .before .before .args .stride)
+              (c .before .before .before .before .before .before .before .before .args .stride),
+          div-mul-le-self 1024
+              (c .before .before .before .before .before .before .before .before .args .stride),
+          near,
+        ),
+      )),
+      omega
+          (arith, c .before .before .before .before .before .if2 .left, c .before .before .before .copy-on2 .kept .0),
+    )
 
-loop-less : tie.Need-loop-less Inv-loop μ-loop
-loop-less c = omega arith
+same-length-2 : tie.Need-same-length-2
+same-length-2 c = search needs
 
-loop-again : tie.Need-loop-again Inv-loop μ-loop
-loop-again c =
-    let s = c .before .before .loop .inv in
-    list-more s (search simple) refl (repeat-word s (near (c .before) .0) (near (c .before) .1) (search simple))
-
-same-length : tie.Need-same-length Inv-loop μ-loop
-same-length c = c .before .loop .inv .long
-
-returns : tie.Need-returns Inv-loop μ-loop
-returns c = list-done (c .before .loop .inv) (search simple)
+returns-3 : tie.Need-returns-3
+returns-3 c = let a = c .before .before .before .before .before .before .before .before .before .before .before .args in
+    let m = 1024 / a .stride in
+    let near = c .before .before .before .before .before .before .before .before .before .before .before .pre .0 (omega
+    (arith, c .before .before .before .before .before .before .before .before .before .if1 .left)) in
+    let first : (m + 1) * a .stride - a .stride ≡ m * a .stride = omega (
+      arith,
+      one-stride
+          (1024 / c .before .before .before .before .before .before .before .before .before .before .before .args .stride)
+          (c .before .before .before .before .before .before .before .before .before .before .before .args .stride),
+      suc-mul
+          (1024 / c .before .before .before .before .before .before .before .before .before .before .before .args .stride)
+          (c .before .before .before .before .before .before .before .before .before .before .before .args .stride),
+      div-mul-le-self 1024
+          (c .before .before .before .before .before .before .before .before .before .before .before .args .stride),
+    ) in
+    two-copies (a .to) (a .stride) m (a .words .now) _ (near .0) (near .1) (omega
+    (arith, first, c .before .before .before .before .before .before .before .before .if2 .left))
+    (c .before .before .before .before .before .before .copy-on2 .ensures
+    ∙ ap (λ (x : ℕ). putAt (a .to) (listOver x (λ i. getD (a .words .now) (a .to - a .stride + i % a .stride) 0)) (a .words .now)) first)
+    (a .count) _ _ _ first (one-stride m (a .stride)) (omega (arith, c .before .before .before .before .before .before .before .before .if2 .left))
+    (c .before .before .copy-on3 .ensures)
 
 pub repeat-spec : {M : Type 1} → statement M
 repeat-spec =
     tie.close
     (tie.spec
-    Inv-loop
-    μ-loop
-    loop-holds
-    add-words
-    sub-words
-    mul-words
-    slice-read-words
-    add-words-2
-    mul-words-2
-    slice-write-words
-    add-i
-    loop-less
-    loop-again
+    returns
+    div-span
+    add-span
+    mul-span
+    sub-first
+    copy-on-requires
     same-length
-    returns)
+    returns-2
+    copy-on-requires-2
+    add-copy-on
+    sub-copy-on
+    copy-on-requires-3
+    same-length-2
+    returns-3)

@@ -1,43 +1,86 @@
--- The loop is left at the first pair of goals that is mutex for a state of the set; at its end each pair with q was tested.
-use mathlib.Core.Path.{sym, _∙_}
-use Prim.Native.Nat.{_-_}
-use borrow.Author.Tests.{not-true, not-false}
-use borrow.Author.Needs.{needs as simple}
+-- The loop takes one goal above p after the other, and is left at the first that is mutex with p for a state of the set.
+use mathlib.Core.Path.{_≡_, sym, ap, _∙_}
+use mathlib.Core.Bool.{Bool}
+use Prim.Native.Nat.{ℕ, _<_}
+use borrow.Author.Needs.{needs}
+use native.Mathlib.Omega.{arith}
+use lib.Count.{trailingZeros}
+use Rattle.rules.specs.Layer.{mutexIn}
+use Rattle.rules.specs.Test.{fails}
+use Rattle.rules.specs.Word.{meets}
+use Rattle.graph.proofs.Joins.{lowest-lt}
+use Rattle.graph.proofs.Places.{mutex-up, size-small}
 use Rattle.level.specs.Meets.{pairMeets}
-use Rattle.level.proofs.Searches.{Held, held-none, held-more, held-done, held-not}
+use Rattle.level.proofs.Goals.{Left, left-all, left-above, left-less, left-not, left-none}
 use Rattle.level.proofs.goal.row_meets.Statement.{statement}
 use Rattle.level.proofs.goal.row_meets.Tie as tie
 
 abbrev Inv-loop : tie.InvT-loop
-Inv-loop layer n set goal q p₀ p = Held (pairMeets n layer (set .0) (goal .0) q) q p
+Inv-loop layer n set p above left₀ left = Left (pairMeets n layer (set .0) p) n left₀ left
 
 abbrev μ-loop : tie.MeasureT-loop
-μ-loop layer n set goal q p₀ p = q - p
+μ-loop layer n set p above left₀ left = left
+
+-- the next goal is one of the n propositions, above p
+inside : (c : tie.After-lowest Inv-loop μ-loop) → c .lowest .result < c .before .before .before .before .args .n
+inside c =
+    let l = c .before .before .loop in
+    omega (arith, c .lowest .ensures, lowest-lt (c .before .before .before .before .args .n) (l .left) (omega arith) (l .inv .inside) (search needs))
+
+higher : (c : tie.After-lowest Inv-loop μ-loop) → c .before .before .before .before .args .p < c .lowest .result
+higher c =
+    let s = c .before .before .before .before in
+    omega (arith, c .lowest .ensures, left-above (c .before .before .loop .inv) (omega arith) (search needs) (s .args .p) (s .pre .3))
+
+-- its mutex word with p is tested
+tested : (c : tie.After-meets Inv-loop μ-loop) (b : Bool) → c .meets .result ≡ b
+    → let a = c .before .before .before .before .before .before .before .args in
+    pairMeets (a .n) (a .layer .now) (a .set .0) (a .p) (trailingZeros 64 (c .before .before .before .before .before .loop .left)) ≡ fails b
+unfolding pairMeets
+tested c b e =
+    let a = c .before .before .before .before .before .before .before .args in
+    let word = mutex-up (a .n) (a .layer .now) (a .p) _ _ (higher (c .before .before .before)) (c .before .before .pair-at .ensures .0) in
+    ap fails
+    (ap (λ (q : ℕ). meets (a .set .0) (mutexIn (a .n) (a .layer .now) (a .p) q)) (sym (c .before .before .before .lowest .ensures))
+    ∙ sym (c .meets .ensures ∙ ap (meets (a .set .0)) word)
+    ∙ e)
 
 loop-holds : tie.Need-loop-holds Inv-loop μ-loop
-loop-holds c = held-none
+loop-holds c = left-all (search needs)
 
-pair-meets-requires : tie.Need-pair-meets-requires Inv-loop μ-loop
-pair-meets-requires c κs = search simple
+lowest-requires : tie.Need-lowest-requires Inv-loop μ-loop
+lowest-requires c κs = tt
+
+pair-at-requires : tie.Need-pair-at-requires Inv-loop μ-loop
+pair-at-requires c κs = (higher c, inside c, search needs)
+
+mul-t9 : tie.Need-mul-t9 Inv-loop μ-loop
+mul-t9 c = omega (arith, c .pair-at .ensures .1, size-small (c .before .before .before .before .before .args .n) (omega arith))
+
+shared-slice-read-t12 : tie.Need-shared-slice-read-t12 Inv-loop μ-loop
+shared-slice-read-t12 c = omega (arith, c .before .pair-at .ensures .1)
+
+meets-requires : tie.Need-meets-requires Inv-loop μ-loop
+meets-requires c κs = search needs
 
 returns : tie.Need-returns Inv-loop μ-loop
-returns c =
-    held-not (c .before .before .before .loop .inv) (c .before .before .loop-test .taken)
-    (sym (c .before .pair-meets .ensures) ∙ not-true _ (c .if1 .taken))
+unfolding fails
+returns c = left-not (c .before .before .before .before .before .before .loop .inv) (omega arith) (search needs) (tested (c .before) _ (c .if1 .taken))
 
-add-p : tie.Need-add-p Inv-loop μ-loop
-add-p c = search simple
+others-requires : tie.Need-others-requires Inv-loop μ-loop
+others-requires c κs = search needs
 
 loop-less : tie.Need-loop-less Inv-loop μ-loop
-loop-less c = search simple
+loop-less c = c .others .ensures .1
 
 loop-again : tie.Need-loop-again Inv-loop μ-loop
+unfolding fails
 loop-again c =
-    held-more (c .before .before .before .loop .inv) (c .before .before .loop-test .taken)
-    (sym (c .before .pair-meets .ensures) ∙ not-false _ (c .if1 .left))
+    let t = tested (c .before .before) _ (c .before .if1 .left) in
+    left-less (c .before .before .before .before .before .before .before .loop .inv) (omega arith) (search needs) (c .others .ensures .0) t
 
 returns-2 : tie.Need-returns-2 Inv-loop μ-loop
-returns-2 c = held-done (c .before .loop .inv) (c .loop-test .left)
+returns-2 c = left-none (c .before .loop .inv) (omega arith)
 
 pub row-meets-spec : {M : Type 1} → statement M
 row-meets-spec =
@@ -46,9 +89,13 @@ row-meets-spec =
     Inv-loop
     μ-loop
     loop-holds
-    pair-meets-requires
+    lowest-requires
+    pair-at-requires
+    mul-t9
+    shared-slice-read-t12
+    meets-requires
     returns
-    add-p
+    others-requires
     loop-less
     loop-again
     returns-2)

@@ -1,54 +1,37 @@
--- The loop is left at the first layer that meets the goal; at its end none does, from 0 to the depth.
-use mathlib.Core.Path.{sym, _∙_}
-use Prim.Native.Nat.{suc, _-_}
-use native.Mathlib.Omega.{arith}
-use Rattle.rules.specs.Level.{goalMet, firstMet}
-use Rattle.rules.specs.Layer.{propsIn}
+-- Of the goal only what the layers have is looked for, and that changes nothing.
+use mathlib.Core.Path.{_≡_, sym, ap, subst, _∙_}
+use Prim.Native.Nat.{ℕ, _^_, _<_}
+use borrow.Author.Needs.{needs}
+use lib.Bits.{and-le-r}
+use native.Mathlib.Nat.{lt-of-le-of-lt}
+use Rattle.rules.specs.Level.{firstMet}
+use Rattle.rules.specs.Word.{common, first}
+use Rattle.rules.proofs.Words.{first-lt}
 use Rattle.level.specs.Rule.{sized}
-use Rattle.level.proofs.Parts.{fewer}
-use Rattle.level.proofs.Searches.{Sought, sought-none, sought-more, sought-found, sought-done}
+use Rattle.level.proofs.Goals.{first-held}
 use Rattle.level.proofs.layers.first_met.Statement.{statement}
 use Rattle.level.proofs.layers.first_met.Tie as tie
 
-abbrev Inv-loop : tie.InvT-loop
-Inv-loop words n v depth set goal t₀ t = Sought (λ u. goalMet n (propsIn (sized n v) words u) (set .0) (goal .0)) (suc depth) t
+held : (c : tie.After-common) → c .common .result .0 ≡ common (c .before .before .before .args .goal .0) (first (c .before .before .before .args .n))
+held c = c .common .ensures ∙ ap (common (c .before .before .before .args .goal .0)) (c .before .first .ensures)
 
-abbrev μ-loop : tie.MeasureT-loop
-μ-loop words n v depth set goal t₀ t = suc depth - t
+first-requires : tie.Need-first-requires
+first-requires c κs = search needs
 
-loop-holds : tie.Need-loop-holds Inv-loop μ-loop
-loop-holds c = sought-none
+common-requires : tie.Need-common-requires
+common-requires c κs = search needs
 
-met-at-requires : tie.Need-met-at-requires Inv-loop μ-loop
-met-at-requires c κs = fewer (c .before .before .before .pre) (c .before .loop .t) (omega arith)
+first-met-of-requires : tie.Need-first-met-of-requires
+first-met-of-requires c κs =
+    let a = c .before .before .before .args in
+    (c .before .before .before .pre, subst (λ (x : ℕ). x < 2 ^ a .n) (sym (held c)) (lt-of-le-of-lt (and-le-r (a .goal .0) (first (a .n))) (first-lt (a .n))))
 
-returns : tie.Need-returns Inv-loop μ-loop
-unfolding firstMet sized
-returns c = sought-found (c .before .before .before .loop .inv) (omega arith) (sym (c .before .met-at .ensures) ∙ c .if1 .taken)
-
-add-t : tie.Need-add-t Inv-loop μ-loop
-add-t c = omega arith
-
-loop-less : tie.Need-loop-less Inv-loop μ-loop
-loop-less c = omega arith
-
-loop-again : tie.Need-loop-again Inv-loop μ-loop
-loop-again c = sought-more (c .before .before .before .loop .inv) (omega arith) (sym (c .before .met-at .ensures) ∙ c .if1 .left)
-
-returns-2 : tie.Need-returns-2 Inv-loop μ-loop
-unfolding firstMet sized
-returns-2 c = sought-done (c .before .loop .inv) (omega arith)
+returns : tie.Need-returns
+returns c =
+    let a = c .before .before .before .before .args in
+    c .first-met-of .ensures
+    ∙ ap (λ (x : ℕ). firstMet (sized (a .n) (a .v)) (a .depth) (a .set .0) x (a .words .now)) (held (c .before))
+    ∙ first-held (a .n) (a .goal .0) (a .v) (a .depth) (a .set .0) (a .words .now)
 
 pub first-met-spec : {M : Type 1} → statement M
-first-met-spec =
-    tie.close
-    (tie.spec
-    Inv-loop
-    μ-loop
-    loop-holds
-    met-at-requires
-    returns
-    add-t
-    loop-less
-    loop-again
-    returns-2)
+first-met-spec = tie.close (tie.spec first-requires common-requires first-met-of-requires returns)

@@ -14,7 +14,7 @@ use Rattle.level.proofs.layers.met_at.Tie as tie
 -- the layer lies within the words
 fits : (c : tie.After-layer-start)
     → let a = c .before .before .args in a .t * stride (sized (a .n) (a .v)) + size (a .n) ≤ length (a .words .now)
-fits c = layer-fits (c .before .before .pre) _ (omega arith)
+fits c = layer-fits (c .before .before .pre .0) _ (omega arith)
 
 layer-start-requires : tie.Need-layer-start-requires
 layer-start-requires c κs = search needs

@@ -62,6 +62,7 @@ same-words-requires c κs =
     let a = c .before .before .before .before .before .before .args in
     let first = one (c .before .before) in
     let second = other (c .before .before) in (
+      omega arith,
       omega (arith, tail-length (c .before .before .before .before .layer-start .result) (a .words .now) (omega arith)),
       omega (arith, tail-length (c .before .before .before .layer-start2 .result) (a .words .now) (omega arith)),
     )

@@ -1,62 +1,46 @@
--- The loop is left at the first two words that differ; at its end all were equal.
-use Prim.Native.Nat.{_-_}
-use borrow.Author.Needs.{needs as simple}
-use lib.ListN.{getD}
-use Rattle.rules.proofs.Tests.{same-of, same-not}
-use Rattle.rules.specs.Test.{same}
-use Rattle.level.proofs.Searches.{Held, held-none, held-more, held-done, held-not}
+-- A few words are compared word by word; of more, eight at once and then the others.
+use mathlib.Core.Path.{refl, sym, _∙_}
+use borrow.Author.Tests.{not-true, not-false}
+use borrow.Author.Needs.{needs}
+use native.Mathlib.Omega.{arith}
+use Rattle.rules.specs.Over.{allBelow}
+use Rattle.level.specs.Meets.{alike}
+use Rattle.level.proofs.Searches.{held-none, held-block, held-blocked, held-so}
 use Rattle.level.proofs.layers.same_words.Statement.{statement}
 use Rattle.level.proofs.layers.same_words.Tie as tie
 
-abbrev Inv-loop : tie.InvT-loop
-Inv-loop one other count i₀ i = Held (λ k. same (getD one k 0) (getD other k 0)) count i
+same-last-requires : tie.Need-same-last-requires
+unfolding allBelow
+same-last-requires c κs = (search needs, search needs, search needs, refl)
 
-abbrev μ-loop : tie.MeasureT-loop
-μ-loop one other count i₀ i = count - i
+returns : tie.Need-returns
+returns c = search needs
 
-loop-holds : tie.Need-loop-holds Inv-loop μ-loop
-loop-holds c = held-none
+same-block-requires : tie.Need-same-block-requires
+same-block-requires c κs = search needs
 
-mul-if1 : tie.Need-mul-if1 Inv-loop μ-loop
-mul-if1 c = search simple
+returns-2 : tie.Need-returns-2
+returns-2 c =
+    let a = c .before .before .before .before .before .args in
+    held-blocked {f = alike (a .one .now) (a .other .now)} 8 held-none (omega arith) (sym (c .before .same-block .ensures) ∙ not-true _ (c .if2 .taken))
 
-shared-slice-read-if1 : tie.Need-shared-slice-read-if1 Inv-loop μ-loop
-shared-slice-read-if1 c = search simple
+same-from-requires : tie.Need-same-from-requires
+same-from-requires c κs =
+    let a = c .before .before .before .before .before .args in
+    let h = held-block {f = alike (a .one .now) (a .other .now)} {n = a .count} 8 held-none (omega arith)
+    (sym (c .before .same-block .ensures) ∙ not-false _ (c .if2 .left)) in
+    (omega arith, search needs, search needs, search needs, held-so h)
 
-mul-if1-2 : tie.Need-mul-if1-2 Inv-loop μ-loop
-mul-if1-2 c = search simple
-
-shared-slice-read-if1-2 : tie.Need-shared-slice-read-if1-2 Inv-loop μ-loop
-shared-slice-read-if1-2 c = search simple
-
-returns : tie.Need-returns Inv-loop μ-loop
-returns c = held-not (c .before .before .before .before .loop .inv) (c .before .before .before .loop-test .taken) (same-not _ _ (c .if1 .taken))
-
-add-i : tie.Need-add-i Inv-loop μ-loop
-add-i c = search simple
-
-loop-less : tie.Need-loop-less Inv-loop μ-loop
-loop-less c = search simple
-
-loop-again : tie.Need-loop-again Inv-loop μ-loop
-loop-again c = held-more (c .before .before .before .before .loop .inv) (c .before .before .before .loop-test .taken) (same-of _ _ (c .if1 .left))
-
-returns-2 : tie.Need-returns-2 Inv-loop μ-loop
-returns-2 c = held-done (c .before .loop .inv) (c .loop-test .left)
+returns-3 : tie.Need-returns-3
+returns-3 c = search needs
 
 pub same-words-spec : {M : Type 1} → statement M
 same-words-spec =
     tie.close
     (tie.spec
-    Inv-loop
-    μ-loop
-    loop-holds
-    mul-if1
-    shared-slice-read-if1
-    mul-if1-2
-    shared-slice-read-if1-2
+    same-last-requires
     returns
-    add-i
-    loop-less
-    loop-again
-    returns-2)
+    same-block-requires
+    returns-2
+    same-from-requires
+    returns-3)

@@ -33,28 +33,30 @@ part-step-down-start : tie.Need-part-step-down-start
 part-step-down-start c = search needs
 
 part-step-down-end : tie.Need-part-step-down-end
-part-step-down-end c = fall-fits (c .before .before .before .before .before .before .before .args .t) _ _
-    (c .before .before .before .before .before .before .before .pre .0) (c .before .before .actions-start .ensures .0) (c .before .layer-size .ensures .0)
+part-step-down-end c = fall-fits (c .before .before .before .before .before .before .before .before .args .t) _ _
+    (c .before .before .before .before .before .before .before .before .pre .0)
+    (c .before .before .actions-start .ensures .0) (c .before .layer-size .ensures .0)
 
 step-down-requires : tie.Need-step-down-requires
 step-down-requires c κs = let s = c .before .before .layer-size .ensures in (
-  c .before .before .before .before .before .before .before .before .pre .0 .few,
-  c .before .before .before .before .before .before .before .before .pre .1,
-  c .before .before .before .before .before .before .before .before .pre .2,
+  c .before .before .before .before .before .before .before .before .before .pre .0 .few,
+  c .before .before .before .before .before .before .before .before .before .pre .1,
+  c .before .before .before .before .before .before .before .before .before .pre .2,
   simp (length-take, length-drop) (omega (
     arith,
     s,
-    fall-fits (c .before .before .before .before .before .before .before .before .args .t) _ _
-        (c .before .before .before .before .before .before .before .before .pre .0) (c .before .before .before .actions-start .ensures .0)
+    fall-fits (c .before .before .before .before .before .before .before .before .before .args .t) _ _
+        (c .before .before .before .before .before .before .before .before .before .pre .0) (c .before .before .before .actions-start .ensures .0)
         (c .before .before .layer-size .ensures .0),
   )),
+  c .before .before .before .before .before .before .before .before .before .pre .3,
 )
 
 same-length : tie.Need-same-length
 same-length c = search needs
 
 returns : tie.Need-returns
-returns c = let a = c .before .before .before .before .before .before .before .before .before .before .before .args in
+returns c = let a = c .before .before .before .before .before .before .before .before .before .before .before .before .args in
     c .before .before .step-down .ensures
     ∙ ap (λ (l : List ℕ). cover (listed (length (a .needed .now)) (a .needs .now) (a .adds .now)) l (a .needed .now))
     (fall-part (length (a .needed .now)) (a .needs .now) (a .adds .now) (a .words .now) (a .t) _ _

@@ -8,11 +8,11 @@ use Rattle.plan.proofs.layer.down.Statement.{statement}
 use Rattle.plan.proofs.layer.down.Tie as tie
 
 support-requires : tie.Need-support-requires
-support-requires c κs = c .before .before .before .before .before .before .before .pre
+support-requires c κs = c .before .before .before .before .before .before .before .before .pre
 
 replace-requires : tie.Need-replace-requires
-replace-requires c κs = sym (c .before .before .before .before .support .kept .1 .1 .1 .1 .0
-    ∙ c .before .before .before .before .before .before .before .before .before .before .before .before .pre .room)
+replace-requires c κs = sym (c .before .before .before .before .support .kept .1 .1 .1 .1 .1 .0
+    ∙ c .before .before .before .before .before .before .before .before .before .before .before .before .before .pre .0 .room)
 
 same-length : tie.Need-same-length
 same-length c = search needs

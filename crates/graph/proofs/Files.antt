@@ -1,0 +1,38 @@
+-- The sets of a file, all together.
+-- Assumes nothing.
+use mathlib.Core.Path.{_≡_, refl, sym, subst, _∙_}
+use mathlib.Core.List.{List}
+use Prim.Native.Nat.{ℕ, zero, suc, _+_, _*_, _^_, _≤_, _<_}
+use native.Mathlib.Nat.{not-suc-le-zero, le-of-eq, le-trans, le-refl, add-le-add, add-le-add-iff-right, lt-of-le-of-lt}
+use native.Mathlib.Omega.{arith}
+use lib.Bits.{bitOr, or-add-and, and-le-r, or-comm}
+use Rattle.rules.specs.Over.{joinOver}
+use Rattle.rules.proofs.Overs.{below-suc}
+use Rattle.rules.proofs.Tests.{choose-held, below-of}
+use Rattle.graph.specs.Verdict.{accepted}
+use Rattle.graph.specs.File.{setAt, setsRule}
+use Rattle.graph.specs.declared.file.Counts.{Counts}
+
+le-or-l : (a b : ℕ) → a ≤ bitOr a b
+le-or-l a b = add-le-add-iff-right b .0 (le-trans (le-of-eq (sym (or-add-and a b))) (add-le-add (le-refl (bitOr a b)) (and-le-r a b)))
+
+le-or-r : (a b : ℕ) → b ≤ bitOr a b
+le-or-r a b = subst (λ (x : ℕ). b ≤ x) (or-comm b a) (le-or-l b a)
+
+-- each of the words joined is at most what they join to
+join-at : (n : ℕ) (f : ℕ → ℕ) (i : ℕ) → i < n → f i ≤ joinOver n f
+unfolding joinOver
+join-at zero f i h = absurd (not-suc-le-zero h)
+join-at (suc n) f i h =
+    below-suc (λ j. f j ≤ bitOr (joinOver n f) (f n)) n (le-or-r (joinOver n f) (f n)) (λ j l. le-trans (join-at n f j l) (le-or-l (joinOver n f) (f n))) i h
+
+-- sets of which none has bit P or above pass
+sets-pass : (file : List ℕ) (c : Counts) (left at : ℕ) → ((i : ℕ) → i < left → setAt file (at + 4 * i) < 2 ^ c .props) → accepted c ≡ setsRule file c left at
+unfolding setsRule
+sets-pass file c zero at each = refl
+sets-pass file c (suc left) at each =
+    sets-pass file c left (at + 4) (λ i h. subst (λ (x : ℕ). setAt file x < 2 ^ c .props) (omega arith) (each (suc i) (omega arith)))
+    ∙ sym (choose-held _ _ _ (below-of _ _ (subst (λ (x : ℕ). setAt file x < 2 ^ c .props) (omega arith) (each 0 (omega arith)))))
+
+pub joined-pass : (file : List ℕ) (c : Counts) (n : ℕ) → joinOver n (λ i. setAt file (8 + 4 * i)) < 2 ^ c .props → accepted c ≡ setsRule file c n 8
+joined-pass file c n h = sets-pass file c n 8 (λ i l. lt-of-le-of-lt (join-at n (λ i. setAt file (8 + 4 * i)) i l) h)

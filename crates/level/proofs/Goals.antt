@@ -1,0 +1,229 @@
+-- Tests of the members of a set: one member after the other, every two of them, and a goal's test in these terms.
+-- Assumes nothing.
+use mathlib.Core.Path.{_≡_, refl, sym, ap, ap₂, subst, _∙_}
+use mathlib.Core.Bool.{Bool, true, false, So}
+use mathlib.Core.List.{List}
+use mathlib.Core.Logic.{⊎-elim, by-cases}
+use Prim.Native.Nat.{ℕ, suc, _^_, _≤_, _<_}
+use native.Mathlib.Decide.{decLe}
+use native.Mathlib.Nat.{lt-of-lt-of-le}
+use native.Mathlib.Omega.{arith}
+use lib.Bits.{and-zero-r}
+use lib.Count.{trailingZeros}
+use lib.Pow.{pow-mono}
+use Rattle.rules.specs.Test.{_and_, _implies_, fails, same}
+use Rattle.rules.specs.Word.{bit, common, without, single, first, within, meets}
+use Rattle.rules.specs.Over.{allBelow}
+use Rattle.rules.specs.Layer.{labelIn, mutexIn, propsIn}
+use Rattle.rules.specs.Level.{goalMet, firstMet}
+use Rattle.rules.proofs.Tests.{and-of, and-left, and-right, implies-of, implies-at, fails-of, fails-at, holds-or, test-eq, same-of, same-at, below-of, and-true}
+use Rattle.rules.proofs.Words.{bit-common, bit-without, bit-single, bit-first, no-bit-zero, without-lt}
+use Rattle.rules.proofs.Overs.{all-of, all-at, all-eq}
+use Rattle.rules.proofs.Firsts.{first-eq}
+use Rattle.rules.proofs.Members.{mutex-turn}
+use Rattle.graph.proofs.Joins.{lowest-in, lowest-lt}
+use Rattle.graph.proofs.Lowest.{others-above}
+use Rattle.graph.proofs.Places.{mutex-own}
+use Rattle.level.specs.Meets.{allOf, labelMeets, pairMeets, Above}
+use Rattle.level.specs.Rule.{sized}
+
+-- ---- what the test of all members says, both ways
+
+module _ (n set : ℕ) (f : ℕ → Bool) where
+  pub members-of : ((i : ℕ) → i < n → So (bit i set) → So (f i)) → So (allOf n set f)
+  unfolding allOf
+  members-of h = all-of _ _ (λ i l. implies-of _ _ (h i l))
+
+  pub members-at : So (allOf n set f) → (i : ℕ) → i < n → So (bit i set) → So (f i)
+  unfolding allOf
+  members-at t i l m = implies-at _ _ (all-at _ _ t i l) m
+
+-- the set without q, and q
+part-in : (set q i : ℕ) → So (bit i (without set (single q))) → So (bit i set)
+part-in set q i t = and-left _ _ (sym (bit-without i set (single q)) ∙ t)
+
+part-of : (set q i : ℕ) → So (bit i set) → So (fails (same i q)) → So (bit i (without set (single q)))
+part-of set q i t e = bit-without i set (single q) ∙ and-of _ _ t (ap fails (bit-single i q) ∙ e)
+
+-- ---- one member after the other
+
+none-left : (n : ℕ) (f : ℕ → Bool) → allOf n 0 f ≡ true
+none-left n f = members-of n 0 f (λ i l m. absurd (no-bit-zero i m))
+
+pick : (n set q : ℕ) (f : ℕ → Bool) → q < n → So (bit q set) → allOf n set f ≡ (f q and allOf n (without set (single q)) f)
+pick n set q f l t = test-eq _ _
+    (λ u. and-of _ _ (members-at n set f u q l t) (members-of n (without set (single q)) f (λ i h m. members-at n set f u i h (part-in set q i m))))
+    (λ u. members-of n set f (λ i h m. ⊎-elim
+    (λ e. subst (λ (j : ℕ). So (f j)) (sym (same-at i q e)) (and-left _ _ u))
+    (λ e. members-at n (without set (single q)) f (and-right _ _ u) i h (part-of set q i m e))
+    (holds-or (same i q))))
+
+-- the test of those that are left is that of all
+pub record Left (f : ℕ → Bool) (n set₀ left : ℕ) : Type 0 where
+  pub inside : left < 2 ^ n
+  pub part : (i : ℕ) → So (bit i left) → So (bit i set₀)
+  pub is : allOf n left f ≡ allOf n set₀ f
+
+pub left-all : {f : ℕ → Bool} {n set : ℕ} → set < 2 ^ n → Left f n set set
+left-all h = record { inside = h; part = λ i t. t; is = refl }
+
+module _ {f : ℕ → Bool} {n set₀ left : ℕ} (m : Left f n set₀ left) (few : n ≤ 64) (some : 0 < left) where
+  next : allOf n set₀ f ≡ (f (trailingZeros 64 left) and allOf n (without left (single (trailingZeros 64 left))) f)
+  next = sym (m .is) ∙ pick n left (trailingZeros 64 left) f (lowest-lt n left few (m .inside) some) (lowest-in n left few (m .inside) some)
+
+  -- what lies below all members lies below the next one
+  pub left-above : (p : ℕ) → Above p set₀ → p < trailingZeros 64 left
+  left-above p above = above _ (m .part _ (lowest-in n left few (m .inside) some))
+
+  pub left-less : {left' : ℕ} → left' ≡ without left (single (trailingZeros 64 left)) → f (trailingZeros 64 left) ≡ true → Left f n set₀ left'
+  unfolding _and_
+  left-less {left'} l t = record {
+    inside = subst (λ (x : ℕ). x < 2 ^ n) (sym l) (without-lt n left _ (m .inside));
+    part = λ i u. m .part i (part-in left (trailingZeros 64 left) i (sym (ap (bit i) l) ∙ u));
+    is = ap (λ (x : ℕ). allOf n x f) l ∙ sym (next ∙ ap (λ (b : Bool). b and allOf n (without left (single (trailingZeros 64 left))) f) t);
+  }
+
+  pub left-not : f (trailingZeros 64 left) ≡ false → false ≡ allOf n set₀ f
+  unfolding _and_
+  left-not t = sym (next ∙ ap (λ (b : Bool). b and allOf n (without left (single (trailingZeros 64 left))) f) t)
+
+pub left-none : {f : ℕ → Bool} {n set₀ left : ℕ} → Left f n set₀ left → left ≤ 0 → true ≡ allOf n set₀ f
+left-none {f} {n} {set₀} {left} m h =
+    let e : left ≡ 0 = omega arith in sym (none-left n f) ∙ ap (λ (x : ℕ). allOf n x f) (sym e) ∙ m .is
+
+-- ---- every two members
+
+-- a test of two that is the same either way round, and holds of one with itself
+pub record Mutual (f : ℕ → ℕ → Bool) : Type 0 where
+  pub turn : (p q : ℕ) → f p q ≡ f q p
+  pub own : (p : ℕ) → So (f p p)
+
+abbrev pub pairsOf : ℕ → ℕ → (ℕ → ℕ → Bool) → Bool
+pairsOf n set f = allOf n set (λ p. allOf n set (f p))
+
+module _ (n set : ℕ) (f : ℕ → ℕ → Bool) where
+  two-of : ((p q : ℕ) → p < n → q < n → So (bit p set) → So (bit q set) → So (f p q)) → So (pairsOf n set f)
+  two-of h = members-of n set (λ p. allOf n set (f p)) (λ p l m. members-of n set (f p) (λ q k r. h p q l k m r))
+
+  two-at : So (pairsOf n set f) → (p q : ℕ) → p < n → q < n → So (bit p set) → So (bit q set) → So (f p q)
+  two-at t p q l k m r = members-at n set (f p) (members-at n set (λ p. allOf n set (f p)) t p l m) q k r
+
+-- one member with the others, and the others by themselves
+pick-two : (n set q : ℕ) (f : ℕ → ℕ → Bool) → Mutual f → q < n → So (bit q set)
+    → pairsOf n set f ≡ (allOf n (without set (single q)) (f q) and pairsOf n (without set (single q)) f)
+pick-two n set q f both l t = test-eq _ _ to from
+  where
+    to : So (pairsOf n set f) → So (allOf n (without set (single q)) (f q) and pairsOf n (without set (single q)) f)
+    to u =
+        and-of _ _
+        (members-of n (without set (single q)) (f q) (λ i h m. two-at n set f u q i l h t (part-in set q i m)))
+        (two-of n (without set (single q)) f (λ i j h k m r. two-at n set f u i j h k (part-in set q i m) (part-in set q j r)))
+
+    from : So (allOf n (without set (single q)) (f q) and pairsOf n (without set (single q)) f) → So (pairsOf n set f)
+    from u = two-of n set f (λ i j h k m r. go i j h k m r)
+      where
+        row : (j : ℕ) → j < n → So (bit j set) → So (f q j)
+        row j k r = ⊎-elim
+            (λ e. subst (λ (x : ℕ). So (f q x)) (sym (same-at j q e)) (both .own q))
+            (λ e. members-at n (without set (single q)) (f q) (and-left _ _ u) j k (part-of set q j r e))
+            (holds-or (same j q))
+
+        go : (i j : ℕ) → i < n → j < n → So (bit i set) → So (bit j set) → So (f i j)
+        go i j h k m r = ⊎-elim
+            (λ e. subst (λ (x : ℕ). So (f x j)) (sym (same-at i q e)) (row j k r))
+            (λ e. ⊎-elim
+            (λ g. both .turn i j ∙ subst (λ (x : ℕ). So (f x i)) (sym (same-at j q g)) (row i h m))
+            (λ g. two-at n (without set (single q)) f (and-right _ _ u) i j h k (part-of set q i m e) (part-of set q j r g))
+            (holds-or (same j q)))
+            (holds-or (same i q))
+
+pub record LeftTwo (f : ℕ → ℕ → Bool) (n set₀ left : ℕ) : Type 0 where
+  pub inside : left < 2 ^ n
+  pub is : pairsOf n left f ≡ pairsOf n set₀ f
+
+pub two-all : {f : ℕ → ℕ → Bool} {n set : ℕ} → set < 2 ^ n → LeftTwo f n set set
+two-all h = record { inside = h; is = refl }
+
+module _ {f : ℕ → ℕ → Bool} {n set₀ left left' : ℕ} (both : Mutual f) (m : LeftTwo f n set₀ left) (few : n ≤ 64) (some : 0 < left)
+    (l : left' ≡ without left (single (trailingZeros 64 left))) where
+  pub two-inside : left' < 2 ^ n
+  two-inside = subst (λ (x : ℕ). x < 2 ^ n) (sym l) (without-lt n left _ (m .inside))
+
+  next-two : pairsOf n set₀ f ≡ (allOf n left' (f (trailingZeros 64 left)) and pairsOf n left' f)
+  next-two =
+      sym (m .is)
+      ∙ pick-two n left (trailingZeros 64 left) f both (lowest-lt n left few (m .inside) some) (lowest-in n left few (m .inside) some)
+      ∙ ap (λ (x : ℕ). allOf n x (f (trailingZeros 64 left)) and pairsOf n x f) (sym l)
+
+  pub two-less : allOf n left' (f (trailingZeros 64 left)) ≡ true → LeftTwo f n set₀ left'
+  unfolding _and_
+  two-less t = record { inside = two-inside; is = sym (next-two ∙ ap (λ (b : Bool). b and pairsOf n left' f) t) }
+
+  pub two-not : allOf n left' (f (trailingZeros 64 left)) ≡ false → false ≡ pairsOf n set₀ f
+  unfolding _and_
+  two-not t = sym (next-two ∙ ap (λ (b : Bool). b and pairsOf n left' f) t)
+
+  -- the others lie above it
+  pub two-above : (p : ℕ) → p ≡ trailingZeros 64 left → Above p left'
+  two-above p e q t =
+      subst (λ (x : ℕ). x < q) (sym e) (others-above 64 left q (lt-of-lt-of-le (m .inside) (pow-mono few)) (sym (ap (bit q) l) ∙ t))
+
+pub two-none : {f : ℕ → ℕ → Bool} {n set₀ left : ℕ} → LeftTwo f n set₀ left → left ≤ 0 → true ≡ pairsOf n set₀ f
+two-none {f} {n} {set₀} {left} m h =
+    let e : left ≡ 0 = omega arith in
+    sym (none-left n (λ p. allOf n 0 (f p))) ∙ ap (λ (x : ℕ). pairsOf n x f) (sym e) ∙ m .is
+
+-- ---- a goal
+
+module _ (n : ℕ) (l : List ℕ) (set : ℕ) where
+  own-meets : (p : ℕ) → So (meets set (mutexIn n l p p)) → ⊥
+  unfolding meets
+  own-meets p t = fails-at _ t (same-of _ _ (ap (common set) (sym (mutex-own n l p p refl)) ∙ and-zero-r set))
+
+  pub pairs-mutual : Mutual (pairMeets n l set)
+  unfolding pairMeets
+  pairs-mutual = record { turn = λ p q. ap (λ (x : ℕ). fails (meets set x)) (mutex-turn n l p q); own = λ p. fails-of _ (own-meets p) }
+
+  -- the test of the rule, which goes over all propositions, is that of the goal's members
+  pairs-members : (goal : ℕ) → pairsOf n goal (pairMeets n l set)
+      ≡ allBelow n (λ q. allBelow q (λ p. (bit p goal and bit q goal) implies fails (meets set (mutexIn n l p q))))
+  unfolding pairMeets
+  pairs-members goal = test-eq _ _
+      (λ u. all-of _ _ (λ q h. all-of _ _ (λ p g. implies-of _ _ (λ m.
+      two-at n goal (pairMeets n l set) u p q (omega arith) h (and-left _ _ m) (and-right _ _ m)))))
+      (λ u. two-of n goal (pairMeets n l set) (λ p q h k m r. go u p q h k m r))
+    where
+      rising : So (allBelow n (λ q. allBelow q (λ p. (bit p goal and bit q goal) implies fails (meets set (mutexIn n l p q)))))
+          → (p q : ℕ) → p < q → q < n → So (bit p goal) → So (bit q goal) → So (pairMeets n l set p q)
+      rising u p q h k m r = implies-at _ _ (all-at _ _ (all-at _ _ u q k) p h) (and-of _ _ m r)
+
+      go : So (allBelow n (λ q. allBelow q (λ p. (bit p goal and bit q goal) implies fails (meets set (mutexIn n l p q)))))
+          → (p q : ℕ) → p < n → q < n → So (bit p goal) → So (bit q goal) → So (pairMeets n l set p q)
+      go u p q h k m r = by-cases (decLe p q)
+          (λ g. by-cases (decLe q p)
+          (λ e. let same : p ≡ q = omega arith in subst (λ (x : ℕ). So (pairMeets n l set p x)) same (pairs-mutual .own p))
+          (λ e. rising u p q (omega arith) k m r))
+          (λ g. pairs-mutual .turn p q ∙ rising u q p (omega arith) h r m)
+
+  pub goal-members : (goal : ℕ) → (allOf n goal (labelMeets l set) and pairsOf n goal (pairMeets n l set)) ≡ goalMet n l set goal
+  unfolding goalMet allOf
+  goal-members goal = ap (λ (b : Bool). allOf n goal (labelMeets l set) and b) (pairs-members goal)
+
+-- what a goal has beyond the n propositions does not count
+module _ (n goal : ℕ) where
+  held-bit : (p : ℕ) → p < n → bit p (common goal (first n)) ≡ bit p goal
+  held-bit p h =
+      bit-common p goal (first n) ∙ ap (λ (b : Bool). bit p goal and b) (bit-first p n ∙ below-of p n h) ∙ and-true (bit p goal)
+
+  met-held : (l : List ℕ) (set : ℕ) → goalMet n l set (common goal (first n)) ≡ goalMet n l set goal
+  unfolding goalMet
+  met-held l set =
+      ap₂ _and_
+      (all-eq n _ _ (λ p h. ap (λ (b : Bool). b implies within set (labelIn l p)) (held-bit p h)))
+      (all-eq n _ _ (λ q h. all-eq q _ _ (λ p g. ap₂ (λ (a b : Bool). (a and b) implies fails (meets set (mutexIn n l p q)))
+      (held-bit p (omega arith)) (held-bit q h))))
+
+  pub first-held : (v depth set : ℕ) (words : List ℕ)
+      → firstMet (sized n v) depth set (common goal (first n)) words ≡ firstMet (sized n v) depth set goal words
+  unfolding firstMet sized
+  first-held v depth set words = first-eq (suc depth) _ _ (λ t h. met-held (propsIn (sized n v) words t) set)

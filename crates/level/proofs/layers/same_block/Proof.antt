@@ -1,0 +1,66 @@
+-- The loop joins what differs; at its end nothing does exactly when all words were equal.
+use Prim.Native.Nat.{_+_, _-_}
+use borrow.Author.Needs.{needs}
+use lib.ListN.{getD}
+use Rattle.rules.specs.Test.{same}
+use Rattle.level.proofs.Searches.{Alike, alike-none, alike-more, alike-done}
+use Rattle.level.proofs.layers.same_block.Statement.{statement}
+use Rattle.level.proofs.layers.same_block.Tie as tie
+
+abbrev Inv-loop : tie.InvT-loop
+Inv-loop one other at block differ₀ i₀ differ i = Alike (λ k. getD one (at + k) 0) (λ k. getD other (at + k) 0) block i differ
+
+abbrev μ-loop : tie.MeasureT-loop
+μ-loop one other at block differ₀ i₀ differ i = block - i
+
+loop-holds : tie.Need-loop-holds Inv-loop μ-loop
+loop-holds c = alike-none
+
+add-differ : tie.Need-add-differ Inv-loop μ-loop
+add-differ c = search needs
+
+mul-differ : tie.Need-mul-differ Inv-loop μ-loop
+mul-differ c = search needs
+
+shared-slice-read-differ : tie.Need-shared-slice-read-differ Inv-loop μ-loop
+shared-slice-read-differ c = search needs
+
+add-differ-2 : tie.Need-add-differ-2 Inv-loop μ-loop
+add-differ-2 c = search needs
+
+mul-differ-2 : tie.Need-mul-differ-2 Inv-loop μ-loop
+mul-differ-2 c = search needs
+
+shared-slice-read-differ-2 : tie.Need-shared-slice-read-differ-2 Inv-loop μ-loop
+shared-slice-read-differ-2 c = search needs
+
+add-i : tie.Need-add-i Inv-loop μ-loop
+add-i c = search needs
+
+loop-less : tie.Need-loop-less Inv-loop μ-loop
+loop-less c = search needs
+
+loop-again : tie.Need-loop-again Inv-loop μ-loop
+loop-again c = alike-more (c .before .before .before .loop .inv) (search needs)
+
+returns : tie.Need-returns Inv-loop μ-loop
+unfolding same
+returns c = alike-done (c .before .loop .inv) (search needs)
+
+pub same-block-spec : {M : Type 1} → statement M
+same-block-spec =
+    tie.close
+    (tie.spec
+    Inv-loop
+    μ-loop
+    loop-holds
+    add-differ
+    mul-differ
+    shared-slice-read-differ
+    add-differ-2
+    mul-differ-2
+    shared-slice-read-differ-2
+    add-i
+    loop-less
+    loop-again
+    returns)

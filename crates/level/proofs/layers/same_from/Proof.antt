@@ -1,0 +1,59 @@
+-- The loop is left at the first block with two words that differ; the rest is compared word by word.
+use mathlib.Core.Path.{sym, _∙_}
+use Prim.Native.Nat.{_-_}
+use borrow.Author.Tests.{not-true, not-false}
+use borrow.Author.Needs.{needs}
+use native.Mathlib.Omega.{arith}
+use Rattle.level.specs.Meets.{alike}
+use Rattle.level.proofs.Searches.{Held, held-from, held-block, held-blocked, held-so}
+use Rattle.level.proofs.layers.same_from.Statement.{statement}
+use Rattle.level.proofs.layers.same_from.Tie as tie
+
+abbrev Inv-loop : tie.InvT-loop
+Inv-loop one other from count at₀ at = Held (alike one other) count at
+
+abbrev μ-loop : tie.MeasureT-loop
+μ-loop one other from count at₀ at = count - at
+
+loop-holds : tie.Need-loop-holds Inv-loop μ-loop
+loop-holds c = held-from (alike (c .before .before .args .one .now) (c .before .before .args .other .now)) _ _ (search needs) (c .before .before .pre .4)
+
+add-loop : tie.Need-add-loop Inv-loop μ-loop
+add-loop c = omega (arith, c .loop .inv .within)
+
+same-block-requires : tie.Need-same-block-requires Inv-loop μ-loop
+same-block-requires c κs = omega arith
+
+returns : tie.Need-returns Inv-loop μ-loop
+returns c = held-blocked 32 (c .before .before .before .loop .inv) (omega arith) (sym (c .before .same-block .ensures) ∙ not-true _ (c .if1 .taken))
+
+add-at : tie.Need-add-at Inv-loop μ-loop
+add-at c = omega arith
+
+loop-less : tie.Need-loop-less Inv-loop μ-loop
+loop-less c = omega arith
+
+loop-again : tie.Need-loop-again Inv-loop μ-loop
+loop-again c = held-block 32 (c .before .before .before .loop .inv) (omega arith) (sym (c .before .same-block .ensures) ∙ not-false _ (c .if1 .left))
+
+same-last-requires : tie.Need-same-last-requires Inv-loop μ-loop
+same-last-requires c κs = (c .before .loop .inv .within, search needs, search needs, held-so (c .before .loop .inv))
+
+returns-2 : tie.Need-returns-2 Inv-loop μ-loop
+returns-2 c = c .same-last .ensures
+
+pub same-from-spec : {M : Type 1} → statement M
+same-from-spec =
+    tie.close
+    (tie.spec
+    Inv-loop
+    μ-loop
+    loop-holds
+    add-loop
+    same-block-requires
+    returns
+    add-at
+    loop-less
+    loop-again
+    same-last-requires
+    returns-2)
