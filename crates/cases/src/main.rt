@@ -3,8 +3,6 @@ mod show;
 
 use extract::extract;
 use graph::build::build;
-use graph::sets::Props;
-use graph::sets::States;
 use level::level;
 use level::rest;
 use plan::plan;
@@ -18,6 +16,8 @@ use show::show_rest;
 use show::show_run;
 use show::show_sets;
 use show::show_words;
+use words::sets::Props;
+use words::sets::States;
 
 // The lamp's 40 bytes, and one more.
 fn lamp() -> [u8; 41] {

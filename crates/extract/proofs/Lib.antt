@@ -1,6 +1,5 @@
--- Laws that the proofs of the functions cite.
+-- Laws that the proofs of the functions and of the theorems cite.
 pub mod Moves
-pub mod Loops
-pub mod Answers
-pub mod Built
-pub mod Restricts
+pub mod MoveLoops
+pub mod Cuts
+pub mod OfBuilds

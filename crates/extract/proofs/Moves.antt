@@ -9,25 +9,20 @@ use native.Mathlib.Omega.{arith}
 use native.Mathlib.Decide.{le-ind}
 use native.Mathlib.Numerals.{one-add}
 use lib.Bits.{or-zero-r}
-use lib.Pow.{pow-pos, shr-shr, shr-mono, shr-le, split, mod-pow-add}
+use lib.Pow.{pow-pos, shr-mono, shr-le, split, mod-pow-add}
 use Rattle.rules.specs.Test.{_and_, _or_, fails, same, choose}
 use Rattle.rules.specs.Word.{bit, common, union, without, single}
 use Rattle.rules.specs.Over.{keep, joinOver, joinOf, anyBelow, countBelow}
 use Rattle.rules.specs.Extract.{rank, closeUp}
 use Rattle.rules.proofs.Tests.{and-of, and-left, and-right, or-left, or-right, or-at, fails-of, fails-at, holds-or, test-eq, same-of, same-at, choose-failed}
 use Rattle.rules.proofs.Members.{bit-joinOf}
-use Rattle.rules.proofs.Words.{bit-above, bit-below, bit-common, bit-union, bit-without, bit-single, ext, common-lt, union-lt, without-lt, single-lt}
+use Rattle.rules.proofs.Words.{bit-above, bit-below, bit-common, bit-union, bit-without, bit-single, ext, common-lt, union-lt, without-lt, single-lt, bit-shift}
 use Rattle.rules.proofs.Overs.{any-of, any-at, any-only, any-eq, bit-keep, bit-joinOver, joinOver-eq, joinOver-lt, keep-lt}
 use Rattle.rules.proofs.Extracts.{rank-in, rank-out, rank-lt}
-use Rattle.graph.specs.Width.{stateWidth}
-use Rattle.extract.specs.Moves.{gap, gaps, Enough, place, moving, closing}
+use Rattle.words.specs.Width.{stateWidth}
+use Rattle.extract.specs.Moves.{gap, gaps, mostMoves, Enough, place, moving, closing}
 
 -- ---- states that stand at places
-
--- a word shifted down
-bit-shift : (j d w : ℕ) → bit j (w / 2 ^ d) ≡ bit (d + j) w
-unfolding bit
-bit-shift j d w = ap (λ (x : ℕ). same (x % 2) 1) (shr-shr w d j)
 
 -- those of n states that pass the test, each at its place
 abbrev standing : ℕ → (ℕ → Bool) → (ℕ → ℕ) → ℕ
@@ -103,7 +98,7 @@ module _ (n d : ℕ) (S b T : ℕ → Bool) (p q : ℕ → ℕ)
       (standing-lt n T q (λ s l. omega (arith, lower s, h s l)))
       (λ j l.
       bit-union j (without (standing n T p) M) (common (standing n T p) M / 2 ^ d)
-      ∙ ap₂ _or_ (bit-without j (standing n T p) M) (bit-shift j d (common (standing n T p) M) ∙ bit-common (d + j) (standing n T p) M)
+      ∙ ap₂ _or_ (bit-without j (standing n T p) M) (bit-shift (common (standing n T p) M) d j ∙ bit-common (d + j) (standing n T p) M)
       ∙ test-eq _ _ (there j) (back j))
 
 -- ---- where a state stands before each move
@@ -177,11 +172,10 @@ module _ (set : ℕ) where
   unfolding place
   place-first s = omega (arith, mod-lt (gap set s) (pow-pos 0))
 
-  -- no state has 64 or more to go
-  place-last : (s : ℕ) → s < stateWidth → place set 6 s ≡ rank set s
+  place-last : (s : ℕ) → s < stateWidth → place set mostMoves s ≡ rank set s
   unfolding place gap
   place-last s h =
-      let e : gap set s % 64 ≡ gap set s = mod-eq-of-lt (omega (arith, gap-le s)) in
+      let e : gap set s % 2 ^ mostMoves ≡ gap set s = mod-eq-of-lt (omega (arith, gap-le s)) in
       omega (arith, rank-le s)
 
 -- ---- moves that move nothing
@@ -190,10 +184,9 @@ gaps-bit : (set s i : ℕ) → s < stateWidth → So (bit s set) → So (bit i (
 unfolding gaps
 gaps-bit set s i l t u = bit-joinOf i stateWidth set (gap set) ∙ any-of stateWidth _ s l (and-of _ _ t u)
 
--- no state has 64 or more to go
-pub gaps-lt : (set : ℕ) → gaps set < 2 ^ 6
+pub gaps-lt : (set : ℕ) → gaps set < 2 ^ mostMoves
 unfolding gaps joinOf
-gaps-lt set = joinOver-lt 6 _ stateWidth (λ s l. keep-lt 6 (bit s set) (gap set s) (λ t. omega (arith, gap-le set s)))
+gaps-lt set = joinOver-lt mostMoves _ stateWidth (λ s l. keep-lt mostMoves (bit s set) (gap set s) (λ t. omega (arith, gap-le set s)))
 
 keep-same : (c : Bool) (x y : ℕ) → (So c → x ≡ y) → keep c x ≡ keep c y
 unfolding keep choose
@@ -217,9 +210,10 @@ moving-none set i none = sym (
     ∙ none-over stateWidth)
 
 -- so further moves change nothing
-pub closing-enough : (set w moves : ℕ) → Enough set moves → closing stateWidth set w moves ≡ closing stateWidth set w 6
+pub closing-enough : (set w moves : ℕ) → Enough set moves → closing stateWidth set w moves ≡ closing stateWidth set w mostMoves
 unfolding closing
-closing-enough set w moves enough = le-ind (λ k. closing stateWidth set w moves ≡ closing stateWidth set w k) refl (λ k g r. r ∙ still k g) 6 (enough .few)
+closing-enough set w moves enough = le-ind (λ k. closing stateWidth set w moves ≡ closing stateWidth set w k) refl (λ k g r. r
+    ∙ still k g) mostMoves (enough .few)
   where
     still : (k : ℕ) → moves ≤ k → closing stateWidth set w k ≡ closing stateWidth set w (suc k)
     still k g = joinOver-eq stateWidth _ _ (λ s l. keep-same _ _ _ (λ t. ap single (place-stays set k s (fails-of _ (λ u.
@@ -245,7 +239,7 @@ module _ (n set w : ℕ) where
       ∙ moved n (2 ^ i) (λ s. bit s set) (λ s. bit i (gap set s)) (λ s. bit s set and bit s w) (place set i) (place set (suc i))
       (place-apart set i) (place-moves set i) (place-stays set i) (λ s. and-left _ _) (place-low set n i)
 
-  pub closing-last : n ≤ stateWidth → closing n set w 6 ≡ closeUp n set w
+  pub closing-last : n ≤ stateWidth → closing n set w mostMoves ≡ closeUp n set w
   unfolding closing closeUp
   closing-last h =
       joinOver-eq n _ _ (λ s l. ap (λ (x : ℕ). keep (bit s set and bit s w) (single x)) (place-last set s (omega arith)))

@@ -1,21 +1,24 @@
 // The bits of a word closed up in moves, which are prepared for a set once: no more moves than the set needs, at most six.
-use graph::rows::lowest;
-use graph::rows::others;
-use graph::sets::States;
+use words::members::lowest;
+use words::members::others;
+use words::sets::States;
 ghost use mathlib.Core.Path.{_≡_};
 ghost use Prim.Native.Nat.{_-_, _%_, _^_, _<_, _≤_};
 ghost use lib.ListN.{length};
 ghost use Rattle.rules.specs.Word.{bit, single};
 ghost use Rattle.rules.specs.Over.{keep};
-ghost use Rattle.rules.specs.Lists.{listOver};
 ghost use Rattle.rules.specs.Extract.{closeUp};
-ghost use Rattle.graph.specs.Width.{stateWidth};
-ghost use Rattle.graph.specs.Memory.{putAt};
+ghost use Rattle.words.specs.Width.{stateWidth};
+ghost use Rattle.words.specs.Memory.{putAt};
+ghost use Rattle.extract.specs.Moves.{mostMoves};
 ghost use Rattle.extract.specs.Moves as M;
+
+// No state has 2 ^ 6 or more to go.
+const MOVES: usize = 6;
 
 // How far the states of the set have to go down, joined: the move i moves nothing where it lacks the bit i.
 fn gaps(set: States) -> usize
-    ensures { λ r. ⌜ (r ≡ M.gaps (set .0)) × (r < 64) ⌝ }
+    ensures { λ r. ⌜ (r ≡ M.gaps (set .0)) × (r < 2 ^ mostMoves) ⌝ }
 {
     let mut left = set.0;
     let mut under = 0;
@@ -30,7 +33,7 @@ fn gaps(set: States) -> usize
 
 // Where state s stands before move i, if it goes down in that move.
 fn moving_at(s: usize, gap: usize, i: usize) -> u64
-    requires { ⌜ (s < stateWidth) × (gap ≤ s) × (i < 6) ⌝ }
+    requires { ⌜ (s < stateWidth) × (gap ≤ s) × (i < mostMoves) ⌝ }
     ensures { λ r. ⌜ r ≡ keep (bit i gap) (single (s - gap % 2 ^ i)) ⌝ }
 {
     if (gap >> i) % 2 != 1 {
@@ -41,7 +44,7 @@ fn moving_at(s: usize, gap: usize, i: usize) -> u64
 
 // The states of the set that go down in move i, where they stand: one member after the other, `under` of them lie below it.
 fn move_mask(set: States, i: usize) -> u64
-    requires { ⌜ i < 6 ⌝ }
+    requires { ⌜ i < mostMoves ⌝ }
     ensures { λ r. ⌜ r ≡ M.moving stateWidth (set .0) i ⌝ }
 {
     let mut left = set.0;
@@ -59,7 +62,7 @@ fn move_mask(set: States, i: usize) -> u64
 
 // The same, where it is known how far the states have to go.
 fn mask_of(set: States, wide: usize, i: usize) -> u64
-    requires { ⌜ (i < 6) × (wide ≡ M.gaps (set .0)) ⌝ }
+    requires { ⌜ (i < mostMoves) × (wide ≡ M.gaps (set .0)) ⌝ }
     ensures { λ r. ⌜ r ≡ M.moving stateWidth (set .0) i ⌝ }
 {
     if (wide >> i) % 2 != 1 {
@@ -69,17 +72,17 @@ fn mask_of(set: States, wide: usize, i: usize) -> u64
 }
 
 fn prepare(set: States, wide: usize, masks: &mut [u64])
-    requires { ⌜ (length (now masks) ≡ 6) × (wide ≡ M.gaps (set .0)) ⌝ }
-    ensures { λ r. ⌜ now (masks .exit) ≡ listOver 6 (M.moving stateWidth (set .0)) ⌝ }
+    requires { ⌜ (length (now masks) ≡ mostMoves) × (wide ≡ M.gaps (set .0)) ⌝ }
+    ensures { λ r. ⌜ now (masks .exit) ≡ M.masksOf (set .0) ⌝ }
 {
-    for i in 0..6 {
+    for i in 0..MOVES {
         masks[i] = mask_of(set, wide, i);
     }
 }
 
 // The word cut to the set, bits closed up in so many moves.
 fn close_up(masks: &[u64], set: States, w: u64, moves: usize) -> u64
-    requires { ⌜ (now masks ≡ listOver 6 (M.moving stateWidth (set .0))) × M.Enough (set .0) moves ⌝ }
+    requires { ⌜ (now masks ≡ M.masksOf (set .0)) × M.Enough (set .0) moves ⌝ }
     ensures { λ r. ⌜ r ≡ closeUp stateWidth (set .0) w ⌝ }
 {
     let mut word = set.0 & w;
@@ -91,8 +94,7 @@ fn close_up(masks: &[u64], set: States, w: u64, moves: usize) -> u64
 }
 
 fn cut_words(masks: &[u64], set: States, moves: usize, words: &[u64], out: &mut [u64], count: usize)
-    requires { ⌜ (now masks ≡ listOver 6 (M.moving stateWidth (set .0))) × M.Enough (set .0) moves
-        × (count ≤ length (now words)) × (count ≤ length (now out)) ⌝ }
+    requires { ⌜ M.Prepared (set .0) (now masks) (now words) (now out) count × M.Enough (set .0) moves ⌝ }
     ensures { λ r. ⌜ now (out .exit) ≡ putAt 0 (M.cutWords (set .0) (now (words .entry)) count) (now (out .entry)) ⌝ }
 {
     for j in 0..count {
@@ -102,8 +104,7 @@ fn cut_words(masks: &[u64], set: States, moves: usize, words: &[u64], out: &mut 
 
 // Each number of moves by itself: a loop whose number of turns is known is unrolled, and several words are closed up at once.
 fn cut_by(masks: &[u64], set: States, wide: usize, words: &[u64], out: &mut [u64], count: usize)
-    requires { ⌜ (now masks ≡ listOver 6 (M.moving stateWidth (set .0))) × (wide ≡ M.gaps (set .0)) × (wide < 64)
-        × (count ≤ length (now words)) × (count ≤ length (now out)) ⌝ }
+    requires { ⌜ M.Prepared (set .0) (now masks) (now words) (now out) count × (wide ≡ M.gaps (set .0)) × (wide < 2 ^ mostMoves) ⌝ }
     ensures { λ r. ⌜ now (out .exit) ≡ putAt 0 (M.cutWords (set .0) (now (words .entry)) count) (now (out .entry)) ⌝ }
 {
     if wide < 1 {
@@ -119,12 +120,12 @@ fn cut_by(masks: &[u64], set: States, wide: usize, words: &[u64], out: &mut [u64
     } else if wide < 32 {
         cut_words(masks, set, 5, words, &mut *out, count);
     } else {
-        cut_words(masks, set, 6, words, &mut *out, count);
+        cut_words(masks, set, MOVES, words, &mut *out, count);
     }
 }
 
 fn cut_with(masks: &mut [u64], set: States, words: &[u64], out: &mut [u64], count: usize)
-    requires { ⌜ (length (now masks) ≡ 6) × (count ≤ length (now words)) × (count ≤ length (now out)) ⌝ }
+    requires { ⌜ (length (now masks) ≡ mostMoves) × (count ≤ length (now words)) × (count ≤ length (now out)) ⌝ }
     ensures { λ r. ⌜ now (out .exit) ≡ putAt 0 (M.cutWords (set .0) (now (words .entry)) count) (now (out .entry)) ⌝ }
 {
     let wide = gaps(set);
@@ -137,6 +138,6 @@ pub fn cut(set: States, words: &[u64], out: &mut [u64], count: usize)
     requires { ⌜ (count ≤ length (now words)) × (count ≤ length (now out)) ⌝ }
     ensures { λ r. ⌜ now (out .exit) ≡ putAt 0 (M.cutWords (set .0) (now (words .entry)) count) (now (out .entry)) ⌝ }
 {
-    let mut masks = [0u64; 6];
+    let mut masks = [0u64; MOVES];
     cut_with(&mut masks[..], set, words, &mut *out, count);
 }

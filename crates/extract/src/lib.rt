@@ -1,28 +1,54 @@
 // Extract: the words of a graph cut to a set of start states, bits closed up in order.
 mod close;
 
-use graph::calls::Check;
-use graph::calls::check_depth;
-use graph::calls::check_memory;
-use graph::calls::check_output;
-use graph::calls::check_set;
+use graph::checks::check_graph;
+use graph::checks::check_output;
+use graph::checks::check_set;
 use graph::file::FileAnswer;
 use graph::file::check_file;
-use graph::label::word_count;
+use graph::format::Counts;
+use graph::layout::word_count;
+use graph::refusal::Check;
 use graph::refusal::Refusal;
-use graph::sets::States;
+use words::sets::States;
 ghost use mathlib.Core.Path.{_≡_};
 ghost use lib.ListN.{length};
+ghost use Rattle.graph.specs.File.{Ranged};
 ghost use Rattle.graph.specs.Verdict.{written, laid};
-ghost use Rattle.extract.specs.Rule.{extractRule, extractVerdict};
+ghost use Rattle.extract.specs.Rule.{extractTaken, extractRule, extractVerdict};
 
 pub enum ExtractAnswer {
     Extracted(usize),
     Refused(Refusal),
 }
 
-// For a file and depth, the graph's words as found, cut to the set, go to the front of `out`. Causes 1 to 5, 6, 7, 9 and 10; nothing is written before
-// the last check is passed.
+// Once the file is taken: causes 6, 7, 9 and 10, or the words. Nothing is written before the last check is passed.
+fn extract_taken(
+    c: Counts,
+    depth: usize,
+    set: States,
+    words: &[u64],
+    out: &mut [u64],
+) -> ExtractAnswer
+    requires { ⌜ Ranged c ⌝ }
+    ensures { λ r. ⌜ (extractVerdict r ≡ written (extractTaken c depth (set .0) (now (words .entry)) (length (now (out .entry)))))
+        × (now (out .exit) ≡ laid (extractTaken c depth (set .0) (now (words .entry)) (length (now (out .entry)))) (now (out .entry))) ⌝ }
+{
+    let asked = check_set(c.states, set);
+    let found = check_graph(c, depth, asked, words.len());
+    if let Check::Refused(why) = found {
+        return ExtractAnswer::Refused(why);
+    }
+    let wanted = word_count(c.shape(), depth);
+    let room = check_output(wanted, out.len());
+    if let Check::Refused(why) = room {
+        return ExtractAnswer::Refused(why);
+    }
+    close::cut(set, words, &mut *out, wanted);
+    ExtractAnswer::Extracted(wanted)
+}
+
+// For a file and depth, the graph's words as found, cut to the set, go to the front of `out`. Turned away, no word changes.
 pub fn extract(
     file: &[u8],
     depth: usize,
@@ -33,27 +59,9 @@ pub fn extract(
     ensures { λ r. ⌜ (extractVerdict r ≡ written (extractRule (now (file .entry)) depth (set .0) (now (words .entry)) (length (now (out .entry)))))
         × (now (out .exit) ≡ laid (extractRule (now (file .entry)) depth (set .0) (now (words .entry)) (length (now (out .entry)))) (now (out .entry))) ⌝ }
 {
-    let c = match check_file(file) {
-        FileAnswer::Taken(c) => c,
-        FileAnswer::Refused(why) => return ExtractAnswer::Refused(why),
-    };
-    let check = check_depth(depth);
-    if let Check::Refused(why) = check {
-        return ExtractAnswer::Refused(why);
+    let taken = check_file(file);
+    match taken {
+        FileAnswer::Refused(why) => ExtractAnswer::Refused(why),
+        FileAnswer::Taken(c) => extract_taken(c, depth, set, words, out),
     }
-    let check = check_set(c.states, set);
-    if let Check::Refused(why) = check {
-        return ExtractAnswer::Refused(why);
-    }
-    let wanted = word_count(c.props, c.actions + c.props, depth);
-    let check = check_memory(wanted, words.len());
-    if let Check::Refused(why) = check {
-        return ExtractAnswer::Refused(why);
-    }
-    let check = check_output(wanted, out.len());
-    if let Check::Refused(why) = check {
-        return ExtractAnswer::Refused(why);
-    }
-    close::cut(set, words, &mut *out, wanted);
-    ExtractAnswer::Extracted(wanted)
 }

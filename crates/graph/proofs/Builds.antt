@@ -2,8 +2,8 @@
 -- Assumes nothing.
 use Prim.Native.Nat.{ℕ, zero, suc, _+_, _-_, _*_, _≤_, _<_}
 use mathlib.Core.Path.{_≡_, refl, sym, ap, ap₂, subst, _∙_}
-use mathlib.Core.List.{List, [], _∷_, _++_, append-assoc, append-nil}
-use native.Mathlib.Nat.{le-refl, add-zero, suc-mul, zero-mul, mul-le-mul-right}
+use mathlib.Core.List.{List, _++_, append-assoc, append-nil}
+use native.Mathlib.Nat.{le-refl, suc-mul, zero-mul, mul-le-mul-right}
 use native.Mathlib.Numerals.{add-one}
 use native.Mathlib.Omega.{arith}
 use borrow.Rule.Slice.PartMut.{putMid}
@@ -11,32 +11,13 @@ use lib.ListN.{length, take, drop, length-append}
 use lib.Seq.{take-at, drop-at, drop-drop}
 use Rattle.rules.specs.Word.{common, first}
 use Rattle.rules.specs.Lists.{listOver, runOver}
-use Rattle.rules.specs.Domain.{Domain}
+use Rattle.rules.specs.Domain.{Domain, shapeOf}
 use Rattle.rules.specs.Layer.{size, pairs, rowOf, layerOf, stride}
 use Rattle.rules.specs.Shared.{startLayer, actionLayer, nextLabel, nextMutex, nextLayer, propLayer, vertexLayer, graphWords}
-use Rattle.rules.proofs.Layers.{length-listOver, length-layerOf, length-rows, size-pairs, pairs-sub, pairs-row, labels-in}
-use Rattle.graph.specs.Listed.{addedBy, listed, pairWord, layerOver, nextWord, layerAfter, stepWords, propFrom, Sizes}
-use Rattle.graph.specs.Memory.{putAt}
-use Rattle.graph.proofs.Writes.{Runs, put-none, put-put, put-back, put-within, put-length, put-take, tail-all, run-more, run-done}
-
--- ---- lists by their index, and lists one behind the other, cut in two
-
-pub run-append : (a b : ℕ) (g : ℕ → List ℕ) → runOver (a + b) g ≡ runOver a g ++ runOver b (λ t. g (a + t))
-unfolding runOver
-run-append a zero g = ap (λ (x : ℕ). runOver x g) (add-zero a) ∙ sym (append-nil (runOver a g))
-run-append a (suc b) g =
-    let e : a + suc b ≡ suc (a + b) = omega arith in
-    ap (λ (x : ℕ). runOver x g) e
-    ∙ ap (λ (l : List ℕ). l ++ g (a + b)) (run-append a b g) ∙ append-assoc (runOver a g) (runOver b (λ t. g (a + t))) (g (a + b))
-
-list-run : (n : ℕ) (f : ℕ → ℕ) → listOver n f ≡ runOver n (λ i. f i ∷ [])
-unfolding listOver runOver
-list-run zero f = refl
-list-run (suc n) f = ap (λ (l : List ℕ). l ++ (f n ∷ [])) (list-run n f)
-
-pub list-append : (a b : ℕ) (f : ℕ → ℕ) → listOver (a + b) f ≡ listOver a f ++ listOver b (λ i. f (a + i))
-list-append a b f =
-    list-run (a + b) f ∙ run-append a b (λ i. f i ∷ []) ∙ ap₂ (λ (x y : List ℕ). x ++ y) (sym (list-run a f)) (sym (list-run b (λ i. f (a + i))))
+use Rattle.rules.proofs.Layers.{length-listOver, list-append, length-layerOf, length-rows, size-pairs, pairs-sub, pairs-row, labels-in}
+use Rattle.graph.specs.Listed.{addedBy, listedDomain, pairWord, layerOver, nextWord, layerAfter, stepWords, propFrom, VertexLists}
+use Rattle.words.specs.Memory.{putAt}
+use Rattle.words.proofs.Writes.{Runs, put-none, put-put, put-back, put-within, put-length, put-take, tail-all, run-more, run-done}
 
 -- ---- layer 0
 
@@ -56,29 +37,56 @@ no-pairs : (n : ℕ) → pairs (n - n) ≡ 0
 unfolding pairs
 no-pairs n = let e : n - n ≡ 0 = omega arith in rw e refl
 
--- labels at the front, then empty words up to the layer's end
-pub start-put : (n end : ℕ) (label : ℕ → ℕ) (w₀ w₁ w₂ : List ℕ) → size n ≤ length w₀ → end ≡ size n
-    → w₁ ≡ putAt 0 (listOver n label) w₀ → w₂ ≡ putAt n (listOver (end - n) (λ i. 0)) w₁ → w₂ ≡ putAt 0 (layerOf n label (λ p q. 0)) w₀
-unfolding layerOf
-start-put n end label w₀ w₁ w₂ room e e₁ e₂ =
-    let long : length (listOver n label) ≡ n = length-listOver n label in
-    let rest : end - n ≡ pairs n - pairs (n - n) = omega (arith, size-pairs n, no-pairs n) in
-    let here : n ≡ 0 + length (listOver n label) = omega arith in
-    e₂
-    ∙ ap₂ (λ (x y : List ℕ). putAt n x y) (ap (λ (x : ℕ). listOver x (λ i. 0)) rest ∙ sym (zero-rows n n (le-refl n))) e₁
-    ∙ ap (λ (x : ℕ). putAt x (runOver n (rowOf n (λ p q. 0))) (putAt 0 (listOver n label) w₀)) here
-    ∙ put-put 0 (listOver n label) w₀ (omega (arith, labels-in n)) (runOver n (rowOf n (λ p q. 0)))
+-- a layer's words cleared, then its labels written at the front
+module _ (n end : ℕ) (w₀ w₁ : List ℕ) (room : size n ≤ length w₀) (is : end ≡ size n) (cleared : w₁ ≡ putAt 0 (listOver end (λ i. 0)) w₀) where
+  abbrev rest : ℕ
+  rest = end - n
+
+  split : listOver end (λ i. 0) ≡ listOver n (λ i. 0) ++ listOver rest (λ i. 0)
+  split =
+      let e : end ≡ n + rest = omega (arith, labels-in n) in
+      ap (λ (x : ℕ). listOver x (λ i. 0)) e ∙ list-append n rest (λ i. 0)
+
+  there : w₁ ≡ listOver n (λ i. 0) ++ (listOver rest (λ i. 0) ++ drop end w₀)
+  unfolding putAt
+  there =
+      let e : 0 + length (listOver end (λ i. 0)) ≡ end = omega (arith, length-listOver end (λ i. 0)) in
+      cleared ∙ ap₂ (λ (l : List ℕ) (x : ℕ). l ++ drop x w₀) split e ∙ append-assoc (listOver n (λ i. 0)) (listOver rest (λ i. 0)) (drop end w₀)
+
+  pub front-clear : take n w₁ ≡ listOver n (λ i. 0)
+  front-clear = ap (take n) there ∙ take-at (listOver n (λ i. 0)) _ n (length-listOver n (λ i. 0))
+
+  pub start-put : (label : ℕ → ℕ) (p : List ℕ) → p ≡ listOver n label → p ++ drop n w₁ ≡ putAt 0 (layerOf n label (λ p q. 0)) w₀
+  unfolding layerOf putAt
+  start-put label p e =
+      let r : rest ≡ pairs n - pairs (n - n) = omega (arith, size-pairs n, no-pairs n) in
+      let zeros : listOver rest (λ i. 0) ≡ runOver n (rowOf n (λ p q. 0)) = ap (λ (x : ℕ). listOver x (λ i. 0)) r ∙ sym (zero-rows n n (le-refl n)) in
+      let whole : List ℕ = listOver n label ++ runOver n (rowOf n (λ p q. 0)) in
+      let l : end ≡ 0 + length whole =
+      omega (
+        arith,
+        length-append (listOver n label) (runOver n (rowOf n (λ p q. 0))),
+        length-listOver n label,
+        ap length (sym zeros),
+        length-listOver rest (λ i. 0),
+        labels-in n,
+      ) in
+      ap₂ (λ (x y : List ℕ). x ++ y) e (ap (drop n) there ∙ drop-at (listOver n (λ i. 0)) _ n (length-listOver n (λ i. 0)))
+      ∙ sym (append-assoc (listOver n label) (listOver rest (λ i. 0)) (drop end w₀))
+      ∙ ap₂ (λ (x : List ℕ) (y : ℕ). (listOver n label ++ x) ++ drop y w₀) zeros l
 
 -- ---- the step
 
--- the action layer over a proposition layer, and the proposition layer after an action layer, of the listed Domain
-pub over-is : (n all : ℕ) (needs adders foes l : List ℕ) → layerOver n all needs foes l ≡ actionLayer (listed n needs adders foes) all l
-unfolding layerOver pairWord actionLayer listed
-over-is n all needs adders foes l = refl
+-- the action layer over a proposition layer, and the proposition layer after an action layer, of the listedDomain Domain
+pub over-is : (n all : ℕ) (needs adders interfering l : List ℕ)
+    → layerOver n all needs interfering l ≡ actionLayer (listedDomain n needs adders interfering) all l
+unfolding layerOver pairWord actionLayer listedDomain
+over-is n all needs adders interfering l = refl
 
-pub after-is : (n : ℕ) (needs adders foes a : List ℕ) → length adders ≡ n → layerAfter (length needs) adders a ≡ nextLayer (listed n needs adders foes) a
-unfolding layerAfter nextLayer listed nextWord
-after-is n needs adders foes a e =
+pub after-is : (n : ℕ) (needs adders interfering a : List ℕ) → length adders ≡ n
+    → layerAfter (length needs) adders a ≡ nextLayer (listedDomain n needs adders interfering) a
+unfolding layerAfter nextLayer listedDomain nextWord
+after-is n needs adders interfering a e =
     ap (λ (k : ℕ). layerOf k (nextLabel (length needs) (addedBy adders) a)
     (λ p q. nextMutex (length needs) (addedBy adders) a
     (common (nextLabel (length needs) (addedBy adders) a p) (nextLabel (length needs) (addedBy adders) a q)) p q)) e
@@ -106,16 +114,17 @@ put-part b xs w₀ w₁ room e₁ =
     ap (take (length xs)) (tail-all b w₁ ∙ ap (drop b) e₁ ∙ put-back b xs w₀ room) ∙ take-at xs (drop (b + length xs) w₀) (length xs) refl
 
 -- the action layer put behind the proposition layer, then the next proposition layer behind it
-pub step-put : (n all at : ℕ) (needs adders foes w₀ w₁ p : List ℕ) → Sizes n needs adders foes → size n + size (length needs) + size n ≤ length w₀
-    → at ≡ size n → w₁ ≡ putAt (size n) (layerOver n all needs foes (take (size n) w₀)) w₀
+pub step-put : (n all at : ℕ) (needs adders interfering w₀ w₁ p : List ℕ) → VertexLists n needs adders interfering
+    → size n + size (length needs) + size n ≤ length w₀
+    → at ≡ size n → w₁ ≡ putAt (size n) (layerOver n all needs interfering (take (size n) w₀)) w₀
     → p ≡ putAt (size (length needs)) (layerAfter (length needs) adders (take (size (length needs)) (take (length w₁ - at) (drop at w₁))))
     (take (length w₁ - at) (drop at w₁))
-    → putMid at (length w₁ - at) w₁ p ≡ putAt (size n) (stepWords (listed n needs adders foes) all (take (size n) w₀)) w₀
-unfolding stepWords listed
-step-put n all at needs adders foes w₀ w₁ p sizes room q e₀ ep =
-    let D : Domain = listed n needs adders foes in
+    → putMid at (length w₁ - at) w₁ p ≡ putAt (size n) (stepWords (listedDomain n needs adders interfering) all (take (size n) w₀)) w₀
+unfolding stepWords listedDomain
+step-put n all at needs adders interfering w₀ w₁ p sizes room q e₀ ep =
+    let D : Domain = listedDomain n needs adders interfering in
     let a : List ℕ = actionLayer D all (take (size n) w₀) in
-    let e₁ : w₁ ≡ putAt (size n) a w₀ = e₀ ∙ ap (λ (l : List ℕ). putAt (size n) l w₀) (over-is n all needs adders foes (take (size n) w₀)) in
+    let e₁ : w₁ ≡ putAt (size n) a w₀ = e₀ ∙ ap (λ (l : List ℕ). putAt (size n) l w₀) (over-is n all needs adders interfering (take (size n) w₀)) in
     let la : length a ≡ size (length needs) = length-actions D all (take (size n) w₀) in
     let ln : length (nextLayer D a) ≡ size n = length-next D a in
     let front : take (size (length needs)) (take (length w₁ - size n) (drop (size n) w₁)) ≡ a =
@@ -125,7 +134,7 @@ step-put n all at needs adders foes w₀ w₁ p sizes room q e₀ ep =
     ∙ ap (λ (x : ℕ). putAt (size (length needs)) (layerAfter (length needs) adders (take (size (length needs)) (take (length w₁ - x) (drop x w₁))))
     (take (length w₁ - x) (drop x w₁))) q
     ∙ ap (λ (l : List ℕ). putAt (size (length needs)) l (take (length w₁ - size n) (drop (size n) w₁)))
-    (ap (layerAfter (length needs) adders) front ∙ after-is n needs adders foes a (sizes .adders-long)) in
+    (ap (layerAfter (length needs) adders) front ∙ after-is n needs adders interfering a (sizes .adders-long)) in
     ap (λ (x : ℕ). putMid x (length w₁ - x) w₁ p) q
     ∙ put-then (size n) (size (length needs)) a (nextLayer D a) w₀ w₁ p la (omega arith) e₁ ep'
 
@@ -153,11 +162,11 @@ graph-steps D n start (suc k) =
 -- at t of `depth` steps over the layer l: the words so far, where layer t begins, and that it stands there
 pub record Stepping (D : Domain) (all : ℕ) (l : List ℕ) (depth : ℕ) (w₀ : List ℕ) (t at : ℕ) (w : List ℕ) : Type 0 where
   pub runs : Runs (λ t. stepWords D all (propFrom D all l t)) (size (D .props)) depth w₀ t (at + size (D .props)) w
-  pub place : at ≡ t * stride D
+  pub place : at ≡ t * stride (shapeOf D)
   pub front : take (size (D .props)) (drop at w) ≡ propFrom D all l t
 
 -- where t steps are done of so many, the next has room
-pub step-room : (D : Domain) (depth t at len : ℕ) → at ≡ t * stride D → t < depth → depth * stride D + size (D .props) ≤ len
+pub step-room : (D : Domain) (depth t at len : ℕ) → at ≡ t * stride (shapeOf D) → t < depth → depth * stride (shapeOf D) + size (D .props) ≤ len
     → at + (size (D .props) + size (D .vertices)) + size (D .props) ≤ len
 unfolding stride
 step-room D depth t at len e h room =
@@ -167,12 +176,12 @@ pub stepping-none : (D : Domain) (all depth : ℕ) (w : List ℕ) → size (D .p
 unfolding propFrom runOver
 stepping-none D all depth w h = record {
   runs = record { within = omega arith; here = omega arith; inside = omega arith; long = refl; is = sym (put-none (size (D .props)) w) };
-  place = sym (zero-mul (stride D));
+  place = sym (zero-mul (stride (shapeOf D)));
   front = refl;
 }
 
 module _ {D : Domain} {all : ℕ} {l : List ℕ} {depth : ℕ} {w₀ : List ℕ} {t at : ℕ} {w : List ℕ} (s : Stepping D all l depth w₀ t at w) where
-  pub stepping-more : (q : ℕ) (p : List ℕ) → t < depth → depth * stride D + size (D .props) ≤ length w₀ → q ≡ size (D .props) + size (D .vertices)
+  pub stepping-more : (q : ℕ) (p : List ℕ) → t < depth → depth * stride (shapeOf D) + size (D .props) ≤ length w₀ → q ≡ size (D .props) + size (D .vertices)
       → p ≡ putAt (size (D .props)) (stepWords D all (take (size (D .props)) (take (length w - at) (drop at w)))) (take (length w - at) (drop at w))
       → Stepping D all l depth w₀ (t + 1) (at + q) (putMid at (length w - at) w p)
   unfolding stepWords stride propFrom

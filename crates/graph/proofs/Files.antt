@@ -10,8 +10,9 @@ use Rattle.rules.specs.Over.{joinOver}
 use Rattle.rules.proofs.Overs.{below-suc}
 use Rattle.rules.proofs.Tests.{choose-held, below-of}
 use Rattle.graph.specs.Verdict.{accepted}
-use Rattle.graph.specs.File.{setAt, setsRule}
-use Rattle.graph.specs.declared.file.Counts.{Counts}
+use Rattle.graph.specs.Format.{headBytes, setBytes, setAt, setCount}
+use Rattle.graph.specs.File.{setsFrom, setsRule}
+use Rattle.graph.specs.declared.format.Counts.{Counts}
 
 le-or-l : (a b : ℕ) → a ≤ bitOr a b
 le-or-l a b = add-le-add-iff-right b .0 (le-trans (le-of-eq (sym (or-add-and a b))) (add-le-add (le-refl (bitOr a b)) (and-le-r a b)))
@@ -27,12 +28,20 @@ join-at (suc n) f i h =
     below-suc (λ j. f j ≤ bitOr (joinOver n f) (f n)) n (le-or-r (joinOver n f) (f n)) (λ j l. le-trans (join-at n f j l) (le-or-l (joinOver n f) (f n))) i h
 
 -- sets of which none has bit P or above pass
-sets-pass : (file : List ℕ) (c : Counts) (left at : ℕ) → ((i : ℕ) → i < left → setAt file (at + 4 * i) < 2 ^ c .props) → accepted c ≡ setsRule file c left at
-unfolding setsRule
-sets-pass file c zero at each = refl
-sets-pass file c (suc left) at each =
-    sets-pass file c left (at + 4) (λ i h. subst (λ (x : ℕ). setAt file x < 2 ^ c .props) (omega arith) (each (suc i) (omega arith)))
-    ∙ sym (choose-held _ _ _ (below-of _ _ (subst (λ (x : ℕ). setAt file x < 2 ^ c .props) (omega arith) (each 0 (omega arith)))))
+sets-pass : (file : List ℕ) (props left at : ℕ) → ((i : ℕ) → i < left → setAt file (at + setBytes * i) < 2 ^ props)
+    → accepted tt ≡ setsFrom file props left at
+unfolding setsFrom
+sets-pass file props zero at each = refl
+sets-pass file props (suc left) at each =
+    sets-pass file props left (at + setBytes) (λ i h. subst (λ (x : ℕ). setAt file x < 2 ^ props) (omega arith) (each (suc i) (omega arith)))
+    ∙ sym (choose-held _ _ _ (below-of _ _ (subst (λ (x : ℕ). setAt file x < 2 ^ props) (omega arith) (each 0 (omega arith)))))
 
-pub joined-pass : (file : List ℕ) (c : Counts) (n : ℕ) → joinOver n (λ i. setAt file (8 + 4 * i)) < 2 ^ c .props → accepted c ≡ setsRule file c n 8
-joined-pass file c n h = sets-pass file c n 8 (λ i l. lt-of-le-of-lt (join-at n (λ i. setAt file (8 + 4 * i)) i l) h)
+pub each-passes : (file : List ℕ) (c : Counts) → ((i : ℕ) → i < setCount c → setAt file (headBytes + setBytes * i) < 2 ^ c .props)
+    → accepted tt ≡ setsRule file c
+unfolding setsRule
+each-passes file c each = sets-pass file (c .props) (setCount c) headBytes each
+
+pub joined-pass : (file : List ℕ) (c : Counts) → joinOver (setCount c) (λ i. setAt file (headBytes + setBytes * i)) < 2 ^ c .props
+    → accepted tt ≡ setsRule file c
+joined-pass file c h =
+    each-passes file c (λ i l. lt-of-le-of-lt (join-at (setCount c) (λ i. setAt file (headBytes + setBytes * i)) i l) h)

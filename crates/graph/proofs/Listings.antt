@@ -10,7 +10,7 @@ use Rattle.rules.specs.Test.{_and_, _or_, fails, same, below}
 use Rattle.rules.specs.Word.{bit, common, union, without, meets, single, first}
 use Rattle.rules.specs.Over.{keep, joinOver, removeOver}
 use Rattle.rules.specs.Lists.{listOver}
-use Rattle.rules.specs.Domain.{Domain, Actions, needsOf, addsOf, deletesOf, breaks, domain}
+use Rattle.rules.specs.Domain.{Domain, shapeOf, Actions, needsOf, addsOf, deletesOf, clobbers, domain}
 use Rattle.rules.specs.Layer.{size, labelIn, mutexIn, wordCount}
 use Rattle.rules.specs.Shared.{startLabel, startLayer, vertexLabel, vertexMutex, actionLayer, nextLabel, oneAdds}
 use Rattle.rules.specs.Shared.{twoAdd, nextMutex, nextLayer, propLayer, vertexLayer, graphWords}
@@ -20,9 +20,11 @@ use Rattle.rules.proofs.Overs.{joinOver-eq, choose-lt}
 use Rattle.rules.proofs.Members.{bit-those, bit-startLabel, startLabel-lt}
 use Rattle.rules.proofs.Layers.{getD-listOver, length-listOver, layer-eq, runOver-eq}
 use Rattle.rules.proofs.Leaks.{graph-eq}
-use Rattle.graph.specs.Listed.{hurts, foesOf, addedBy, listed, Sizes}
-use Rattle.graph.specs.File.{Taken, setAt, actionsOf}
-use Rattle.graph.specs.declared.file.Counts.{Counts}
+use Rattle.words.specs.Rows.{columnsOf}
+use Rattle.graph.specs.Listed.{clobbersIn, interferersOf, addedBy, listedDomain, VertexLists}
+use Rattle.graph.specs.Format.{setAt, actionsOf}
+use Rattle.graph.specs.File.{Taken}
+use Rattle.graph.specs.declared.format.Counts.{Counts}
 
 removeOver-eq : (n : ℕ) (f g : ℕ → ℕ) (w : ℕ) → ((i : ℕ) → i < n → f i ≡ g i) → removeOver n f w ≡ removeOver n g w
 unfolding removeOver
@@ -90,15 +92,15 @@ module _ (p m : ℕ) (needs needs' adds adds' : ℕ → ℕ) (inter inter' : ℕ
       (prop-eq n start k)
 
 hurt-is : (A : Actions) (needs adds dels : List ℕ) (v w : ℕ) → getD dels v 0 ≡ deletesOf A v → getD needs w 0 ≡ needsOf A w → getD adds w 0 ≡ addsOf A w
-    → hurts needs adds dels v w ≡ breaks A v w
-unfolding hurts breaks
+    → clobbersIn needs adds dels v w ≡ clobbers A v w
+unfolding clobbersIn clobbers
 hurt-is A needs adds dels v w d n a = ap₂ meets d (ap₂ union n a)
 
 -- the vertices with which v interferes, by their bits
-bit-foes : (needs adds dels : List ℕ) (v w : ℕ) → w < length needs
-    → bit w (foesOf needs adds dels v) ≡ (hurts needs adds dels v w or hurts needs adds dels w v)
-unfolding foesOf
-bit-foes needs adds dels v w h = bit-those (length needs) (λ w. hurts needs adds dels v w or hurts needs adds dels w v) w h
+bit-interferers : (needs adds dels : List ℕ) (v w : ℕ) → w < length needs
+    → bit w (interferersOf needs adds dels v) ≡ (clobbersIn needs adds dels v w or clobbersIn needs adds dels w v)
+unfolding interferersOf
+bit-interferers needs adds dels v w h = bit-those (length needs) (λ w. clobbersIn needs adds dels v w or clobbersIn needs adds dels w v) w h
 
 -- what a vertex adds, turned into the adders of each proposition and back
 added-back : (n m : ℕ) (adders : List ℕ) (adds : ℕ → ℕ) (v : ℕ) → adders ≡ listOver n (startLabel m adds) → v < m → adds v < 2 ^ n → addedBy adders v ≡ adds v
@@ -110,17 +112,17 @@ added-back n m adders adds v e h small =
     ∙ ap (bit v) (ap (λ (x : List ℕ). getD x p 0) e ∙ getD-listOver n (startLabel m adds) p k) ∙ bit-startLabel m adds p v h)
 
 -- the lists of all vertices make the graph of the actions, whose adds are sets of the propositions
-pub listed-graph : (A : Actions) (needs adds dels adders foes starts : List ℕ) (n : ℕ) (start : ℕ → ℕ) (k : ℕ)
+pub listed-graph : (A : Actions) (needs adds dels adders interfering starts : List ℕ) (n : ℕ) (start : ℕ → ℕ) (k : ℕ)
     → needs ≡ listOver (A .count + A .props) (needsOf A) → adds ≡ listOver (A .count + A .props) (addsOf A)
     → dels ≡ listOver (A .count + A .props) (deletesOf A) → adders ≡ listOver (A .props) (startLabel (length adds) (λ v. getD adds v 0))
-    → foes ≡ listOver (length needs) (foesOf needs adds dels) → starts ≡ listOver n start
+    → interfering ≡ listOver (length needs) (interferersOf needs adds dels) → starts ≡ listOver n start
     → ((v : ℕ) → v < A .count + A .props → addsOf A v < 2 ^ A .props)
-    → graphWords (listed (A .props) needs adders foes) (length starts) (λ s. getD starts s 0) k ≡ graphWords (domain A) n start k
-unfolding listed domain
-listed-graph A needs adds dels adders foes starts n start k en ea ed er ef es small =
-    ap₂ (λ (x y : ℕ). graphWords (domainWith (A .props) x (λ v. getD needs v 0) (addedBy adders) (λ v w. bit w (getD foes v 0)))
+    → graphWords (listedDomain (A .props) needs adders interfering) (length starts) (λ s. getD starts s 0) k ≡ graphWords (domain A) n start k
+unfolding listedDomain domain
+listed-graph A needs adds dels adders interfering starts n start k en ea ed er ef es small =
+    ap₂ (λ (x y : ℕ). graphWords (domainWith (A .props) x (λ v. getD needs v 0) (addedBy adders) (λ v w. bit w (getD interfering v 0)))
     y (λ s. getD starts s 0) k) ln (ap length es ∙ length-listOver n start)
-    ∙ same-graph (A .props) m _ _ _ _ _ _ n-eq added-eq foe-eq n (λ s. getD starts s 0) k
+    ∙ same-graph (A .props) m _ _ _ _ _ _ n-eq added-eq interfering-eq n (λ s. getD starts s 0) k
     ∙ graph-eq _ _ _ _ _ (λ s h. ap (λ (l : List ℕ). getD l s 0) es ∙ getD-listOver n start s h)
   where
     m : ℕ
@@ -141,8 +143,8 @@ listed-graph A needs adds dels adders foes starts n start k en ea ed er ef es sm
     d-eq : (v : ℕ) → v < m → getD dels v 0 ≡ deletesOf A v
     d-eq v h = ap (λ (l : List ℕ). getD l v 0) ed ∙ getD-listOver m (deletesOf A) v h
 
-    hurt-eq : (v w : ℕ) → v < m → w < m → hurts needs adds dels v w ≡ breaks A v w
-    hurt-eq v w h l = hurt-is A needs adds dels v w (d-eq v h) (n-eq w l) (a-eq w l)
+    clobbers-eq : (v w : ℕ) → v < m → w < m → clobbersIn needs adds dels v w ≡ clobbers A v w
+    clobbers-eq v w h l = hurt-is A needs adds dels v w (d-eq v h) (n-eq w l) (a-eq w l)
 
     added-eq : (v : ℕ) → v < m → addedBy adders v ≡ addsOf A v
     added-eq v h =
@@ -150,22 +152,22 @@ listed-graph A needs adds dels adders foes starts n start k en ea ed er ef es sm
         (subst (λ (x : ℕ). x < 2 ^ A .props) (sym (a-eq v h)) (small v h))
         ∙ a-eq v h
 
-    foe-eq : (v w : ℕ) → v < m → w < m → bit w (getD foes v 0) ≡ (breaks A v w or breaks A w v)
-    foe-eq v w h l =
-        ap (bit w) (ap (λ (x : List ℕ). getD x v 0) ef ∙ getD-listOver (length needs) (foesOf needs adds dels) v (omega (arith, ln)))
-        ∙ bit-foes needs adds dels v w (omega (arith, ln)) ∙ ap₂ _or_ (hurt-eq v w h l) (hurt-eq w v l h)
+    interfering-eq : (v w : ℕ) → v < m → w < m → bit w (getD interfering v 0) ≡ (clobbers A v w or clobbers A w v)
+    interfering-eq v w h l =
+        ap (bit w) (ap (λ (x : List ℕ). getD x v 0) ef ∙ getD-listOver (length needs) (interferersOf needs adds dels) v (omega (arith, ln)))
+        ∙ bit-interferers needs adds dels v w (omega (arith, ln)) ∙ ap₂ _or_ (clobbers-eq v w h l) (clobbers-eq w v l h)
 
 -- and as many words
-pub listed-count : (A : Actions) (needs adders foes : List ℕ) (k : ℕ) → length needs ≡ A .count + A .props
-    → wordCount (listed (A .props) needs adders foes) k ≡ wordCount (domain A) k
-unfolding listed domain wordCount
-listed-count A needs adders foes k e = ap (λ (x : ℕ). suc k * size (A .props) + k * size x) e
+pub listed-count : (A : Actions) (needs adders interfering : List ℕ) (k : ℕ) → length needs ≡ A .count + A .props
+    → wordCount (shapeOf (listedDomain (A .props) needs adders interfering)) k ≡ wordCount (shapeOf (domain A)) k
+unfolding listedDomain domain wordCount
+listed-count A needs adders interfering k e = ap (λ (x : ℕ). suc k * size (A .props) + k * size x) e
 
 -- ---- a taken file's vertices need and add sets of its propositions
 
 module _ (file : List ℕ) (c : Counts) (t : Taken file c) (v : ℕ) (h : v < c .actions + c .props) where
   own : single (v - c .actions) < 2 ^ c .props
-  own = single-lt (c .props) (v - c .actions) (omega (arith, t .some-props))
+  own = single-lt (c .props) (v - c .actions) (omega (arith, t .ranged .some-props))
 
   pub needs-small : needsOf (actionsOf file c) v < 2 ^ c .props
   unfolding needsOf actionsOf
@@ -182,20 +184,21 @@ module _ (file : List ℕ) (c : Counts) (t : Taken file c) (v : ℕ) (h : v < c 
       (λ b. let l : v < c .actions = below-at _ _ b in subst (λ (x : ℕ). setAt file x < 2 ^ c .props) e (t .sets (3 * v + 1) (omega arith))) own
 
 -- the lists that are read, turned and compared have the sizes that the build asks for
-pub listed-sizes : (file : List ℕ) (c : Counts) (needs adds dels adders foes : List ℕ) → Taken file c
+pub listed-sizes : (file : List ℕ) (c : Counts) (needs adds dels adders interfering : List ℕ) → Taken file c
     → needs ≡ listOver (c .actions + c .props) (needsOf (actionsOf file c)) → adds ≡ listOver (c .actions + c .props) (addsOf (actionsOf file c))
-    → adders ≡ listOver (c .props) (startLabel (length adds) (λ v. getD adds v 0)) → foes ≡ listOver (length needs) (foesOf needs adds dels)
-    → Sizes (c .props) needs adders foes
-listed-sizes file c needs adds dels adders foes t en ea er ef =
+    → adders ≡ columnsOf (c .props) adds → interfering ≡ listOver (length needs) (interferersOf needs adds dels)
+    → VertexLists (c .props) needs adders interfering
+unfolding columnsOf
+listed-sizes file c needs adds dels adders interfering t en ea er ef =
     let m : ℕ = c .actions + c .props in
     let ln : length needs ≡ m = ap length en ∙ length-listOver m (needsOf (actionsOf file c)) in
     let la : length adds ≡ m = ap length ea ∙ length-listOver m (addsOf (actionsOf file c)) in
     let lr : length adders ≡ c .props = ap length er ∙ length-listOver (c .props) (startLabel (length adds) (λ v. getD adds v 0)) in
     record {
       acts = record {
-        few = t .props;
-        room = omega (arith, t .props, t .actions);
-        foes-long = ap length ef ∙ length-listOver (length needs) (foesOf needs adds dels);
+        few = t .ranged .props;
+        room = omega (arith, t .ranged .props, t .ranged .actions);
+        interfering-long = ap length ef ∙ length-listOver (length needs) (interferersOf needs adds dels);
         need-sets = λ v h. subst (λ (x : ℕ). x < 2 ^ c .props)
             (sym (ap (λ (l : List ℕ). getD l v 0) en ∙ getD-listOver m (needsOf (actionsOf file c)) v (omega arith))) (needs-small file c t v (omega arith));
       };

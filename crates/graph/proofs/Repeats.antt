@@ -16,17 +16,17 @@ use lib.Seq.{getD-take, getD-append-add, drop-at, drop-drop, length-take-le, ext
 use Rattle.rules.specs.Test.{same}
 use Rattle.rules.specs.Over.{allBelow}
 use Rattle.rules.specs.Lists.{listOver, runOver}
-use Rattle.rules.specs.Domain.{Domain}
+use Rattle.rules.specs.Domain.{Domain, shapeOf}
 use Rattle.rules.specs.Layer.{size, stride}
 use Rattle.rules.specs.Shared.{actionLayer, nextLayer}
 use Rattle.rules.proofs.Tests.{same-at, test-eq}
 use Rattle.rules.proofs.Overs.{all-at}
-use Rattle.rules.proofs.Layers.{length-listOver, getD-listOver, listOver-eq, listOver-self, runOver-eq, length-runOver}
+use Rattle.rules.proofs.Layers.{run-append, list-append, length-listOver, getD-listOver, listOver-eq, listOver-self, runOver-eq, length-runOver}
 use Rattle.graph.specs.Listed.{stepWords, propFrom}
-use Rattle.graph.specs.Memory.{putAt}
+use Rattle.words.specs.Memory.{putAt}
 use Rattle.graph.specs.Rests.{Stepped}
-use Rattle.graph.proofs.Writes.{Lists, list-front, same-word, put-put, put-word, put-front, tail-all, tail-length}
-use Rattle.graph.proofs.Builds.{run-append, list-append, Stepping, step-room, stepping-more, stepping-done, length-actions, length-next}
+use Rattle.words.proofs.Writes.{Lists, list-front, same-word, put-put, put-word, put-front, tail-all, tail-length}
+use Rattle.graph.proofs.Builds.{Stepping, step-room, stepping-more, stepping-done, length-actions, length-next}
 
 -- ---- two layers are compared
 
@@ -44,9 +44,9 @@ part-back at w p h =
     ∙ ap (λ (x : List ℕ). p ++ x) (drop-drop (length w - at) at w ∙ drop-of-length-le w e) ∙ append-nil p
 
 -- a step over the layer l at the front of `part` leaves p: where the comparison in p holds, the next layer is l
-seen : (D : Domain) (all : ℕ) (l part p : List ℕ) → take (size (D .props)) part ≡ l → stride D + size (D .props) ≤ length part
+seen : (D : Domain) (all : ℕ) (l part p : List ℕ) → take (size (D .props)) part ≡ l → stride (shapeOf D) + size (D .props) ≤ length part
     → p ≡ putAt (size (D .props)) (stepWords D all l) part
-    → So (allBelow (size (D .props)) (λ i. same (getD p i 0) (getD p (stride D + i) 0))) → l ≡ nextLayer D (actionLayer D all l)
+    → So (allBelow (size (D .props)) (λ i. same (getD p i 0) (getD p (stride (shapeOf D) + i) 0))) → l ≡ nextLayer D (actionLayer D all l)
 unfolding stepWords stride
 seen D all l part p front room e test =
     ext-getD 0 l next (long ∙ sym (length-next D a)) (λ i h.
@@ -79,7 +79,8 @@ seen D all l part p front room e test =
 
 module _ {D : Domain} {all : ℕ} {l : List ℕ} {depth : ℕ} {w₀ : List ℕ} {t at : ℕ} {w : List ℕ} (s : Stepping D all l depth w₀ t at w) where
   -- the steps end with one behind which the comparison holds
-  pub stepped-rest : (count far : ℕ) (p : List ℕ) → t < depth → depth * stride D + size (D .props) ≤ length w₀ → count ≡ size (D .props) → far ≡ stride D
+  pub stepped-rest : (count far : ℕ) (p : List ℕ) → t < depth → depth * stride (shapeOf D) + size (D .props) ≤ length w₀ → count ≡ size (D .props)
+      → far ≡ stride (shapeOf D)
       → p ≡ putAt (size (D .props)) (stepWords D all (take (size (D .props)) (take (length w - at) (drop at w)))) (take (length w - at) (drop at w))
       → (let w' = putMid at (length w - at) w p in
       let part = take (length w' - at) (drop at w') in So (allBelow count (λ i. same (getD part i 0) (getD part (far + i) 0))))
@@ -92,7 +93,7 @@ module _ {D : Domain} {all : ℕ} {l : List ℕ} {depth : ℕ} {w₀ : List ℕ}
       let fit : at + (sp + size (D .vertices)) + sp ≤ length w₀ = step-room D depth t at (length w₀) (s .place) h room in
       let front : take sp part ≡ propFrom D all l t = ap (take sp) (tail-all at w) ∙ s .front in
       let e : p ≡ putAt sp (stepWords D all (propFrom D all l t)) part = ep ∙ ap (λ (x : List ℕ). putAt sp (stepWords D all x) part) front in
-      let holds : So (allBelow sp (λ i. same (getD p i 0) (getD p (stride D + i) 0))) =
+      let holds : So (allBelow sp (λ i. same (getD p i 0) (getD p (stride (shapeOf D) + i) 0))) =
       sym (ap₂ (λ (x y : ℕ). allBelow x (λ i. same (getD p i 0) (getD p (y + i) 0))) ec ef)
       ∙ sym (ap (λ (x : List ℕ). allBelow count (λ i. same (getD x i 0) (getD x (far + i) 0))) (part-back at w p (omega arith))) ∙ test in
       let rests : propFrom D all l t ≡ propFrom D all l (suc t) =
@@ -144,14 +145,14 @@ list-again (suc m) s f =
 abbrev step : Domain → ℕ → List ℕ → ℕ → List ℕ
 step D all l k = stepWords D all (propFrom D all l k)
 
-step-length : (D : Domain) (all : ℕ) (l : List ℕ) → length (stepWords D all l) ≡ stride D
+step-length : (D : Domain) (all : ℕ) (l : List ℕ) → length (stepWords D all l) ≡ stride (shapeOf D)
 unfolding stepWords stride
 step-length D all l =
     length-append (actionLayer D all l) (nextLayer D (actionLayer D all l))
     ∙ omega (arith, length-actions D all l, length-next D (actionLayer D all l))
 
-steps-length : (D : Domain) (all : ℕ) (l : List ℕ) (k : ℕ) → length (runOver k (step D all l)) ≡ k * stride D
-steps-length D all l k = length-runOver (step D all l) (stride D) k (λ i h. step-length D all (propFrom D all l i))
+steps-length : (D : Domain) (all : ℕ) (l : List ℕ) (k : ℕ) → length (runOver k (step D all l)) ≡ k * stride (shapeOf D)
+steps-length D all l k = length-runOver (step D all l) (stride (shapeOf D)) k (λ i h. step-length D all (propFrom D all l i))
 
 -- two equal neighbouring layers: all later ones are equal to them
 rests-on : (D : Domain) (all : ℕ) (l : List ℕ) (t : ℕ) → propFrom D all l t ≡ propFrom D all l (suc t) → (u : ℕ) → t ≤ u
@@ -167,39 +168,41 @@ factors (suc a) zero h = absurd (omega (arith, mul-zero (suc a)))
 factors (suc a) (suc b) h = (omega arith, omega arith)
 
 module _ {D : Domain} {all : ℕ} {l : List ℕ} {depth : ℕ} {w₀ : List ℕ} {t : ℕ} {w : List ℕ} (s : Stepped D all l depth w₀ t w)
-    (room : depth * stride D + size (D .props) ≤ length w₀) where
-  products : t * stride D + (depth - t) * stride D ≡ depth * stride D
-  products = sym (add-mul t (depth - t) (stride D)) ∙ ap (λ (x : ℕ). x * stride D) (add-sub-of-le (s .within))
+    (room : depth * stride (shapeOf D) + size (D .props) ≤ length w₀) where
+  products : t * stride (shapeOf D) + (depth - t) * stride (shapeOf D) ≡ depth * stride (shapeOf D)
+  products = sym (add-mul t (depth - t) (stride (shapeOf D))) ∙ ap (λ (x : ℕ). x * stride (shapeOf D)) (add-sub-of-le (s .within))
 
   fits : size (D .props) + length (runOver t (step D all l)) ≤ length w₀
   fits = omega (arith, steps-length D all l t, products)
 
   -- the last words written are those of the last step
-  last-word : 0 < t → (i : ℕ) → i < stride D → getD w (size (D .props) + t * stride D - stride D + i) 0 ≡ getD (step D all l (t - 1)) i 0
+  last-word : 0 < t → (i : ℕ) → i < stride (shapeOf D) → getD w (size (D .props) + t * stride (shapeOf D) - stride (shapeOf D) + i) 0
+      ≡ getD (step D all l (t - 1)) i 0
   unfolding runOver
   last-word some i h =
       let q : t ≡ suc (t - 1) = omega arith in
       let before : ℕ = length (runOver (t - 1) (step D all l)) in
-      let product : t * stride D ≡ before + stride D =
-      ap (λ (x : ℕ). x * stride D) q ∙ suc-mul (t - 1) (stride D) ∙ omega (arith, steps-length D all l (t - 1)) in
-      let place : size (D .props) + t * stride D - stride D + i ≡ size (D .props) + (before + i) = omega arith in
+      let product : t * stride (shapeOf D) ≡ before + stride (shapeOf D) =
+      ap (λ (x : ℕ). x * stride (shapeOf D)) q ∙ suc-mul (t - 1) (stride (shapeOf D)) ∙ omega (arith, steps-length D all l (t - 1)) in
+      let place : size (D .props) + t * stride (shapeOf D) - stride (shapeOf D) + i ≡ size (D .props) + (before + i) = omega arith in
       ap₂ (λ (x : List ℕ) (y : ℕ). getD x y 0) (s .is) place
       ∙ put-word (size (D .props)) (runOver t (step D all l)) w₀ fits (before + i) (omega (arith, steps-length D all l t))
       ∙ ap (λ (x : ℕ). getD (runOver x (step D all l)) (before + i) 0) q
       ∙ getD-append-add (runOver (t - 1) (step D all l)) (step D all l (t - 1)) i 0
 
   -- and of each step that is left
-  left-step : (k : ℕ) → t < depth → listOver (stride D) (λ i. getD w (size (D .props) + t * stride D - stride D + i) 0) ≡ step D all l (t + k)
+  left-step : (k : ℕ) → t < depth → listOver (stride (shapeOf D)) (λ i. getD w (size (D .props) + t * stride (shapeOf D) - stride (shapeOf D) + i) 0)
+      ≡ step D all l (t + k)
   left-step k h =
       let (some, e) = s .rests h in
       let q : t ≡ suc (t - 1) = omega arith in
       let last : List ℕ = step D all l (t - 1) in
-      listOver-eq (stride D) _ (λ i. getD last i 0) (last-word some)
+      listOver-eq (stride (shapeOf D)) _ (λ i. getD last i 0) (last-word some)
       ∙ ap (λ (x : ℕ). listOver x (λ i. getD last i 0)) (sym (step-length D all (propFrom D all l (t - 1)))) ∙ listOver-self last
       ∙ ap (stepWords D all) (sym (rests-on D all l (t - 1) (e ∙ ap (propFrom D all l) q) (t + k) (omega arith)))
 
   -- they begin at `at + t * far`
-  module _ (at far : ℕ) (ea : at ≡ size (D .props)) (ef : far ≡ stride D) where
+  module _ (at far : ℕ) (ea : at ≡ size (D .props)) (ef : far ≡ stride (shapeOf D)) where
     pub left-room : at + t * far + (depth - t) * far ≤ length w₀
     left-room = omega (arith, products, ap (λ (x : ℕ). t * x) ef, ap (λ (x : ℕ). (depth - t) * x) ef)
 
@@ -217,7 +220,7 @@ module _ {D : Domain} {all : ℕ} {l : List ℕ} {depth : ℕ} {w₀ : List ℕ}
         e
         ∙ ap₂ (λ (x y : ℕ). putAt (x + t * y) (listOver ((depth - t) * y) (λ i. getD w (x + t * y - y + i % y) 0)) w) ea ef
         ∙ ap₂ (λ (x : List ℕ) (y : ℕ). putAt (size (D .props) + y) x w)
-        (list-again (depth - t) (stride D) (λ i. getD w (size (D .props) + t * stride D - stride D + i) 0)
+        (list-again (depth - t) (stride (shapeOf D)) (λ i. getD w (size (D .props) + t * stride (shapeOf D) - stride (shapeOf D) + i) 0)
         ∙ runOver-eq (depth - t) _ (λ k. step D all l (t + k)) (λ k h. left-step k (omega arith)))
         (sym (steps-length D all l t))
         ∙ ap (putAt (size (D .props) + length (runOver t (step D all l))) left) (s .is)

@@ -6,7 +6,7 @@ use mathlib.Core.List.{List, _++_}
 use native.Mathlib.Nat.{zero-add}
 use lib.ListN.{length, drop}
 use Rattle.graph.specs.Verdict.{Verdict, accepted, refused, andThen, laid, written}
-use Rattle.graph.specs.Memory.{putAt}
+use Rattle.words.specs.Memory.{putAt}
 
 -- an answer in hand, which is known to be j, says what j says
 pub told : {K X : Type 0} (says : K → X) {k j : K} {v : X} → says k ≡ v → k ≡ j → v ≡ says j

@@ -1,10 +1,9 @@
 -- The problem file, what turns a call away, and the build.
-pub mod Width
+pub mod Limits
 pub mod Verdict
-pub mod Memory
+pub mod Format
 pub mod File
-pub mod Calls
-pub mod Rows
+pub mod Checks
 pub mod Listed
 pub mod Rests
 pub mod Build

@@ -6,44 +6,49 @@ use mathlib.Core.List.{List, _++_}
 use lib.ListN.{length, getD, take}
 use Rattle.rules.specs.Test.{_or_}
 use Rattle.rules.specs.Word.{bit, common, union, meets, single}
-use Rattle.rules.specs.Over.{keep, joinOver}
+use Rattle.rules.specs.Over.{keep, joinOver, joinOf}
 use Rattle.rules.specs.Domain.{Domain}
-use Rattle.rules.specs.Layer.{layerOf}
+use Rattle.rules.specs.Layer.{layerOf, mutexIn}
 use Rattle.rules.specs.Shared.{startLabel, vertexLabel, vertexMutex, nextLabel, nextMutex, actionLayer, nextLayer}
-use Rattle.graph.specs.Width.{propWidth}
-use Rattle.graph.specs.Rows.{Inside}
+use Rattle.words.specs.Width.{propWidth}
+use Rattle.graph.specs.Limits.{maxVertices}
+use Rattle.words.specs.Rows.{tableOf, Inside}
 
 -- v deletes something that w needs or adds
-unfoldable pub hurts : List ℕ → List ℕ → List ℕ → ℕ → ℕ → Bool
-hurts needs adds dels v w = meets (getD dels v 0) (union (getD needs w 0) (getD adds w 0))
+unfoldable pub clobbersIn : List ℕ → List ℕ → List ℕ → ℕ → ℕ → Bool
+clobbersIn needs adds dels v w = meets (getD dels v 0) (union (getD needs w 0) (getD adds w 0))
 
 -- the vertices with which v interferes, of all that the lists have
-unfoldable pub foesOf : List ℕ → List ℕ → List ℕ → ℕ → ℕ
-foesOf needs adds dels v = joinOver (length needs) (λ w. keep (hurts needs adds dels v w or hurts needs adds dels w v) (single w))
+unfoldable pub interferersOf : List ℕ → List ℕ → List ℕ → ℕ → ℕ
+interferersOf needs adds dels v = joinOver (length needs) (λ w. keep (clobbersIn needs adds dels v w or clobbersIn needs adds dels w v) (single w))
 
 -- what vertex v adds, by the adders of each proposition
 unfoldable pub addedBy : List ℕ → ℕ → ℕ
 addedBy adders v = startLabel (length adders) (λ p. getD adders p 0) v
 
--- by what each vertex needs, by who adds each proposition, and by the foes of each vertex
-unfoldable pub listed : ℕ → List ℕ → List ℕ → List ℕ → Domain
-listed props needs adders foes = record {
+-- by what each vertex needs, by who adds each proposition, and by those that interfere with each vertex
+unfoldable pub listedDomain : ℕ → List ℕ → List ℕ → List ℕ → Domain
+listedDomain props needs adders interfering = record {
   props = props;
   vertices = length needs;
   needs = λ v. getD needs v 0;
   adds = addedBy adders;
-  interfere = λ v w. bit w (getD foes v 0);
+  interfere = λ v w. bit w (getD interfering v 0);
 }
+
+-- for each vertex, by what it needs, and each of n propositions: the states in which the latter is mutex with a need of the former, in the layer l
+unfoldable pub needRows : ℕ → List ℕ → List ℕ → List ℕ
+needRows n l needs = tableOf (length needs) n (λ v q. joinOf n (getD needs v 0) (λ p. mutexIn n l p q))
 
 -- the mutex word of v and w over the proposition layer l, where their labels share `both`
 unfoldable pub pairWord : ℕ → List ℕ → List ℕ → List ℕ → ℕ → ℕ → ℕ → ℕ
-pairWord props needs foes l both v w = vertexMutex props l (bit w (getD foes v 0)) both (getD needs v 0) (getD needs w 0)
+pairWord props needs interfering l both v w = vertexMutex props l (bit w (getD interfering v 0)) both (getD needs v 0) (getD needs w 0)
 
 -- the layer of the vertices over the proposition layer l
 unfoldable pub layerOver : ℕ → ℕ → List ℕ → List ℕ → List ℕ → List ℕ
-layerOver props all needs foes l =
+layerOver props all needs interfering l =
     let label : ℕ → ℕ = λ v. vertexLabel props all l (getD needs v 0) in
-    layerOf (length needs) label (λ v w. pairWord props needs foes l (common (label v) (label w)) v w)
+    layerOf (length needs) label (λ v w. pairWord props needs interfering l (common (label v) (label w)) v w)
 
 -- the mutex word of p and q over the layer a of m vertices, where their labels share `both`
 unfoldable pub nextWord : ℕ → List ℕ → List ℕ → ℕ → ℕ → ℕ → ℕ
@@ -68,14 +73,14 @@ propFrom D all l (suc t) = nextLayer D (actionLayer D all (propFrom D all l t))
 abbrev pub over : (List ℕ → ℕ → ℕ → ℕ → ℕ) → ℕ → List ℕ → ℕ → ℕ → ℕ
 over pair at w i j = pair (take at w) (common (getD w (at + i) 0) (getD w (at + j) 0)) i j
 
--- what is known of the lists of needs and foes, and of the adders: their lengths, and that each set is one of the propositions or of the vertices
-pub record Acts (props : ℕ) (needs foes : List ℕ) : Type 0 where
+-- what is known of the lists of needs, of interfering vertices, and of adders: their lengths, and that each set is one of the propositions or of the vertices
+pub record ActionLists (props : ℕ) (needs interfering : List ℕ) : Type 0 where
   pub few : props ≤ propWidth
-  pub room : length needs ≤ 64
-  pub foes-long : length foes ≡ length needs
+  pub room : length needs ≤ maxVertices
+  pub interfering-long : length interfering ≡ length needs
   pub need-sets : Inside props needs
 
-pub record Sizes (props : ℕ) (needs adders foes : List ℕ) : Type 0 where
-  pub acts : Acts props needs foes
+pub record VertexLists (props : ℕ) (needs adders interfering : List ℕ) : Type 0 where
+  pub acts : ActionLists props needs interfering
   pub adders-long : length adders ≡ props
   pub add-sets : Inside (length needs) adders

@@ -6,7 +6,7 @@ use Rattle.rules.specs.Lists.{runOver}
 use Rattle.rules.specs.Domain.{Domain}
 use Rattle.rules.specs.Layer.{size}
 use Rattle.graph.specs.Listed.{stepWords, propFrom}
-use Rattle.graph.specs.Memory.{putAt}
+use Rattle.words.specs.Memory.{putAt}
 
 -- t of `depth` steps over the layer l make w of w₀; if they end before the depth, layer t, labels and mutex words, equals the one before it
 pub record Stepped (D : Domain) (all : ℕ) (l : List ℕ) (depth : ℕ) (w₀ : List ℕ) (t : ℕ) (w : List ℕ) : Type 0 where

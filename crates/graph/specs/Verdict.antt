@@ -2,6 +2,7 @@
 use Prim.Native.Nat.{ℕ}
 use mathlib.Core.List.{List, _++_}
 use lib.ListN.{length, drop}
+use Rattle.graph.specs.Limits.{maxDepth}
 use Rattle.graph.specs.declared.refusal.Refusal.{Refusal}
 use Rattle.graph.specs.declared.refusal.Refusal.the-variants as cause
 
@@ -34,7 +35,7 @@ placeOf cause.Version = 3
 placeOf (cause.Count i) = i
 placeOf (cause.Length i) = i
 placeOf (cause.PropSet i) = i
-placeOf cause.Depth = 255
+placeOf cause.Depth = maxDepth
 placeOf cause.StateSet = 0
 placeOf cause.Goal = 0
 placeOf (cause.Memory i) = i

@@ -1,31 +1,64 @@
 // The build: the file's graph to a depth, written into lent memory, or the cause for which it is turned away.
-use crate::calls::Check;
-use crate::calls::check_depth;
-use crate::calls::check_memory;
-use crate::file::Counts;
+use crate::checks::check_graph;
 use crate::file::FileAnswer;
 use crate::file::check_file;
-use crate::foes::foe_sets;
-use crate::label::word_count;
-use crate::layers::layers;
-use crate::layers::start_labels;
+use crate::format::Counts;
+use crate::interference::interferer_sets;
+use crate::layout::word_count;
+use crate::limits::MAX_ACTIONS;
 use crate::read::read_starts;
 use crate::read::read_vertices;
+use crate::refusal::Check;
 use crate::refusal::Refusal;
+use crate::start::start_step;
+use crate::steps::steps;
+use words::columns::columns;
+use words::sets::PROP_WIDTH;
+use words::sets::STATE_WIDTH;
+use words::sets::States;
 ghost use mathlib.Core.Path.{_≡_};
 ghost use Prim.Native.Nat.{_+_, _≤_};
-ghost use lib.ListN.{length};
-ghost use Rattle.rules.specs.Domain.{domain};
+ghost use lib.ListN.{length, getD};
+ghost use Rattle.rules.specs.Domain.{shapeOf};
 ghost use Rattle.rules.specs.Layer.{wordCount};
 ghost use Rattle.rules.specs.Shared.{graphWords};
+ghost use Rattle.words.specs.Memory.{putAt};
+ghost use Rattle.words.specs.Width.{stateWidth};
 ghost use Rattle.graph.specs.Verdict.{laid, written};
-ghost use Rattle.graph.specs.Memory.{putAt};
-ghost use Rattle.graph.specs.File.{Taken, actionsOf, startOf};
-ghost use Rattle.graph.specs.Build.{buildVerdict, buildRule, deepRule, takenRule};
+ghost use Rattle.graph.specs.Limits.{maxDepth};
+ghost use Rattle.graph.specs.Format.{shapeIn};
+ghost use Rattle.graph.specs.File.{Taken};
+ghost use Rattle.graph.specs.Listed.{listedDomain, VertexLists};
+ghost use Rattle.graph.specs.Build.{buildVerdict, buildTaken, buildRule, graphOf, Lent};
+
+// Room for the sets of all vertices, for those of all start states, and for the adders of all propositions.
+const VERTICES: usize = 64;
+
+const STATES: usize = 64;
+
+const PROPS: usize = 32;
 
 pub enum BuildAnswer {
     Built(usize),
     Refused(Refusal),
+}
+
+// All layers to the depth.
+fn layers(
+    words: &mut [u64],
+    n: usize,
+    needs: &[u32],
+    adders: &[u64],
+    interfering: &[u64],
+    starts: &[u32],
+    depth: usize,
+)
+    requires { ⌜ VertexLists n (now needs) (now adders) (now interfering) × (length (now starts) ≤ stateWidth) × (depth ≤ maxDepth) × (wordCount (shapeOf (listedDomain n (now needs) (now adders) (now interfering))) depth ≤ length (now words)) ⌝ }
+    ensures { λ r. ⌜ now (words .exit) ≡ putAt 0 (graphWords (listedDomain n (now (needs .entry)) (now (adders .entry)) (now (interfering .entry))) (length (now (starts .entry))) (λ s. getD (now (starts .entry)) s 0) depth) (now (words .entry)) ⌝ }
+{
+    start_step(&mut *words, n, starts);
+    let all = States::first(starts.len()).0;
+    steps(words, n, needs, adders, interfering, all, depth);
 }
 
 // Writes the words, with room for the vertices' sets and the start states lent.
@@ -39,22 +72,22 @@ fn build_in(
     dels: &mut [u32],
     starts: &mut [u32],
     adders: &mut [u64],
-    foes: &mut [u64],
+    interfering: &mut [u64],
 )
-    requires { ⌜ Taken (now file) c × (depth ≤ 255) × (wordCount (domain (actionsOf (now file) c)) depth ≤ length (now words)) ⌝ }
-    requires { ⌜ (length (now needs) ≡ c .actions + c .props) × (length (now adds) ≡ c .actions + c .props) × (length (now dels) ≡ c .actions + c .props) × (length (now starts) ≡ c .states) × (length (now adders) ≡ c .props) × (length (now foes) ≡ c .actions + c .props) ⌝ }
-    ensures { λ r. ⌜ now (words .exit) ≡ putAt 0 (graphWords (domain (actionsOf (now (file .entry)) c)) (c .states) (startOf (now (file .entry)) c) depth) (now (words .entry)) ⌝ }
+    requires { ⌜ Taken (now file) c × (depth ≤ maxDepth) × (wordCount (shapeIn c) depth ≤ length (now words)) ⌝ }
+    requires { ⌜ Lent c (now needs) (now adds) (now dels) (now starts) (now adders) (now interfering) ⌝ }
+    ensures { λ r. ⌜ now (words .exit) ≡ putAt 0 (graphOf (now (file .entry)) c depth) (now (words .entry)) ⌝ }
 {
     read_vertices(file, c, &mut *needs, &mut *adds, &mut *dels);
     read_starts(file, c, &mut *starts);
-    start_labels(&mut *adders, c.props, &adds[..]);
-    foe_sets(&needs[..], &adds[..], &dels[..], &mut *foes);
+    columns(&mut *adders, &adds[..]);
+    interferer_sets(&needs[..], &adds[..], &dels[..], &mut *interfering);
     layers(
         words,
         c.props,
         &needs[..],
         &adders[..],
-        &foes[..],
+        &interfering[..],
         &starts[..],
         depth,
     );
@@ -62,18 +95,18 @@ fn build_in(
 
 // Writes the words; the vertices' sets and the start states are read once, into arrays.
 fn build_words(file: &[u8], c: Counts, depth: usize, words: &mut [u64])
-    requires { ⌜ Taken (now file) c × (depth ≤ 255) × (wordCount (domain (actionsOf (now file) c)) depth ≤ length (now words)) ⌝ }
-    ensures { λ r. ⌜ now (words .exit) ≡ putAt 0 (graphWords (domain (actionsOf (now (file .entry)) c)) (c .states) (startOf (now (file .entry)) c) depth) (now (words .entry)) ⌝ }
+    requires { ⌜ Taken (now file) c × (depth ≤ maxDepth) × (wordCount (shapeIn c) depth ≤ length (now words)) ⌝ }
+    ensures { λ r. ⌜ now (words .exit) ≡ putAt 0 (graphOf (now (file .entry)) c depth) (now (words .entry)) ⌝ }
 {
     let p = c.props;
     let v = c.actions + c.props;
     let n = c.states;
-    let mut needs = [0u32; 64];
-    let mut adds = [0u32; 64];
-    let mut dels = [0u32; 64];
-    let mut starts = [0u32; 64];
-    let mut adders = [0u64; 32];
-    let mut foes = [0u64; 64];
+    let mut needs = [0u32; VERTICES];
+    let mut adds = [0u32; VERTICES];
+    let mut dels = [0u32; VERTICES];
+    let mut starts = [0u32; STATES];
+    let mut adders = [0u64; PROPS];
+    let mut interfering = [0u64; VERTICES];
     build_in(
         file,
         c,
@@ -84,37 +117,23 @@ fn build_words(file: &[u8], c: Counts, depth: usize, words: &mut [u64])
         &mut dels[..v],
         &mut starts[..n],
         &mut adders[..p],
-        &mut foes[..v],
+        &mut interfering[..v],
     );
 }
 
-// Once the depth is in range: cause 9, or the words.
-fn build_deep(file: &[u8], c: Counts, depth: usize, words: &mut [u64]) -> BuildAnswer
-    requires { ⌜ Taken (now file) c × (depth ≤ 255) ⌝ }
-    ensures { λ r. ⌜ (buildVerdict r ≡ written (deepRule (now (file .entry)) c depth (length (now (words .entry)))))
-        × (now (words .exit) ≡ laid (deepRule (now (file .entry)) c depth (length (now (words .entry)))) (now (words .entry))) ⌝ }
+// Once the file is taken: causes 6 and 9, or the words.
+fn build_taken(file: &[u8], c: Counts, depth: usize, words: &mut [u64]) -> BuildAnswer
+    requires { ⌜ Taken (now file) c ⌝ }
+    ensures { λ r. ⌜ (buildVerdict r ≡ written (buildTaken (now (file .entry)) c depth (length (now (words .entry)))))
+        × (now (words .exit) ≡ laid (buildTaken (now (file .entry)) c depth (length (now (words .entry)))) (now (words .entry))) ⌝ }
 {
-    let wanted = word_count(c.props, c.actions + c.props, depth);
-    let check = check_memory(wanted, words.len());
+    let check = check_graph(c, depth, Check::Passed, words.len());
     match check {
         Check::Refused(why) => BuildAnswer::Refused(why),
         Check::Passed => {
             build_words(file, c, depth, words);
-            BuildAnswer::Built(wanted)
+            BuildAnswer::Built(word_count(c.shape(), depth))
         }
-    }
-}
-
-// Once the file is taken: cause 6, and on.
-fn build_taken(file: &[u8], c: Counts, depth: usize, words: &mut [u64]) -> BuildAnswer
-    requires { ⌜ Taken (now file) c ⌝ }
-    ensures { λ r. ⌜ (buildVerdict r ≡ written (takenRule (now (file .entry)) c depth (length (now (words .entry)))))
-        × (now (words .exit) ≡ laid (takenRule (now (file .entry)) c depth (length (now (words .entry)))) (now (words .entry))) ⌝ }
-{
-    let check = check_depth(depth);
-    match check {
-        Check::Refused(why) => BuildAnswer::Refused(why),
-        Check::Passed => build_deep(file, c, depth, words),
     }
 }
 

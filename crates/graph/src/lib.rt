@@ -1,15 +1,20 @@
-// The file and label crate: sets, the problem file, what turns a call away, and the build.
-pub mod actions;
+// The file and label crate: the problem file, what turns a call away, and the build.
+
+// The call, and what its answer is made of.
 pub mod build;
-pub mod calls;
-pub mod file;
-pub mod foes;
-pub mod label;
-pub mod layers;
-pub mod props;
-pub mod read;
 pub mod refusal;
-pub mod rows;
-pub mod sets;
-pub mod tables;
-pub mod view;
+
+// For the other crates of this repository, which meet what each function asks.
+mod actions;
+pub mod checks;
+mod copies;
+pub mod file;
+pub mod format;
+mod interference;
+pub mod layout;
+pub mod limits;
+mod props;
+pub mod read;
+mod start;
+mod steps;
+mod view;

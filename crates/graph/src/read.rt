@@ -1,41 +1,45 @@
 // The vertices' sets and the start states, read from the file once, through the view.
-use crate::file::Counts;
-use crate::sets::Props;
+use crate::format::Counts;
+use crate::format::add_at;
+use crate::format::del_at;
+use crate::format::pre_at;
 use crate::view::set_of;
+use words::sets::Props;
 ghost use mathlib.Core.Path.{_≡_};
 ghost use Prim.Native.Nat.{_+_, _<_};
 ghost use lib.ListN.{length};
 ghost use Rattle.rules.specs.Lists.{listOver};
 ghost use Rattle.rules.specs.Domain.{needsOf, addsOf, deletesOf};
-ghost use Rattle.graph.specs.File.{Taken, actionsOf, startOf};
+ghost use Rattle.graph.specs.File.{Taken};
+ghost use Rattle.graph.specs.Format.{actionsOf, startOf};
 
-// The three sets of action a, and start state s: the file's sets in order are three of each action, then one of each state.
+// The three sets of action a, and start state s.
 pub fn precondition(file: &[u8], c: Counts, a: usize) -> u32
     requires { ⌜ Taken (now file) c × (a < c .actions) ⌝ }
     ensures { λ r. ⌜ r ≡ actionsOf (now (file .entry)) c .pre a ⌝ }
 {
-    set_of(file, c.props, c.actions, c.states, 3 * a)
+    set_of(file, c.props, c.actions, c.states, pre_at(a))
 }
 
 pub fn added(file: &[u8], c: Counts, a: usize) -> u32
     requires { ⌜ Taken (now file) c × (a < c .actions) ⌝ }
     ensures { λ r. ⌜ r ≡ actionsOf (now (file .entry)) c .add a ⌝ }
 {
-    set_of(file, c.props, c.actions, c.states, 3 * a + 1)
+    set_of(file, c.props, c.actions, c.states, add_at(a))
 }
 
 pub fn deleted(file: &[u8], c: Counts, a: usize) -> u32
     requires { ⌜ Taken (now file) c × (a < c .actions) ⌝ }
     ensures { λ r. ⌜ r ≡ actionsOf (now (file .entry)) c .del a ⌝ }
 {
-    set_of(file, c.props, c.actions, c.states, 3 * a + 2)
+    set_of(file, c.props, c.actions, c.states, del_at(a))
 }
 
 pub fn start(file: &[u8], c: Counts, s: usize) -> u32
     requires { ⌜ Taken (now file) c × (s < c .states) ⌝ }
     ensures { λ r. ⌜ r ≡ startOf (now (file .entry)) c s ⌝ }
 {
-    set_of(file, c.props, c.actions, c.states, 3 * c.actions + s)
+    set_of(file, c.props, c.actions, c.states, c.state_at(s))
 }
 
 // What vertex v needs: of an action what the file says, of a persistence its proposition.

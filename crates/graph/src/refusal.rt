@@ -1,4 +1,5 @@
 // Why a call is turned away.
+use crate::limits::MAX_DEPTH;
 ghost use mathlib.Core.Path.{_≡_};
 ghost use Rattle.graph.specs.Verdict.{numberOf, placeOf};
 
@@ -18,6 +19,12 @@ pub enum Refusal {
     Precondition(usize),
     NoLevel(usize),
     Uncovered(usize),
+}
+
+// What a single check comes to.
+pub enum Check {
+    Passed,
+    Refused(Refusal),
 }
 
 pub fn number(r: Refusal) -> usize
@@ -50,7 +57,7 @@ pub fn place(r: Refusal) -> usize
         Refusal::Count(i) => i,
         Refusal::Length(i) => i,
         Refusal::PropSet(i) => i,
-        Refusal::Depth => 255,
+        Refusal::Depth => MAX_DEPTH,
         Refusal::StateSet => 0,
         Refusal::Goal => 0,
         Refusal::Memory(i) => i,

@@ -1,9 +1,9 @@
 // The problem file through a view: its bytes and its three counts.
 use crate::file::set_at;
 ghost use mathlib.Core.Path.{_≡_};
-ghost use Prim.Native.Nat.{_+_, _*_, _<_};
+ghost use Prim.Native.Nat.{_+_, _≤_};
 ghost use lib.ListN.{length};
-ghost use Rattle.graph.specs.File.{setAt};
+ghost use Rattle.graph.specs.Format.{setAt, setBytes};
 
 pub struct View<'a> {
     pub bytes: &'a [u8],
@@ -12,15 +12,15 @@ pub struct View<'a> {
     pub states: usize,
 }
 
-// Set number i behind the head. The parameters after i are the view's fields, in their order.
-fn set_in(i: usize, bytes: &[u8], props: usize, actions: usize, states: usize) -> u32
-    requires { ⌜ (i < 3 * actions + states) × (length (now bytes) ≡ 8 + 12 * actions + 4 * states) ⌝ }
-    ensures { λ r. ⌜ r ≡ setAt (now (bytes .entry)) (8 + 4 * i) ⌝ }
+// The set at an offset. The parameters after it are the view's fields, in their order.
+fn set_in(at: usize, bytes: &[u8], props: usize, actions: usize, states: usize) -> u32
+    requires { ⌜ at + setBytes ≤ length (now bytes) ⌝ }
+    ensures { λ r. ⌜ r ≡ setAt (now (bytes .entry)) at ⌝ }
 {
-    set_at(bytes, 8 + 4 * i)
+    set_at(bytes, at)
 }
 
-pub fn new<'a>(bytes: &'a [u8], props: usize, actions: usize, states: usize) -> View<'a>
+fn new<'a>(bytes: &'a [u8], props: usize, actions: usize, states: usize) -> View<'a>
     ensures { λ r. ⌜ (r .bytes ≡ bytes .entry) × (r .props ≡ props) × (r .actions ≡ actions) × (r .states ≡ states) ⌝ }
 {
     View {
@@ -31,18 +31,18 @@ pub fn new<'a>(bytes: &'a [u8], props: usize, actions: usize, states: usize) -> 
     }
 }
 
-// Set number i of the file that the view holds.
-pub fn set<'a>(v: View<'a>, i: usize) -> u32
-    requires { ⌜ (i < 3 * v .actions + v .states) × (length (now (v .bytes)) ≡ 8 + 12 * v .actions + 4 * v .states) ⌝ }
-    ensures { λ r. ⌜ r ≡ setAt (now (v .entry .bytes)) (8 + 4 * i) ⌝ }
+// The set at an offset of the file that the view holds.
+fn set<'a>(v: View<'a>, at: usize) -> u32
+    requires { ⌜ at + setBytes ≤ length (now (v .bytes)) ⌝ }
+    ensures { λ r. ⌜ r ≡ setAt (now (v .entry .bytes)) at ⌝ }
 {
-    set_in(i, v.bytes, v.props, v.actions, v.states)
+    set_in(at, v.bytes, v.props, v.actions, v.states)
 }
 
 // The same with plain parameters, for callers that hold no view.
-pub fn set_of(bytes: &[u8], props: usize, actions: usize, states: usize, i: usize) -> u32
-    requires { ⌜ (i < 3 * actions + states) × (length (now bytes) ≡ 8 + 12 * actions + 4 * states) ⌝ }
-    ensures { λ r. ⌜ r ≡ setAt (now (bytes .entry)) (8 + 4 * i) ⌝ }
+pub fn set_of(bytes: &[u8], props: usize, actions: usize, states: usize, at: usize) -> u32
+    requires { ⌜ at + setBytes ≤ length (now bytes) ⌝ }
+    ensures { λ r. ⌜ r ≡ setAt (now (bytes .entry)) at ⌝ }
 {
-    set(new(bytes, props, actions, states), i)
+    set(new(bytes, props, actions, states), at)
 }

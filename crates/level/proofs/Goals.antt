@@ -16,25 +16,26 @@ use Rattle.rules.specs.Word.{bit, common, without, single, first, within, meets
 use Rattle.rules.specs.Over.{allBelow}
 use Rattle.rules.specs.Layer.{labelIn, mutexIn, propsIn}
 use Rattle.rules.specs.Level.{goalMet, firstMet}
+use Rattle.rules.specs.declared.Shape.{Shape}
 use Rattle.rules.proofs.Tests.{and-of, and-left, and-right, implies-of, implies-at, fails-of, fails-at, holds-or, test-eq, same-of, same-at, below-of, and-true}
 use Rattle.rules.proofs.Words.{bit-common, bit-without, bit-single, bit-first, no-bit-zero, without-lt}
 use Rattle.rules.proofs.Overs.{all-of, all-at, all-eq}
 use Rattle.rules.proofs.Firsts.{first-eq}
 use Rattle.rules.proofs.Members.{mutex-turn}
-use Rattle.graph.proofs.Joins.{lowest-in, lowest-lt}
-use Rattle.graph.proofs.Lowest.{others-above}
-use Rattle.graph.proofs.Places.{mutex-own}
+use Rattle.words.specs.Width.{wordWidth}
+use Rattle.words.proofs.MemberLoops.{lowest-in, lowest-lt}
+use Rattle.words.proofs.Lowest.{others-above}
+use Rattle.words.proofs.Places.{mutex-own}
 use Rattle.level.specs.Meets.{allOf, labelMeets, pairMeets, Above}
-use Rattle.level.specs.Rule.{sized}
 
 -- ---- what the test of all members says, both ways
 
 module _ (n set : ℕ) (f : ℕ → Bool) where
-  pub members-of : ((i : ℕ) → i < n → So (bit i set) → So (f i)) → So (allOf n set f)
+  members-of : ((i : ℕ) → i < n → So (bit i set) → So (f i)) → So (allOf n set f)
   unfolding allOf
   members-of h = all-of _ _ (λ i l. implies-of _ _ (h i l))
 
-  pub members-at : So (allOf n set f) → (i : ℕ) → i < n → So (bit i set) → So (f i)
+  members-at : So (allOf n set f) → (i : ℕ) → i < n → So (bit i set) → So (f i)
   unfolding allOf
   members-at t i l m = implies-at _ _ (all-at _ _ t i l) m
 
@@ -67,25 +68,25 @@ pub record Left (f : ℕ → Bool) (n set₀ left : ℕ) : Type 0 where
 pub left-all : {f : ℕ → Bool} {n set : ℕ} → set < 2 ^ n → Left f n set set
 left-all h = record { inside = h; part = λ i t. t; is = refl }
 
-module _ {f : ℕ → Bool} {n set₀ left : ℕ} (m : Left f n set₀ left) (few : n ≤ 64) (some : 0 < left) where
-  next : allOf n set₀ f ≡ (f (trailingZeros 64 left) and allOf n (without left (single (trailingZeros 64 left))) f)
-  next = sym (m .is) ∙ pick n left (trailingZeros 64 left) f (lowest-lt n left few (m .inside) some) (lowest-in n left few (m .inside) some)
+module _ {f : ℕ → Bool} {n set₀ left : ℕ} (m : Left f n set₀ left) (few : n ≤ wordWidth) (some : 0 < left) where
+  next : allOf n set₀ f ≡ (f (trailingZeros wordWidth left) and allOf n (without left (single (trailingZeros wordWidth left))) f)
+  next = sym (m .is) ∙ pick n left (trailingZeros wordWidth left) f (lowest-lt n left few (m .inside) some) (lowest-in n left few (m .inside) some)
 
   -- what lies below all members lies below the next one
-  pub left-above : (p : ℕ) → Above p set₀ → p < trailingZeros 64 left
+  pub left-above : (p : ℕ) → Above p set₀ → p < trailingZeros wordWidth left
   left-above p above = above _ (m .part _ (lowest-in n left few (m .inside) some))
 
-  pub left-less : {left' : ℕ} → left' ≡ without left (single (trailingZeros 64 left)) → f (trailingZeros 64 left) ≡ true → Left f n set₀ left'
+  pub left-less : {left' : ℕ} → left' ≡ without left (single (trailingZeros wordWidth left)) → f (trailingZeros wordWidth left) ≡ true → Left f n set₀ left'
   unfolding _and_
   left-less {left'} l t = record {
     inside = subst (λ (x : ℕ). x < 2 ^ n) (sym l) (without-lt n left _ (m .inside));
-    part = λ i u. m .part i (part-in left (trailingZeros 64 left) i (sym (ap (bit i) l) ∙ u));
-    is = ap (λ (x : ℕ). allOf n x f) l ∙ sym (next ∙ ap (λ (b : Bool). b and allOf n (without left (single (trailingZeros 64 left))) f) t);
+    part = λ i u. m .part i (part-in left (trailingZeros wordWidth left) i (sym (ap (bit i) l) ∙ u));
+    is = ap (λ (x : ℕ). allOf n x f) l ∙ sym (next ∙ ap (λ (b : Bool). b and allOf n (without left (single (trailingZeros wordWidth left))) f) t);
   }
 
-  pub left-not : f (trailingZeros 64 left) ≡ false → false ≡ allOf n set₀ f
+  pub left-not : f (trailingZeros wordWidth left) ≡ false → false ≡ allOf n set₀ f
   unfolding _and_
-  left-not t = sym (next ∙ ap (λ (b : Bool). b and allOf n (without left (single (trailingZeros 64 left))) f) t)
+  left-not t = sym (next ∙ ap (λ (b : Bool). b and allOf n (without left (single (trailingZeros wordWidth left))) f) t)
 
 pub left-none : {f : ℕ → Bool} {n set₀ left : ℕ} → Left f n set₀ left → left ≤ 0 → true ≡ allOf n set₀ f
 left-none {f} {n} {set₀} {left} m h =
@@ -144,29 +145,29 @@ pub record LeftTwo (f : ℕ → ℕ → Bool) (n set₀ left : ℕ) : Type 0 whe
 pub two-all : {f : ℕ → ℕ → Bool} {n set : ℕ} → set < 2 ^ n → LeftTwo f n set set
 two-all h = record { inside = h; is = refl }
 
-module _ {f : ℕ → ℕ → Bool} {n set₀ left left' : ℕ} (both : Mutual f) (m : LeftTwo f n set₀ left) (few : n ≤ 64) (some : 0 < left)
-    (l : left' ≡ without left (single (trailingZeros 64 left))) where
+module _ {f : ℕ → ℕ → Bool} {n set₀ left left' : ℕ} (both : Mutual f) (m : LeftTwo f n set₀ left) (few : n ≤ wordWidth) (some : 0 < left)
+    (l : left' ≡ without left (single (trailingZeros wordWidth left))) where
   pub two-inside : left' < 2 ^ n
   two-inside = subst (λ (x : ℕ). x < 2 ^ n) (sym l) (without-lt n left _ (m .inside))
 
-  next-two : pairsOf n set₀ f ≡ (allOf n left' (f (trailingZeros 64 left)) and pairsOf n left' f)
+  next-two : pairsOf n set₀ f ≡ (allOf n left' (f (trailingZeros wordWidth left)) and pairsOf n left' f)
   next-two =
       sym (m .is)
-      ∙ pick-two n left (trailingZeros 64 left) f both (lowest-lt n left few (m .inside) some) (lowest-in n left few (m .inside) some)
-      ∙ ap (λ (x : ℕ). allOf n x (f (trailingZeros 64 left)) and pairsOf n x f) (sym l)
+      ∙ pick-two n left (trailingZeros wordWidth left) f both (lowest-lt n left few (m .inside) some) (lowest-in n left few (m .inside) some)
+      ∙ ap (λ (x : ℕ). allOf n x (f (trailingZeros wordWidth left)) and pairsOf n x f) (sym l)
 
-  pub two-less : allOf n left' (f (trailingZeros 64 left)) ≡ true → LeftTwo f n set₀ left'
+  pub two-less : allOf n left' (f (trailingZeros wordWidth left)) ≡ true → LeftTwo f n set₀ left'
   unfolding _and_
   two-less t = record { inside = two-inside; is = sym (next-two ∙ ap (λ (b : Bool). b and pairsOf n left' f) t) }
 
-  pub two-not : allOf n left' (f (trailingZeros 64 left)) ≡ false → false ≡ pairsOf n set₀ f
+  pub two-not : allOf n left' (f (trailingZeros wordWidth left)) ≡ false → false ≡ pairsOf n set₀ f
   unfolding _and_
   two-not t = sym (next-two ∙ ap (λ (b : Bool). b and pairsOf n left' f) t)
 
   -- the others lie above it
-  pub two-above : (p : ℕ) → p ≡ trailingZeros 64 left → Above p left'
+  pub two-above : (p : ℕ) → p ≡ trailingZeros wordWidth left → Above p left'
   two-above p e q t =
-      subst (λ (x : ℕ). x < q) (sym e) (others-above 64 left q (lt-of-lt-of-le (m .inside) (pow-mono few)) (sym (ap (bit q) l) ∙ t))
+      subst (λ (x : ℕ). x < q) (sym e) (others-above wordWidth left q (lt-of-lt-of-le (m .inside) (pow-mono few)) (sym (ap (bit q) l) ∙ t))
 
 pub two-none : {f : ℕ → ℕ → Bool} {n set₀ left : ℕ} → LeftTwo f n set₀ left → left ≤ 0 → true ≡ pairsOf n set₀ f
 two-none {f} {n} {set₀} {left} m h =
@@ -223,7 +224,7 @@ module _ (n goal : ℕ) where
       (all-eq n _ _ (λ q h. all-eq q _ _ (λ p g. ap₂ (λ (a b : Bool). (a and b) implies fails (meets set (mutexIn n l p q)))
       (held-bit p (omega arith)) (held-bit q h))))
 
-  pub first-held : (v depth set : ℕ) (words : List ℕ)
-      → firstMet (sized n v) depth set (common goal (first n)) words ≡ firstMet (sized n v) depth set goal words
-  unfolding firstMet sized
-  first-held v depth set words = first-eq (suc depth) _ _ (λ t h. met-held (propsIn (sized n v) words t) set)
+pub first-held : (S : Shape) (depth set goal : ℕ) (words : List ℕ)
+    → firstMet S depth set (common goal (first (S .props))) words ≡ firstMet S depth set goal words
+unfolding firstMet
+first-held S depth set goal words = first-eq (suc depth) _ _ (λ t h. met-held (S .props) goal (propsIn S words t) set)

@@ -2,5 +2,5 @@
 pub mod Searches
 pub mod Goals
 pub mod Parts
-pub mod Stages
+pub mod Answers
 pub mod Built

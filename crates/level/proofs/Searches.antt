@@ -15,6 +15,13 @@ use Rattle.rules.proofs.Tests.{and-of, and-left, and-right, test-eq, same-of, s
 use Rattle.rules.proofs.Overs.{all-of, all-at}
 use Rattle.rules.proofs.Firsts.{first-unique}
 
+-- how many words the code compares at once: at the front of two layers, and behind it
+abbrev pub frontWords : ℕ
+frontWords = 8
+
+abbrev pub blockWords : ℕ
+blockWords = 32
+
 -- a test that is false does not hold
 not-so : (b : Bool) → b ≡ false → So b → ⊥
 not-so b e t = false≢true (rw e at t)
@@ -84,25 +91,25 @@ join-same a b = test-eq _ _
     (λ t. same-of _ _ (ap₂ bitOr (same-at _ _ (and-left _ _ t)) (same-at _ _ (and-right _ _ t))))
 
 -- of n words, no difference among the first i: each is the same as the other
-pub record Alike (one other : ℕ → ℕ) (n i differ : ℕ) : Type 0 where
+pub record Compared (one other : ℕ → ℕ) (n i differ : ℕ) : Type 0 where
   pub within : i ≤ n
   pub is : same differ 0 ≡ allBelow i (λ k. same (one k) (other k))
 
-pub alike-none : {one other : ℕ → ℕ} {n : ℕ} → Alike one other n 0 0
+pub compared-none : {one other : ℕ → ℕ} {n : ℕ} → Compared one other n 0 0
 unfolding allBelow
-alike-none = record { within = omega arith; is = same-of 0 0 refl }
+compared-none = record { within = omega arith; is = same-of 0 0 refl }
 
-pub alike-more : {one other : ℕ → ℕ} {n i differ : ℕ} → Alike one other n i differ → i < n
-    → Alike one other n (i + 1) (bitOr differ (bitXor (one i) (other i)))
+pub compared-more : {one other : ℕ → ℕ} {n i differ : ℕ} → Compared one other n i differ → i < n
+    → Compared one other n (i + 1) (bitOr differ (bitXor (one i) (other i)))
 unfolding allBelow
-alike-more {one} {other} {n} {i} {differ} a l = record {
+compared-more {one} {other} {n} {i} {differ} a l = record {
   within = omega arith;
   is = join-same differ (bitXor (one i) (other i)) ∙ ap₂ _and_ (a .is) (differ-same (one i) (other i))
       ∙ ap (λ (x : ℕ). allBelow x (λ k. same (one k) (other k))) (sym (add-one i));
 }
 
-pub alike-done : {one other : ℕ → ℕ} {n i differ : ℕ} → Alike one other n i differ → n ≤ i → same differ 0 ≡ allBelow n (λ k. same (one k) (other k))
-alike-done {one} {other} {n} {i} a h = let e : i ≡ n = omega (arith, a .within) in a .is ∙ ap (λ (x : ℕ). allBelow x (λ k. same (one k) (other k))) e
+pub compared-done : {one other : ℕ → ℕ} {n i differ : ℕ} → Compared one other n i differ → n ≤ i → same differ 0 ≡ allBelow n (λ k. same (one k) (other k))
+compared-done {one} {other} {n} {i} a h = let e : i ≡ n = omega (arith, a .within) in a .is ∙ ap (λ (x : ℕ). allBelow x (λ k. same (one k) (other k))) e
 
 -- the test holds at no index below i, of n
 pub record Sought (f : ℕ → Bool) (n i : ℕ) : Type 0 where

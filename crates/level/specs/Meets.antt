@@ -1,8 +1,8 @@
 -- A goal in a layer, by its members: one proposition and one pair at a time.
-use Prim.Native.Nat.{ℕ, _<_}
+use Prim.Native.Nat.{ℕ, _≤_, _<_}
 use mathlib.Core.Bool.{Bool, So}
 use mathlib.Core.List.{List}
-use lib.ListN.{getD}
+use lib.ListN.{length, getD}
 use Rattle.rules.specs.Test.{_implies_, fails, same}
 use Rattle.rules.specs.Word.{bit, within, meets}
 use Rattle.rules.specs.Over.{allBelow}
@@ -25,5 +25,12 @@ abbrev pub Above : ℕ → ℕ → Type 0
 Above p set = (q : ℕ) → So (bit q set) → p < q
 
 -- two lists have the same word at i
-abbrev pub alike : List ℕ → List ℕ → ℕ → Bool
-alike one other i = same (getD one i 0) (getD other i 0)
+abbrev pub sameWord : List ℕ → List ℕ → ℕ → Bool
+sameWord one other i = same (getD one i 0) (getD other i 0)
+
+-- what the code asks that goes on comparing from a place on, of so many words: both lists have them, and the same before the place
+pub record Begun (one other : List ℕ) (from count : ℕ) : Type 0 where
+  pub within : from ≤ count
+  pub one-long : count ≤ length one
+  pub other-long : count ≤ length other
+  pub equal : So (allBelow from (sameWord one other))

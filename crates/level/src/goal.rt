@@ -1,14 +1,15 @@
 // Whether a proposition layer meets a goal for a set of states. Only the words of the goal's members are read.
-use graph::rows::lowest;
-use graph::rows::others;
-use graph::sets::Props;
-use graph::sets::States;
+use graph::layout::pair_at;
+use words::members::lowest;
+use words::members::others;
+use words::sets::Props;
+use words::sets::States;
 ghost use mathlib.Core.Path.{_≡_};
 ghost use Prim.Native.Nat.{_≤_, _<_, _^_};
 ghost use lib.ListN.{length};
 ghost use Rattle.rules.specs.Layer.{size};
 ghost use Rattle.rules.specs.Level.{goalMet};
-ghost use Rattle.graph.specs.Width.{propWidth};
+ghost use Rattle.words.specs.Width.{propWidth};
 ghost use Rattle.level.specs.Meets.{allOf, labelMeets, pairMeets, Above};
 
 // Whether the label of each goal contains the set.
@@ -33,7 +34,7 @@ fn row_meets(layer: &[u64], n: usize, set: States, p: usize, above: u64) -> bool
 {
     let mut left = above;
     while 0 < left {
-        let at = graph::label::pair_at(n, p, lowest(left));
+        let at = pair_at(n, p, lowest(left));
         if set.meets(States(layer[at])) {
             return false;
         }

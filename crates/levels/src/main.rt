@@ -1,4 +1,5 @@
 // Reads a problem file from standard input and prints its depth, its rest and its levels.
+use report::TEXT_ROOM;
 use report::TextAnswer;
 use report::levels_text;
 
@@ -13,7 +14,7 @@ fn print_in(file: &[u8], text: &mut [u8]) {
 }
 
 fn print(file: &[u8]) {
-    let mut text = [0u8; 8600];
+    let mut text = [0u8; TEXT_ROOM];
     print_in(file, &mut text);
 }
 

@@ -1,9 +1,8 @@
 -- Laws of the plan's search.
 pub mod Listings
 pub mod Searches
-pub mod Spreads
 pub mod Adders
-pub mod Falls
-pub mod Alike
+pub mod Descents
+pub mod ReadPlans
 pub mod Answers
 pub mod Built

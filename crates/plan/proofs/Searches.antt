@@ -18,7 +18,7 @@ use Rattle.rules.specs.Layer.{labelIn}
 use Rattle.rules.specs.Plan.{Support, takes, order, support, Covered, covered, uncovered, coverFrom, cover}
 use Rattle.rules.proofs.Tests.{same-of, same-not}
 use Rattle.rules.proofs.Layers.{length-listOver, getD-listOver}
-use Rattle.plan.specs.Search.{listed, setOf, orderAt, Sizes}
+use Rattle.plan.specs.Search.{listedActions, vertexSet, orderAt, LayerLists}
 
 -- the propositions from p on
 unfoldable pub resting : Actions → List ℕ → List ℕ → ℕ → ℕ → List ℕ → Covered
@@ -114,60 +114,60 @@ module _ (A : Actions) (labels wanted : List ℕ) where
 -- ---- one vertex, as the code has it
 
 module _ (n : ℕ) (needs adds : List ℕ) (v : ℕ) where
-  pub needs-listed : needsOf (listed n needs adds) v ≡ setOf needs v
-  unfolding needsOf listed setOf
+  pub needs-listed : needsOf (listedActions n needs adds) v ≡ vertexSet needs v
+  unfolding needsOf listedActions vertexSet
   needs-listed = refl
 
-  pub adds-listed : length adds ≡ length needs → addsOf (listed n needs adds) v ≡ setOf adds v
-  unfolding addsOf listed setOf
+  pub adds-listed : length adds ≡ length needs → addsOf (listedActions n needs adds) v ≡ vertexSet adds v
+  unfolding addsOf listedActions vertexSet
   adds-listed e = ap (λ (x : ℕ). choose (below v x) (getD adds v 0) (single (v - x))) (sym e)
 
-module _ (needs adds labels : List ℕ) (p v left marks : ℕ) (under : List ℕ) (alike : length adds ≡ length needs) (x : ℕ) (is : x ≡ setOf adds v) where
+module _ (needs adds labels : List ℕ) (p v left marks : ℕ) (under : List ℕ) (alike : length adds ≡ length needs) (x : ℕ) (is : x ≡ vertexSet adds v) where
   -- the vertex adds p and takes what it can
-  pub turn-takes : (l m : ℕ) (b : List ℕ) (y : ℕ) → So (bit p x) → y ≡ setOf needs v → l ≡ without left (common left (labelIn labels v))
+  pub turn-takes : (l m : ℕ) (b : List ℕ) (y : ℕ) → So (bit p x) → y ≡ vertexSet needs v → l ≡ without left (common left (labelIn labels v))
       → m ≡ choose (below v (length needs) and fails (same (common left (labelIn labels v)) 0)) (union marks (single v)) marks
       → b ≡ listOver (length under) (λ q. union (labelIn under q) (keep (bit q y) (common left (labelIn labels v))))
       → _≡_ {A = Support} (record { left = l; marks = m; needed = b })
-      (choose (bit p (addsOf (listed (length under) needs adds) v))
-      (takes (listed (length under) needs adds) labels v (record { left = left; marks = marks; needed = under }))
+      (choose (bit p (addsOf (listedActions (length under) needs adds) v))
+      (takes (listedActions (length under) needs adds) labels v (record { left = left; marks = marks; needed = under }))
       (record { left = left; marks = marks; needed = under }))
-  unfolding takes choose listed needsOf setOf
+  unfolding takes choose listedActions needsOf vertexSet
   turn-takes l m b y h k e f g =
       support-path e f
       (g ∙ ap (λ (z : ℕ). listOver (length under) (λ q. union (labelIn under q) (keep (bit q z) (common left (labelIn labels v))))) k)
       ∙ sym (ap (λ (c : Bool). choose c
-      (takes (listed (length under) needs adds) labels v (record { left = left; marks = marks; needed = under }))
+      (takes (listedActions (length under) needs adds) labels v (record { left = left; marks = marks; needed = under }))
       (record { left = left; marks = marks; needed = under }))
       (ap (bit p) (adds-listed (length under) needs adds v alike ∙ sym is) ∙ h))
 
   -- or it does not
   pub turn-not : bit p x ≡ false
       → _≡_ {A = Support} (record { left = left; marks = marks; needed = under })
-      (choose (bit p (addsOf (listed (length under) needs adds) v))
-      (takes (listed (length under) needs adds) labels v (record { left = left; marks = marks; needed = under }))
+      (choose (bit p (addsOf (listedActions (length under) needs adds) v))
+      (takes (listedActions (length under) needs adds) labels v (record { left = left; marks = marks; needed = under }))
       (record { left = left; marks = marks; needed = under }))
   unfolding choose
   turn-not h =
       sym (ap (λ (c : Bool). choose c
-      (takes (listed (length under) needs adds) labels v (record { left = left; marks = marks; needed = under }))
+      (takes (listedActions (length under) needs adds) labels v (record { left = left; marks = marks; needed = under }))
       (record { left = left; marks = marks; needed = under }))
       (ap (bit p) (adds-listed (length under) needs adds v alike ∙ sym is) ∙ h))
 
-pub sizes-kept : {wanted labels needs adds under : List ℕ} (b : List ℕ) → Sizes wanted labels needs adds under → length b ≡ length under
-    → Sizes wanted labels needs adds b
-sizes-kept b s e = record { props = s .props; room = e ∙ s .room; actions = s .actions; alike = s .alike; labelled = s .labelled }
+-- lists that fit a row fit another as long
+pub lists-at : {row row' labels needs adds : List ℕ} → length row' ≡ length row → LayerLists row labels needs adds → LayerLists row' labels needs adds
+lists-at e s = record { props = omega (arith, s .props); lists = s .lists; labelled = omega (arith, s .labelled) }
 
 -- one vertex on, where the memory below is as long as the layer is wide
 pub turned : (n m : ℕ) (needs adds labels wanted : List ℕ) (p k v : ℕ) (s t : Support) → n ≡ m → v ≡ orderAt (length needs) p k → k ≤ length needs
-    → (s .left ≡ 0 → ⊥) → t ≡ choose (bit p (addsOf (listed n needs adds) v)) (takes (listed n needs adds) labels v s) s
-    → searching (listed m needs adds) labels wanted p k s ≡ searching (listed m needs adds) labels wanted p (k + 1) t
-unfolding listed
+    → (s .left ≡ 0 → ⊥) → t ≡ choose (bit p (addsOf (listedActions n needs adds) v)) (takes (listedActions n needs adds) labels v s) s
+    → searching (listedActions m needs adds) labels wanted p k s ≡ searching (listedActions m needs adds) labels wanted p (k + 1) t
+unfolding listedActions
 turned n m needs adds labels wanted p k v s t e h l f q =
-    search-on (listed m needs adds) labels wanted p k v s t h l f
-    (q ∙ ap (λ (x : ℕ). choose (bit p (addsOf (listed x needs adds) v)) (takes (listed x needs adds) labels v s) s) e)
+    search-on (listedActions m needs adds) labels wanted p k v s t h l f
+    (q ∙ ap (λ (x : ℕ). choose (bit p (addsOf (listedActions x needs adds) v)) (takes (listedActions x needs adds) labels v s) s) e)
 
 -- a layer begins with nothing needed below
 pub cover-start : (n : ℕ) (needs adds labels wanted under : List ℕ) → under ≡ listOver n (λ q. 0)
-    → coverFrom (listed n needs adds) labels wanted n 0 0 under ≡ cover (listed n needs adds) labels wanted
-unfolding cover listed
-cover-start n needs adds labels wanted under e = ap (coverFrom (listed n needs adds) labels wanted n 0 0) e
+    → coverFrom (listedActions n needs adds) labels wanted n 0 0 under ≡ cover (listedActions n needs adds) labels wanted
+unfolding cover listedActions
+cover-start n needs adds labels wanted under e = ap (coverFrom (listedActions n needs adds) labels wanted n 0 0) e

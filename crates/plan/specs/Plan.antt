@@ -2,13 +2,12 @@
 use Prim.Native.Nat.{ℕ}
 use mathlib.Core.List.{List}
 use lib.ListN.{length}
-use Rattle.rules.specs.Domain.{domain}
-use Rattle.rules.specs.Layer.{wordCount}
 use Rattle.rules.specs.Plan.{Planned, planned, stuck, noLevel, planOf, planCount}
 use Rattle.graph.specs.Verdict.{Verdict, accepted, refused, turnedAway, andThen}
-use Rattle.graph.specs.File.{actionsOf, fileRule}
-use Rattle.graph.specs.Calls.{depthRule, setRule, goalRule, memoryRule, outputRule}
-use Rattle.graph.specs.declared.file.Counts.{Counts}
+use Rattle.graph.specs.Format.{actionsOf}
+use Rattle.graph.specs.File.{fileRule}
+use Rattle.graph.specs.Checks.{askedRule, graphRule, outputRule}
+use Rattle.graph.specs.declared.format.Counts.{Counts}
 use Rattle.plan.specs.declared.PlanAnswer.{PlanAnswer}
 use Rattle.plan.specs.declared.PlanAnswer.the-variants as answer
 
@@ -33,15 +32,12 @@ plannedVerdict depth (planned plan) = accepted plan
 plannedVerdict depth (stuck t) = refused 14 t
 plannedVerdict depth noLevel = refused 13 depth
 
--- once the file is taken: causes 6, 7, 8, 9, 10 ('plan k words'), 13 and 14, in that order; else the plan's words
-unfoldable pub takenRule : List ℕ → Counts → ℕ → ℕ → ℕ → List ℕ → ℕ → Verdict (List ℕ)
-takenRule file c depth set goal words room =
-    andThen (depthRule depth) (λ _.
-    andThen (setRule (c .states) set) (λ _.
-    andThen (goalRule (c .props) goal) (λ _.
-    andThen (memoryRule (wordCount (domain (actionsOf file c)) depth) (length words)) (λ _.
+-- once the file is taken: causes 6 to 9, 10 ('plan k words'), 13 and 14, in that order; else the plan's words
+unfoldable pub planTaken : List ℕ → Counts → ℕ → ℕ → ℕ → List ℕ → ℕ → Verdict (List ℕ)
+planTaken file c depth set goal words room =
+    andThen (graphRule c depth (askedRule c set goal) (length words)) (λ _.
     andThen (outputRule depth room) (λ _.
-    plannedVerdict depth (planOf (actionsOf file c) depth set goal words))))))
+    plannedVerdict depth (planOf (actionsOf file c) depth set goal words)))
 
 unfoldable pub planRule : List ℕ → ℕ → ℕ → ℕ → List ℕ → ℕ → Verdict (List ℕ)
-planRule file depth set goal words room = andThen (fileRule file) (λ c. takenRule file c depth set goal words room)
+planRule file depth set goal words room = andThen (fileRule file) (λ c. planTaken file c depth set goal words room)

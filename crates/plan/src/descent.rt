@@ -2,9 +2,13 @@
 use crate::layer::LayerAnswer;
 use crate::layer::step_down;
 use crate::vertex::kept;
-use crate::vertex::spread;
-use graph::sets::Props;
-use graph::sets::States;
+use graph::layout::layer_size;
+use graph::layout::layer_start;
+use rules::Shape;
+use words::columns::columns;
+use words::sets::PROP_WIDTH;
+use words::sets::Props;
+use words::sets::States;
 ghost use mathlib.Core.Path.{_≡_};
 ghost use mathlib.Core.List.{[]};
 ghost use Prim.Native.Nat.{_+_, _*_, _≤_};
@@ -12,12 +16,14 @@ ghost use lib.ListN.{length};
 ghost use Rattle.rules.specs.Word as W;
 ghost use Rattle.rules.specs.Over.{keep, allBelow};
 ghost use Rattle.rules.specs.Lists.{listOver};
-ghost use Rattle.rules.specs.Domain.{domain};
-ghost use Rattle.rules.specs.Layer.{size, labelIn, actionsIn};
+ghost use Rattle.rules.specs.Domain.{domain, shapeOf};
+ghost use Rattle.rules.specs.Layer.{size, stride, labelIn, actionsIn};
 ghost use Rattle.rules.specs.Plan as P;
-ghost use Rattle.graph.specs.Width.{propWidth};
-ghost use Rattle.level.specs.Rule.{Room};
-ghost use Rattle.plan.specs.Search.{listed, addersOf, coveredAs, plannedAs};
+ghost use Rattle.words.specs.Width.{propWidth};
+ghost use Rattle.graph.specs.Checks.{Small, Room};
+ghost use Rattle.graph.specs.Limits.{maxDepth, maxLayer};
+ghost use Rattle.words.specs.Rows.{columnsOf};
+ghost use Rattle.plan.specs.Search.{listedActions, listedShape, ActionLists, coveredAs, plannedAs};
 
 // The words are whole, or states are left uncovered at this layer.
 pub enum Descent {
@@ -49,12 +55,11 @@ fn grounded(needed: &[u64], words: &[u64]) -> bool
 }
 
 // Where action layer t begins.
-fn actions_start(n: usize, v: usize, t: usize) -> usize
-    requires { ⌜ (n ≤ propWidth) × (v ≤ 64) × (t ≤ 255) ⌝ }
-    ensures { λ r. ⌜ (r ≡ t * (size n + size v) + size n) × (r ≤ 1062880) ⌝ }
+fn actions_start(s: Shape, t: usize) -> usize
+    requires { ⌜ Small s × (t ≤ maxDepth) ⌝ }
+    ensures { λ r. ⌜ (r ≡ t * stride s + size (s .props)) × (r ≤ maxDepth * (2 * maxLayer) + maxLayer) ⌝ }
 {
-    let row = graph::label::layer_size(n);
-    t * (row + graph::label::layer_size(v)) + row
+    layer_start(s, t) + layer_size(s.props)
 }
 
 // From layer t + 1 down to layer t, by the action layer between them.
@@ -66,14 +71,18 @@ fn fall(
     adders: &[u64],
     t: usize,
 ) -> LayerAnswer
-    requires { ⌜ Room (length (now needed)) (length (now needs) + length (now needed)) (t + 1) (now words) × (length (now needs) ≤ 32) × (length (now adds) ≡ length (now needs)) × (now adders ≡ addersOf (length (now needed)) (now adds)) ⌝ }
+    requires { ⌜ Room (listedShape (length (now needed)) (now needs)) (t + 1) (now words) × ActionLists (now needs) (now adds) × (now adders ≡ columnsOf (length (now needed)) (now adds)) ⌝ }
     ensures { λ r. ⌜ coveredAs r (now (needed .exit))
-        ≡ P.cover (listed (length (now (needed .entry))) (now (needs .entry)) (now (adds .entry)))
-        (actionsIn (domain (listed (length (now (needed .entry))) (now (needs .entry)) (now (adds .entry)))) (now (words .entry)) t) (now (needed .entry)) ⌝ }
+        ≡ P.cover (listedActions (length (now (needed .entry))) (now (needs .entry)) (now (adds .entry)))
+        (actionsIn (shapeOf (domain (listedActions (length (now (needed .entry))) (now (needs .entry)) (now (adds .entry))))) (now (words .entry)) t) (now (needed .entry)) ⌝ }
 {
     let v = needs.len() + needed.len();
-    let at = actions_start(needed.len(), v, t);
-    let end = at + graph::label::layer_size(v);
+    let s = Shape {
+        props: needed.len(),
+        vertices: v,
+    };
+    let at = actions_start(s, t);
+    let end = at + layer_size(v);
     step_down(&mut *needed, &words[at..end], needs, adds, adders)
 }
 
@@ -86,9 +95,9 @@ fn descend(
     adders: &[u64],
     plan: &mut [u32],
 ) -> Descent
-    requires { ⌜ Room (length (now needed)) (length (now needs) + length (now needed)) (length (now plan)) (now words) × (length (now needs) ≤ 32) × (length (now adds) ≡ length (now needs)) × (now adders ≡ addersOf (length (now needed)) (now adds)) ⌝ }
+    requires { ⌜ Room (listedShape (length (now needed)) (now needs)) (length (now plan)) (now words) × ActionLists (now needs) (now adds) × (now adders ≡ columnsOf (length (now needed)) (now adds)) ⌝ }
     ensures { λ r. ⌜ plannedAs r (now (plan .exit))
-        ≡ P.descend (listed (length (now (needed .entry))) (now (needs .entry)) (now (adds .entry))) (now (words .entry)) (length (now (plan .entry))) (now (needed .entry)) [] ⌝ }
+        ≡ P.descend (listedActions (length (now (needed .entry))) (now (needs .entry)) (now (adds .entry))) (now (words .entry)) (length (now (plan .entry))) (now (needed .entry)) [] ⌝ }
 {
     let mut t = plan.len();
     while 0 < t {
@@ -105,16 +114,6 @@ fn descend(
     Descent::Uncovered(0)
 }
 
-// The actions that add each proposition: the adds of one action after the other are turned round.
-fn turn_adds(adders: &mut [u64], adds: &[u32])
-    requires { ⌜ (length (now adders) ≤ propWidth) × (length (now adds) ≤ 32) × (now adders ≡ listOver (length (now adders)) (λ p. 0)) ⌝ }
-    ensures { λ r. ⌜ now (adders .exit) ≡ addersOf (length (now (adders .entry))) (now (adds .entry)) ⌝ }
-{
-    for a in 0..adds.len() {
-        spread(&mut *adders, Props(adds[a]), States::single(a).0);
-    }
-}
-
 // The goal's descent, through the memory `needed` and `adders`.
 fn goal_down(
     needed: &mut [u64],
@@ -126,12 +125,12 @@ fn goal_down(
     goal: Props,
     plan: &mut [u32],
 ) -> Descent
-    requires { ⌜ Room (length (now needed)) (length (now needs) + length (now needed)) (length (now plan)) (now words) × (length (now needs) ≤ 32) × (length (now adds) ≡ length (now needs)) × (length (now adders) ≡ length (now needed)) × (now adders ≡ listOver (length (now adders)) (λ p. 0)) ⌝ }
+    requires { ⌜ Room (listedShape (length (now needed)) (now needs)) (length (now plan)) (now words) × ActionLists (now needs) (now adds) × (length (now adders) ≡ length (now needed)) × (now adders ≡ listOver (length (now adders)) (λ p. 0)) ⌝ }
     ensures { λ r. ⌜ plannedAs r (now (plan .exit))
-        ≡ P.descend (listed (length (now (needed .entry))) (now (needs .entry)) (now (adds .entry))) (now (words .entry)) (length (now (plan .entry)))
+        ≡ P.descend (listedActions (length (now (needed .entry))) (now (needs .entry)) (now (adds .entry))) (now (words .entry)) (length (now (plan .entry)))
         (listOver (length (now (needed .entry))) (λ p. keep (W.bit p (goal .0)) (set .0))) [] ⌝ }
 {
-    turn_adds(&mut *adders, adds);
+    columns(&mut *adders, adds);
     goals(&mut *needed, goal, set);
     descend(needed, words, needs, adds, &*adders, plan)
 }
@@ -146,12 +145,12 @@ pub fn plan_at(
     goal: Props,
     plan: &mut [u32],
 ) -> Descent
-    requires { ⌜ Room n (length (now needs) + n) (length (now plan)) (now words) × (length (now needs) ≤ 32) × (length (now adds) ≡ length (now needs)) ⌝ }
+    requires { ⌜ Room (listedShape n (now needs)) (length (now plan)) (now words) × ActionLists (now needs) (now adds) ⌝ }
     ensures { λ r. ⌜ plannedAs r (now (plan .exit))
-        ≡ P.descend (listed n (now (needs .entry)) (now (adds .entry))) (now (words .entry)) (length (now (plan .entry))) (listOver n (λ p. keep (W.bit p (goal .0)) (set .0))) [] ⌝ }
+        ≡ P.descend (listedActions n (now (needs .entry)) (now (adds .entry))) (now (words .entry)) (length (now (plan .entry))) (listOver n (λ p. keep (W.bit p (goal .0)) (set .0))) [] ⌝ }
 {
-    let mut needed = [0u64; 32];
-    let mut adders = [0u64; 32];
+    let mut needed = [0u64; PROP_WIDTH];
+    let mut adders = [0u64; PROP_WIDTH];
     goal_down(
         &mut needed[..n],
         &mut adders[..n],

@@ -2,12 +2,13 @@
 use crate::vertex::next_place;
 use crate::vertex::turn;
 use crate::vertex::vertex;
+use words::sets::PROP_WIDTH;
 ghost use mathlib.Core.Path.{_≡_};
-ghost use Prim.Native.Nat.{_+_, _≤_};
+ghost use Prim.Native.Nat.{_+_};
 ghost use lib.ListN.{length};
 ghost use Rattle.rules.specs.Plan.{coverFrom, cover};
-ghost use Rattle.graph.specs.Width.{propWidth};
-ghost use Rattle.plan.specs.Search.{listed, addersOf, Sizes, coveredAs};
+ghost use Rattle.words.specs.Rows.{columnsOf};
+ghost use Rattle.plan.specs.Search.{listedActions, LayerLists, coveredAs};
 
 // The actions marked, or states left uncovered.
 pub enum LayerAnswer {
@@ -24,9 +25,9 @@ fn support(
     adders: &[u64],
     under: &mut [u64],
 ) -> LayerAnswer
-    requires { ⌜ Sizes (now wanted) (now labels) (now needs) (now adds) (now under) × (now adders ≡ addersOf (length (now wanted)) (now adds)) ⌝ }
+    requires { ⌜ LayerLists (now wanted) (now labels) (now needs) (now adds) × (length (now under) ≡ length (now wanted)) × (now adders ≡ columnsOf (length (now wanted)) (now adds)) ⌝ }
     ensures { λ r. ⌜ coveredAs r (now (under .exit))
-        ≡ coverFrom (listed (length (now (wanted .entry))) (now (needs .entry)) (now (adds .entry))) (now (labels .entry)) (now (wanted .entry)) (length (now (wanted .entry))) 0 0 (now (under .entry)) ⌝ }
+        ≡ coverFrom (listedActions (length (now (wanted .entry))) (now (needs .entry)) (now (adds .entry))) (now (labels .entry)) (now (wanted .entry)) (length (now (wanted .entry))) 0 0 (now (under .entry)) ⌝ }
 {
     let mut marks: u32 = 0;
     let mut p = 0;
@@ -71,9 +72,9 @@ fn down(
     adders: &[u64],
     under: &mut [u64],
 ) -> LayerAnswer
-    requires { ⌜ Sizes (now needed) (now labels) (now needs) (now adds) (now under) × (now adders ≡ addersOf (length (now needed)) (now adds)) ⌝ }
+    requires { ⌜ LayerLists (now needed) (now labels) (now needs) (now adds) × (length (now under) ≡ length (now needed)) × (now adders ≡ columnsOf (length (now needed)) (now adds)) ⌝ }
     ensures { λ r. ⌜ coveredAs r (now (needed .exit))
-        ≡ coverFrom (listed (length (now (needed .entry))) (now (needs .entry)) (now (adds .entry))) (now (labels .entry)) (now (needed .entry)) (length (now (needed .entry))) 0 0 (now (under .entry)) ⌝ }
+        ≡ coverFrom (listedActions (length (now (needed .entry))) (now (needs .entry)) (now (adds .entry))) (now (labels .entry)) (now (needed .entry)) (length (now (needed .entry))) 0 0 (now (under .entry)) ⌝ }
 {
     let answer = support(&*needed, labels, needs, adds, adders, &mut *under);
     replace(&mut *needed, &*under);
@@ -88,10 +89,10 @@ pub fn step_down(
     adds: &[u32],
     adders: &[u64],
 ) -> LayerAnswer
-    requires { ⌜ (length (now needed) ≤ propWidth) × (length (now needs) ≤ 32) × (length (now adds) ≡ length (now needs)) × (length (now needs) + length (now needed) ≤ length (now labels)) × (now adders ≡ addersOf (length (now needed)) (now adds)) ⌝ }
-    ensures { λ r. ⌜ coveredAs r (now (needed .exit)) ≡ cover (listed (length (now (needed .entry))) (now (needs .entry)) (now (adds .entry))) (now (labels .entry)) (now (needed .entry)) ⌝ }
+    requires { ⌜ LayerLists (now needed) (now labels) (now needs) (now adds) × (now adders ≡ columnsOf (length (now needed)) (now adds)) ⌝ }
+    ensures { λ r. ⌜ coveredAs r (now (needed .exit)) ≡ cover (listedActions (length (now (needed .entry))) (now (needs .entry)) (now (adds .entry))) (now (labels .entry)) (now (needed .entry)) ⌝ }
 {
     let n = needed.len();
-    let mut under = [0u64; 32];
+    let mut under = [0u64; PROP_WIDTH];
     down(&mut *needed, labels, needs, adds, adders, &mut under[..n])
 }

@@ -1,19 +1,29 @@
 // The relaxed plan.
 mod descent;
 mod layer;
+mod output;
 mod vertex;
-mod words;
 
 use crate::descent::Descent;
 use crate::descent::plan_at;
-use crate::words::copy;
-use crate::words::count;
-use graph::calls::Check;
-use graph::file::Counts;
+use crate::output::copy;
+use crate::output::count;
+use graph::checks::check_asked;
+use graph::checks::check_graph;
+use graph::checks::check_output;
 use graph::file::FileAnswer;
+use graph::file::check_file;
+use graph::format::Counts;
+use graph::limits::MAX_ACTIONS;
+use graph::limits::MAX_DEPTH;
+use graph::read::read_vertices;
+use graph::refusal::Check;
 use graph::refusal::Refusal;
-use graph::sets::Props;
-use graph::sets::States;
+use level::layers::first_met;
+use rules::Shape;
+use words::sets::PROP_WIDTH;
+use words::sets::Props;
+use words::sets::States;
 ghost use mathlib.Core.Path.{_≡_};
 ghost use mathlib.Core.List.{[]};
 ghost use Prim.Native.Nat.{ℕ, _+_, _≤_};
@@ -23,10 +33,14 @@ ghost use Rattle.rules.specs.Over.{keep};
 ghost use Rattle.rules.specs.Lists.{listOver};
 ghost use Rattle.rules.specs.Plan as P;
 ghost use Rattle.graph.specs.Verdict.{laid};
-ghost use Rattle.graph.specs.File.{Taken, actionsOf};
-ghost use Rattle.level.specs.Rule.{Room};
-ghost use Rattle.plan.specs.Plan.{planVerdict, made, plannedVerdict, takenRule, planRule};
-ghost use Rattle.plan.specs.Search.{listed};
+ghost use Rattle.graph.specs.Format.{actionsOf, shapeIn};
+ghost use Rattle.graph.specs.File.{Taken};
+ghost use Rattle.graph.specs.Checks.{Room};
+ghost use Rattle.plan.specs.Plan.{planVerdict, made, plannedVerdict, planTaken, planRule};
+ghost use Rattle.plan.specs.Search.{listedActions, listedShape, ActionLists};
+
+// Room for the sets of all vertices.
+const VERTICES: usize = MAX_ACTIONS + PROP_WIDTH;
 
 // The level and the number of marked actions, or why there is no plan.
 pub enum PlanAnswer {
@@ -45,9 +59,9 @@ fn plan_through(
     plan: &mut [u32],
     out: &mut [u32],
 ) -> PlanAnswer
-    requires { ⌜ Room n (length (now needs) + n) (length (now plan)) (now words) × (length (now needs) ≤ 32) × (length (now adds) ≡ length (now needs)) × (length (now plan) ≤ length (now out)) ⌝ }
-    ensures { λ r. ⌜ ((depth : ℕ) → (planVerdict r ≡ made (plannedVerdict depth (P.descend (listed n (now (needs .entry)) (now (adds .entry))) (now (words .entry)) (length (now (plan .entry))) (listOver n (λ p. keep (W.bit p (goal .0)) (set .0))) [])))
-        × (now (out .exit) ≡ laid (plannedVerdict depth (P.descend (listed n (now (needs .entry)) (now (adds .entry))) (now (words .entry)) (length (now (plan .entry))) (listOver n (λ p. keep (W.bit p (goal .0)) (set .0))) [])) (now (out .entry)))) ⌝ }
+    requires { ⌜ Room (listedShape n (now needs)) (length (now plan)) (now words) × ActionLists (now needs) (now adds) × (length (now plan) ≤ length (now out)) ⌝ }
+    ensures { λ r. ⌜ ((depth : ℕ) → (planVerdict r ≡ made (plannedVerdict depth (P.descend (listedActions n (now (needs .entry)) (now (adds .entry))) (now (words .entry)) (length (now (plan .entry))) (listOver n (λ p. keep (W.bit p (goal .0)) (set .0))) [])))
+        × (now (out .exit) ≡ laid (plannedVerdict depth (P.descend (listedActions n (now (needs .entry)) (now (adds .entry))) (now (words .entry)) (length (now (plan .entry))) (listOver n (λ p. keep (W.bit p (goal .0)) (set .0))) [])) (now (out .entry)))) ⌝ }
 {
     let got = plan_at(words, n, needs, adds, set, goal, &mut *plan);
     if let Descent::Uncovered(t) = got {
@@ -68,15 +82,19 @@ fn plan_over(
     goal: Props,
     out: &mut [u32],
 ) -> PlanAnswer
-    requires { ⌜ Room n (length (now needs) + n) depth (now words) × (length (now needs) ≤ 32) × (length (now adds) ≡ length (now needs)) × (depth ≤ length (now out)) ⌝ }
-    ensures { λ r. ⌜ (planVerdict r ≡ made (plannedVerdict depth (P.planOf (listed n (now (needs .entry)) (now (adds .entry))) depth (set .0) (goal .0) (now (words .entry)))))
-        × (now (out .exit) ≡ laid (plannedVerdict depth (P.planOf (listed n (now (needs .entry)) (now (adds .entry))) depth (set .0) (goal .0) (now (words .entry)))) (now (out .entry))) ⌝ }
+    requires { ⌜ Room (listedShape n (now needs)) depth (now words) × ActionLists (now needs) (now adds) × (depth ≤ length (now out)) ⌝ }
+    ensures { λ r. ⌜ (planVerdict r ≡ made (plannedVerdict depth (P.planOf (listedActions n (now (needs .entry)) (now (adds .entry))) depth (set .0) (goal .0) (now (words .entry)))))
+        × (now (out .exit) ≡ laid (plannedVerdict depth (P.planOf (listedActions n (now (needs .entry)) (now (adds .entry))) depth (set .0) (goal .0) (now (words .entry)))) (now (out .entry))) ⌝ }
 {
-    let t = level::layers::first_met(words, n, needs.len() + n, depth, set, goal);
+    let s = Shape {
+        props: n,
+        vertices: needs.len() + n,
+    };
+    let t = first_met(words, s, depth, set, goal);
     if depth < t {
         return PlanAnswer::Refused(Refusal::NoLevel(depth));
     }
-    let mut plan = [0u32; 255];
+    let mut plan = [0u32; MAX_DEPTH];
     plan_through(words, n, needs, adds, set, goal, &mut plan[..t], out)
 }
 
@@ -93,13 +111,13 @@ fn plan_in(
     dels: &mut [u32],
     out: &mut [u32],
 ) -> PlanAnswer
-    requires { ⌜ Taken (now file) c × Room (c .props) (c .actions + c .props) depth (now words) × (depth ≤ length (now out)) ⌝ }
+    requires { ⌜ Taken (now file) c × Room (shapeIn c) depth (now words) × (depth ≤ length (now out)) ⌝ }
     requires { ⌜ (length (now needs) ≡ c .actions + c .props) × (length (now adds) ≡ c .actions + c .props) × (length (now dels) ≡ c .actions + c .props) ⌝ }
     ensures { λ r. ⌜ (planVerdict r ≡ made (plannedVerdict depth (P.planOf (actionsOf (now (file .entry)) c) depth (set .0) (goal .0) (now (words .entry)))))
         × (now (out .exit) ≡ laid (plannedVerdict depth (P.planOf (actionsOf (now (file .entry)) c) depth (set .0) (goal .0) (now (words .entry)))) (now (out .entry))) ⌝ }
 {
     let a = c.actions;
-    graph::read::read_vertices(file, c, &mut *needs, &mut *adds, &mut *dels);
+    read_vertices(file, c, &mut *needs, &mut *adds, &mut *dels);
     plan_over(
         words,
         c.props,
@@ -122,14 +140,14 @@ fn plan_read(
     words: &[u64],
     out: &mut [u32],
 ) -> PlanAnswer
-    requires { ⌜ Taken (now file) c × Room (c .props) (c .actions + c .props) depth (now words) × (depth ≤ length (now out)) ⌝ }
+    requires { ⌜ Taken (now file) c × Room (shapeIn c) depth (now words) × (depth ≤ length (now out)) ⌝ }
     ensures { λ r. ⌜ (planVerdict r ≡ made (plannedVerdict depth (P.planOf (actionsOf (now (file .entry)) c) depth (set .0) (goal .0) (now (words .entry)))))
         × (now (out .exit) ≡ laid (plannedVerdict depth (P.planOf (actionsOf (now (file .entry)) c) depth (set .0) (goal .0) (now (words .entry)))) (now (out .entry))) ⌝ }
 {
     let v = c.actions + c.props;
-    let mut needs = [0u32; 64];
-    let mut adds = [0u32; 64];
-    let mut dels = [0u32; 64];
+    let mut needs = [0u32; VERTICES];
+    let mut adds = [0u32; VERTICES];
+    let mut dels = [0u32; VERTICES];
     plan_in(
         file,
         c,
@@ -155,28 +173,16 @@ fn plan_taken(
     out: &mut [u32],
 ) -> PlanAnswer
     requires { ⌜ Taken (now file) c ⌝ }
-    ensures { λ r. ⌜ (planVerdict r ≡ made (takenRule (now (file .entry)) c depth (set .0) (goal .0) (now (words .entry)) (length (now (out .entry)))))
-        × (now (out .exit) ≡ laid (takenRule (now (file .entry)) c depth (set .0) (goal .0) (now (words .entry)) (length (now (out .entry)))) (now (out .entry))) ⌝ }
+    ensures { λ r. ⌜ (planVerdict r ≡ made (planTaken (now (file .entry)) c depth (set .0) (goal .0) (now (words .entry)) (length (now (out .entry)))))
+        × (now (out .exit) ≡ laid (planTaken (now (file .entry)) c depth (set .0) (goal .0) (now (words .entry)) (length (now (out .entry)))) (now (out .entry))) ⌝ }
 {
-    let depth_check = graph::calls::check_depth(depth);
-    if let Check::Refused(why) = depth_check {
+    let asked = check_asked(c, set, goal);
+    let check = check_graph(c, depth, asked, words.len());
+    if let Check::Refused(why) = check {
         return PlanAnswer::Refused(why);
     }
-    let set_check = graph::calls::check_set(c.states, set);
-    if let Check::Refused(why) = set_check {
-        return PlanAnswer::Refused(why);
-    }
-    let goal_check = graph::calls::check_goal(c.props, goal);
-    if let Check::Refused(why) = goal_check {
-        return PlanAnswer::Refused(why);
-    }
-    let wanted = graph::label::word_count(c.props, c.actions + c.props, depth);
-    let memory_check = graph::calls::check_memory(wanted, words.len());
-    if let Check::Refused(why) = memory_check {
-        return PlanAnswer::Refused(why);
-    }
-    let output_check = graph::calls::check_output(depth, out.len());
-    if let Check::Refused(why) = output_check {
+    let room = check_output(depth, out.len());
+    if let Check::Refused(why) = room {
         return PlanAnswer::Refused(why);
     }
     plan_read(file, c, depth, set, goal, words, out)
@@ -194,7 +200,7 @@ pub fn plan(
     ensures { λ r. ⌜ (planVerdict r ≡ made (planRule (now (file .entry)) depth (set .0) (goal .0) (now (words .entry)) (length (now (out .entry)))))
         × (now (out .exit) ≡ laid (planRule (now (file .entry)) depth (set .0) (goal .0) (now (words .entry)) (length (now (out .entry)))) (now (out .entry))) ⌝ }
 {
-    let answer = graph::file::check_file(file);
+    let answer = check_file(file);
     match answer {
         FileAnswer::Refused(why) => PlanAnswer::Refused(why),
         FileAnswer::Taken(c) => plan_taken(file, c, depth, set, goal, words, out),

@@ -1,7 +1,7 @@
 // One vertex in the search for support.
-use graph::rows::lowest;
-use graph::rows::others;
-use graph::sets::Props;
+use words::columns::spread;
+use words::members::lowest;
+use words::sets::Props;
 ghost use mathlib.Core.Path.{_≡_};
 ghost use Prim.Native.Nat.{_+_, _/_, _^_, _≤_, _<_};
 ghost use lib.Count.{trailingZeros};
@@ -9,12 +9,11 @@ ghost use lib.ListN.{length};
 ghost use Rattle.rules.specs.Test.{_and_, fails, same, below, choose};
 ghost use Rattle.rules.specs.Word as W;
 ghost use Rattle.rules.specs.Over.{keep};
-ghost use Rattle.rules.specs.Lists.{listOver};
 ghost use Rattle.rules.specs.Domain.{addsOf};
-ghost use Rattle.rules.specs.Layer.{labelIn};
 ghost use Rattle.rules.specs.Plan.{Support, takes};
-ghost use Rattle.graph.specs.Width.{propWidth};
-ghost use Rattle.plan.specs.Search.{listed, setOf, orderAt};
+ghost use Rattle.words.specs.Width.{propWidth, wordWidth};
+ghost use Rattle.graph.specs.Limits.{maxActions};
+ghost use Rattle.plan.specs.Search.{listedActions, vertexSet, orderAt, LayerLists};
 
 // The states still uncovered and the actions marked.
 pub struct Took {
@@ -24,7 +23,7 @@ pub struct Took {
 
 // The vertex at place k of the order for p: its persistence, then the actions.
 pub fn vertex(k: usize, p: usize, actions: usize) -> usize
-    requires { ⌜ (p < propWidth) × (actions ≤ 32) ⌝ }
+    requires { ⌜ (p < propWidth) × (actions ≤ maxActions) ⌝ }
     ensures { λ r. ⌜ r ≡ orderAt actions p k ⌝ }
 {
     if k == 0 {
@@ -35,16 +34,16 @@ pub fn vertex(k: usize, p: usize, actions: usize) -> usize
 
 // The place of the next adder after place k, or one behind all places.
 pub fn next_place(adders: u64, k: usize) -> usize
-    requires { ⌜ k ≤ 32 ⌝ }
-    ensures { λ r. ⌜ r ≡ k + 1 + trailingZeros 64 (adders / 2 ^ k) ⌝ }
+    requires { ⌜ k ≤ maxActions ⌝ }
+    ensures { λ r. ⌜ r ≡ k + 1 + trailingZeros wordWidth (adders / 2 ^ k) ⌝ }
 {
     k + 1 + lowest(adders >> k)
 }
 
 // An action's set, or the proposition of a persistence.
-fn set_of(sets: &[u32], v: usize) -> u32
+fn vertex_set(sets: &[u32], v: usize) -> u32
     requires { ⌜ v < length (now sets) + propWidth ⌝ }
-    ensures { λ r. ⌜ r ≡ setOf (now (sets .entry)) v ⌝ }
+    ensures { λ r. ⌜ r ≡ vertexSet (now (sets .entry)) v ⌝ }
 {
     if v < sets.len() {
         return sets[v];
@@ -63,25 +62,9 @@ pub fn kept(among: Props, q: usize, t: u64) -> u64
     0
 }
 
-// `t` is needed of each need. Only the needs cost time, and where nothing is taken they do not.
-pub fn spread(under: &mut [u64], needs: Props, t: u64)
-    requires { ⌜ length (now under) ≤ propWidth ⌝ }
-    ensures { λ r. ⌜ now (under .exit) ≡ listOver (length (now (under .entry))) (λ q. W.union (labelIn (now (under .entry)) q) (keep (W.bit q (needs .0)) t)) ⌝ }
-{
-    if t == 0 {
-        return;
-    }
-    let mut left = graph::tables::wide(Props::first(under.len()).common(needs).0);
-    while 0 < left {
-        let q = lowest(left);
-        under[q] = under[q] | t;
-        left = others(left);
-    }
-}
-
 // An action that takes at least one state is marked.
 fn mark(marks: u32, v: usize, actions: usize, t: u64) -> u32
-    requires { ⌜ actions ≤ 32 ⌝ }
+    requires { ⌜ actions ≤ maxActions ⌝ }
     ensures { λ r. ⌜ r ≡ choose (below v actions and fails (same t 0)) (W.union marks (W.single v)) marks ⌝ }
 {
     if v < actions {
@@ -103,22 +86,21 @@ pub fn turn(
     adds: &[u32],
     under: &mut [u64],
 ) -> Took
-    requires { ⌜ (p < length (now under)) × (v < length (now needs) + length (now under)) × (length (now needs) ≤ 32) × (length (now under) ≤ propWidth)
-        × (length (now adds) ≡ length (now needs)) × (length (now needs) + length (now under) ≤ length (now labels)) ⌝ }
+    requires { ⌜ (p < length (now under)) × (v < length (now needs) + length (now under)) × LayerLists (now under) (now labels) (now needs) (now adds) ⌝ }
     ensures { λ r. ⌜ _≡_ {A = Support} (record { left = r .left; marks = r .marks; needed = now (under .exit) })
-        (choose (W.bit p (addsOf (listed (length (now (under .entry))) (now (needs .entry)) (now (adds .entry))) v))
-        (takes (listed (length (now (under .entry))) (now (needs .entry)) (now (adds .entry))) (now (labels .entry)) v
+        (choose (W.bit p (addsOf (listedActions (length (now (under .entry))) (now (needs .entry)) (now (adds .entry))) v))
+        (takes (listedActions (length (now (under .entry))) (now (needs .entry)) (now (adds .entry))) (now (labels .entry)) v
         (record { left = left; marks = marks; needed = now (under .entry) }))
         (record { left = left; marks = marks; needed = now (under .entry) })) ⌝ }
 {
-    if !Props(set_of(adds, v)).has(p) {
+    if !Props(vertex_set(adds, v)).has(p) {
         return Took {
             left: left,
             marks: marks,
         };
     }
     let t = left & labels[v];
-    spread(&mut *under, Props(set_of(needs, v)), t);
+    spread(&mut *under, Props(vertex_set(needs, v)), t);
     Took {
         left: left ^ (left & t),
         marks: mark(marks, v, needs.len(), t),

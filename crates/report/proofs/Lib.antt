@@ -2,4 +2,4 @@
 pub mod Texts
 pub mod Depths
 pub mod Marks
-pub mod Finals
+pub mod FileTexts

@@ -8,12 +8,13 @@ use native.Mathlib.Omega.{arith}
 use lib.ListN.{length, length-append}
 use Rattle.rules.specs.Test.{below, choose}
 use Rattle.rules.specs.Word.{single}
-use Rattle.rules.specs.Domain.{Domain}
 use Rattle.rules.specs.Level.{Level, level, never, notByDepth, firstMet, firstRest, levelOf, restsAt, none, restOf}
+use Rattle.rules.specs.declared.Shape.{Shape}
 use Rattle.rules.proofs.Tests.{choose-held, choose-failed, below-of, below-not, below-at, is-fails}
 use Rattle.rules.proofs.Firsts.{first-le}
+use Rattle.graph.specs.Limits.{maxDepth}
 use Rattle.report.specs.Decimal.{decimal}
-use Rattle.report.specs.Text.{restText, restFrom, levelText, levelFrom, cellsText, lineText, headText, stateText}
+use Rattle.report.specs.Text.{restText, restFrom, levelText, cellText, levelFrom, cellsText, lineText, headText, stateText}
 use Rattle.report.proofs.Texts.{decimal-length, runs-length}
 
 -- ---- the rest
@@ -33,25 +34,25 @@ module _ (u depth : ℕ) where
       go true l = decimal-length 3 u (omega (arith, l refl)) (omega arith)
       go false l = omega arith
 
-  pub rest-from : (D : Domain) (words : List ℕ) → u ≡ firstRest D depth words → restFrom u depth ≡ restOf D depth words
+  pub rest-from : (S : Shape) (words : List ℕ) → u ≡ firstRest S depth words → restFrom u depth ≡ restOf S depth words
   unfolding restOf
-  rest-from D words e = ap (λ (x : ℕ). restFrom x depth) e
+  rest-from S words e = ap (λ (x : ℕ). restFrom x depth) e
 
 -- ---- the level
 
 module _ (t u depth : ℕ) where
-  pub level-number : t ≤ depth → (32 ∷ []) ++ decimal t ≡ 32 ∷ levelText (levelFrom t u depth)
-  level-number h = ap (λ (l : Level). 32 ∷ levelText l) (sym (choose-held (below t (suc depth)) (level t) _ (below-of t (suc depth) (omega arith))))
+  pub level-number : t ≤ depth → (32 ∷ []) ++ decimal t ≡ cellText (levelFrom t u depth)
+  level-number h = ap (λ (l : Level). cellText l) (sym (choose-held (below t (suc depth)) (level t) _ (below-of t (suc depth) (omega arith))))
 
   met-at-none : depth < t → levelFrom t u depth ≡ choose (below u depth) never notByDepth
   met-at-none h = choose-failed (below t (suc depth)) (level t) _ (is-fails _ (below-not t (suc depth) (omega arith)))
 
-  pub level-never : depth < t → u < depth → 32 ∷ 45 ∷ [] ≡ 32 ∷ levelText (levelFrom t u depth)
-  level-never h l = ap (λ (x : Level). 32 ∷ levelText x) (sym (met-at-none h ∙ choose-held (below u depth) never notByDepth (below-of u depth l)))
+  pub level-never : depth < t → u < depth → 32 ∷ 45 ∷ [] ≡ cellText (levelFrom t u depth)
+  level-never h l = ap (λ (x : Level). cellText x) (sym (met-at-none h ∙ choose-held (below u depth) never notByDepth (below-of u depth l)))
 
-  pub level-unknown : depth < t → depth ≤ u → 32 ∷ 63 ∷ [] ≡ 32 ∷ levelText (levelFrom t u depth)
+  pub level-unknown : depth < t → depth ≤ u → 32 ∷ 63 ∷ [] ≡ cellText (levelFrom t u depth)
   level-unknown h l =
-      ap (λ (x : Level). 32 ∷ levelText x) (sym (met-at-none h ∙ choose-failed (below u depth) never notByDepth (is-fails _ (below-not u depth l))))
+      ap (λ (x : Level). cellText x) (sym (met-at-none h ∙ choose-failed (below u depth) never notByDepth (is-fails _ (below-not u depth l))))
 
   level-short : t < 1000 → length (levelText (levelFrom t u depth)) ≤ 3
   unfolding choose
@@ -62,39 +63,39 @@ module _ (t u depth : ℕ) where
       go false true = omega arith
       go false false = omega arith
 
-module _ (D : Domain) (depth set : ℕ) (words : List ℕ) where
-  pub level-from : (goal t u : ℕ) → t ≡ firstMet D depth set goal words → u ≡ firstRest D depth words → levelFrom t u depth ≡ levelOf D depth set goal words
+module _ (S : Shape) (depth set : ℕ) (words : List ℕ) where
+  pub level-from : (goal t u : ℕ) → t ≡ firstMet S depth set goal words → u ≡ firstRest S depth words → levelFrom t u depth ≡ levelOf S depth set goal words
   unfolding levelOf
   level-from goal t u e q = ap₂ (λ (x y : ℕ). levelFrom x y depth) e q
 
-  pub met-le : (goal : ℕ) → firstMet D depth set goal words ≤ suc depth
+  pub met-le : (goal : ℕ) → firstMet S depth set goal words ≤ suc depth
   unfolding firstMet
   met-le goal = first-le _ _
 
-  pub cell-short : depth ≤ 255 → (goal : ℕ) → length (32 ∷ levelText (levelOf D depth set goal words)) ≤ 4
+  pub cell-short : depth ≤ maxDepth → (goal : ℕ) → length (cellText (levelOf S depth set goal words)) ≤ 4
   unfolding levelOf
-  cell-short h goal = omega (arith, level-short (firstMet D depth set goal words) (firstRest D depth words) depth (omega (arith, met-le goal)))
+  cell-short h goal = omega (arith, level-short (firstMet S depth set goal words) (firstRest S depth words) depth (omega (arith, met-le goal)))
 
 -- ---- lines
 
-module _ (D : Domain) (depth : ℕ) (words : List ℕ) (deep : depth ≤ 255) where
-  pub cells-short : (set : ℕ) → length (cellsText (D .props) (λ p. levelOf D depth set (single p) words)) ≤ 4 * D .props
+module _ (S : Shape) (depth : ℕ) (words : List ℕ) (deep : depth ≤ maxDepth) where
+  pub cells-short : (set : ℕ) → length (cellsText (S .props) (λ p. levelOf S depth set (single p) words)) ≤ 4 * S .props
   unfolding cellsText
   cells-short set =
-      omega (arith, runs-length (λ p. 32 ∷ levelText (levelOf D depth set (single p) words)) 4 (D .props) (λ p h. cell-short D depth set words deep (single p)))
+      omega (arith, runs-length (λ p. cellText (levelOf S depth set (single p) words)) 4 (S .props) (λ p h. cell-short S depth set words deep (single p)))
 
-  line-short : (set : ℕ) → length (lineText (D .props) (λ p. levelOf D depth set (single p) words)) ≤ 2 + 4 * D .props
+  line-short : (set : ℕ) → length (lineText (S .props) (λ p. levelOf S depth set (single p) words)) ≤ 2 + 4 * S .props
   unfolding lineText
-  line-short set = omega (arith, cells-short set, length-append (cellsText (D .props) (λ p. levelOf D depth set (single p) words)) (10 ∷ []))
+  line-short set = omega (arith, cells-short set, length-append (cellsText (S .props) (λ p. levelOf S depth set (single p) words)) (10 ∷ []))
 
-  pub state-short : (s : ℕ) → s < 100 → length (stateText D depth words s) ≤ 4 + 4 * D .props
+  pub state-short : (s : ℕ) → s < 100 → length (stateText S depth words s) ≤ 4 + 4 * S .props
   unfolding stateText
   state-short s h =
       omega (
         arith,
         decimal-length 2 s h (omega arith),
         line-short (single s),
-        length-append (decimal s) (lineText (D .props) (λ p. levelOf D depth (single s) (single p) words)),
+        length-append (decimal s) (lineText (S .props) (λ p. levelOf S depth (single s) (single p) words)),
       )
 
 pub head-short : (depth u : ℕ) → depth < 1000 → length (headText depth (restFrom u depth)) ≤ 19

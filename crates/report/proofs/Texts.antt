@@ -11,8 +11,8 @@ use lib.ListN.{length, length-append}
 use Rattle.rules.specs.Test.{below, choose}
 use Rattle.rules.specs.Lists.{runOver}
 use Rattle.rules.proofs.Tests.{choose-failed, is-fails, below-of, below-not}
-use Rattle.graph.specs.Memory.{putAt}
-use Rattle.graph.proofs.Writes.{put-put, put-length, Runs, run-more, run-done}
+use Rattle.words.specs.Memory.{putAt}
+use Rattle.words.proofs.Writes.{put-put, put-length, Runs, run-more, run-done}
 use Rattle.report.specs.Decimal.{digit, spell, decimal}
 use Rattle.report.specs.Wrote.{Wrote}
 

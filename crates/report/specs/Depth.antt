@@ -3,11 +3,14 @@ use Prim.Native.Nat.{ℕ, zero, suc}
 use mathlib.Core.Bool.{Bool}
 use mathlib.Core.List.{List}
 use Rattle.rules.specs.Test.{fails, below, choose}
-use Rattle.rules.specs.Domain.{Domain, domain}
 use Rattle.rules.specs.Layer.{wordCount}
+use Rattle.rules.specs.declared.Shape.{Shape}
 use Rattle.graph.specs.Verdict.{Verdict, accepted, turnedAway, andThen}
-use Rattle.graph.specs.File.{fileRule, actionsOf}
-use Rattle.graph.specs.Calls.{memoryRule}
+use Rattle.graph.specs.Limits.{maxDepth}
+use Rattle.graph.specs.Format.{shapeIn}
+use Rattle.graph.specs.File.{fileRule}
+use Rattle.graph.specs.Checks.{memoryRule}
+use Rattle.graph.specs.declared.format.Counts.{Counts}
 use Rattle.report.specs.declared.depth.DepthAnswer.{DepthAnswer}
 use Rattle.report.specs.declared.depth.DepthAnswer.the-variants as answer
 
@@ -17,12 +20,12 @@ greatestWith zero f = zero
 greatestWith (suc n) f = choose (f (suc n)) (suc n) (greatestWith n f)
 
 -- the graph of depth k takes no more than so many words
-unfoldable pub fits : Domain → ℕ → ℕ → Bool
-fits D room k = fails (below room (wordCount D k))
+unfoldable pub fits : Shape → ℕ → ℕ → Bool
+fits S room k = fails (below room (wordCount S k))
 
 -- 'the greatest depth up to 255 that fits' so many words
-unfoldable pub depthFor : Domain → ℕ → ℕ
-depthFor D room = greatestWith 255 (fits D room)
+unfoldable pub depthFor : Shape → ℕ → ℕ
+depthFor S room = greatestWith maxDepth (fits S room)
 
 -- what the answer says
 abbrev pub depthVerdict : DepthAnswer → Verdict ℕ
@@ -30,9 +33,9 @@ depthVerdict (answer.Depth k) = accepted k
 depthVerdict (answer.Refused why) = turnedAway why
 
 -- the file being taken: 9, with the words of depth 0, where not even these fit
-unfoldable pub depthTaken : Domain → ℕ → Verdict ℕ
-depthTaken D room = andThen (memoryRule (wordCount D 0) room) (λ _. accepted (depthFor D room))
+unfoldable pub fittingTaken : Counts → ℕ → Verdict ℕ
+fittingTaken c room = andThen (memoryRule (wordCount (shapeIn c) 0) room) (λ _. accepted (depthFor (shapeIn c) room))
 
 -- causes 1 to 5 and 9, or the depth
-unfoldable pub depthRule : List ℕ → ℕ → Verdict ℕ
-depthRule file room = andThen (fileRule file) (λ c. depthTaken (domain (actionsOf file c)) room)
+unfoldable pub fittingRule : List ℕ → ℕ → Verdict ℕ
+fittingRule file room = andThen (fileRule file) (λ c. fittingTaken c room)

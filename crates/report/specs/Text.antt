@@ -4,13 +4,14 @@ use mathlib.Core.List.{List, [], _∷_, _++_}
 use Rattle.rules.specs.Test.{below, choose}
 use Rattle.rules.specs.Word.{single, first}
 use Rattle.rules.specs.Lists.{runOver}
-use Rattle.rules.specs.Domain.{Domain, domain}
-use Rattle.rules.specs.Shared.{graphWords}
 use Rattle.rules.specs.Level.{Level, level, never, notByDepth, levelOf, Rest, restsAt, none, restOf}
+use Rattle.rules.specs.declared.Shape.{Shape}
 use Rattle.graph.specs.Verdict.{Verdict, accepted, refused, turnedAway, andThen}
-use Rattle.graph.specs.File.{fileRule, actionsOf, startOf}
-use Rattle.graph.specs.Calls.{outputRule}
-use Rattle.graph.specs.declared.file.Counts.{Counts}
+use Rattle.graph.specs.Format.{shapeIn}
+use Rattle.graph.specs.File.{fileRule}
+use Rattle.graph.specs.Checks.{outputRule}
+use Rattle.graph.specs.Build.{graphOf}
+use Rattle.graph.specs.declared.format.Counts.{Counts}
 use Rattle.report.specs.Depth.{depthFor}
 use Rattle.report.specs.Decimal.{decimal}
 use Rattle.report.specs.declared.TextAnswer.{TextAnswer}
@@ -35,9 +36,13 @@ levelText notByDepth = 63 ∷ []
 abbrev pub levelFrom : ℕ → ℕ → ℕ → Level
 levelFrom t u depth = choose (below t (suc depth)) (level t) (choose (below u depth) never notByDepth)
 
--- a space and the level of each of n propositions
+-- a space and the level
+abbrev pub cellText : Level → List ℕ
+cellText l = 32 ∷ levelText l
+
+-- that of each of n propositions
 unfoldable pub cellsText : ℕ → (ℕ → Level) → List ℕ
-cellsText n f = runOver n (λ p. 32 ∷ levelText (f p))
+cellsText n f = runOver n (λ p. cellText (f p))
 
 -- what follows the name of a line: ':', the levels, the line's end
 unfoldable pub lineText : ℕ → (ℕ → Level) → List ℕ
@@ -49,17 +54,17 @@ headText depth rest =
     (100 ∷ 101 ∷ 112 ∷ 116 ∷ 104 ∷ 32 ∷ []) ++ (decimal depth ++ ((32 ∷ 114 ∷ 101 ∷ 115 ∷ 116 ∷ 32 ∷ []) ++ (restText rest ++ (10 ∷ []))))
 
 -- 'per state its number and each proposition's level'
-unfoldable pub stateText : Domain → ℕ → List ℕ → ℕ → List ℕ
-stateText D depth words s = decimal s ++ lineText (D .props) (λ p. levelOf D depth (single s) (single p) words)
+unfoldable pub stateText : Shape → ℕ → List ℕ → ℕ → List ℕ
+stateText S depth words s = decimal s ++ lineText (S .props) (λ p. levelOf S depth (single s) (single p) words)
 
 -- 'then the same for all states': "all"
-unfoldable pub allText : Domain → ℕ → ℕ → List ℕ → List ℕ
-allText D states depth words = (97 ∷ 108 ∷ 108 ∷ []) ++ lineText (D .props) (λ p. levelOf D depth (first states) (single p) words)
+unfoldable pub allText : Shape → ℕ → ℕ → List ℕ → List ℕ
+allText S states depth words = (97 ∷ 108 ∷ 108 ∷ []) ++ lineText (S .props) (λ p. levelOf S depth (first states) (single p) words)
 
 -- the whole text, of the graph words of so many states
-unfoldable pub graphText : Domain → ℕ → ℕ → List ℕ → List ℕ
-graphText D states depth words =
-    headText depth (restOf D depth words) ++ (runOver states (stateText D depth words) ++ allText D states depth words)
+unfoldable pub graphText : Shape → ℕ → ℕ → List ℕ → List ℕ
+graphText S states depth words =
+    headText depth (restOf S depth words) ++ (runOver states (stateText S depth words) ++ allText S states depth words)
 
 -- 'A refused file prints one line, `refused`, number and place with single spaces'
 unfoldable pub refusedText : ℕ → ℕ → List ℕ
@@ -73,9 +78,8 @@ levelsRoom = 8192
 -- a file that is taken is built to 'the greatest depth up to 255 that fits' them
 unfoldable pub takenText : List ℕ → Counts → List ℕ
 takenText file c =
-    let D : Domain = domain (actionsOf file c) in
-    let depth : ℕ = depthFor D levelsRoom in
-    graphText D (c .states) depth (graphWords D (c .states) (startOf file c) depth)
+    let depth : ℕ = depthFor (shapeIn c) levelsRoom in
+    graphText (shapeIn c) (c .states) depth (graphOf file c depth)
 
 unfoldable pub verdictText : List ℕ → Verdict Counts → List ℕ
 verdictText file (accepted c) = takenText file c

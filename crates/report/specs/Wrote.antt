@@ -3,7 +3,7 @@ use Prim.Native.Nat.{ℕ, _+_, _≤_}
 use mathlib.Core.Path.{_≡_}
 use mathlib.Core.List.{List}
 use lib.ListN.{length}
-use Rattle.graph.specs.Memory.{putAt}
+use Rattle.words.specs.Memory.{putAt}
 
 -- the memory w becomes w' as the text is written from `at` up to `end`
 pub record Wrote (w : List ℕ) (at : ℕ) (text w' : List ℕ) (end : ℕ) : Type 0 where

@@ -1,27 +1,32 @@
 // The text that `levels` prints, as a function of the file's bytes.
 pub mod depth;
+mod fit;
 mod lines;
 mod put;
 
-use crate::depth::depth_for;
+use crate::fit::depth_for;
 use crate::lines::put_graph;
 use crate::lines::put_refused;
 use graph::build::build;
-use graph::calls::Check;
-use graph::calls::check_output;
-use graph::file::Counts;
+use graph::checks::check_output;
 use graph::file::FileAnswer;
 use graph::file::check_file;
-use graph::label::word_count;
+use graph::format::Counts;
+use graph::layout::word_count;
+use graph::refusal::Check;
 use graph::refusal::Refusal;
 ghost use mathlib.Core.Path.{_≡_};
 ghost use Prim.Native.Nat.{_≤_};
 ghost use lib.ListN.{length};
-ghost use Rattle.rules.specs.Domain.{domain};
 ghost use Rattle.graph.specs.Verdict.{accepted, laid, written};
-ghost use Rattle.graph.specs.File.{Taken, fileRule, actionsOf};
+ghost use Rattle.graph.specs.File.{fileRule};
 ghost use Rattle.report.specs.Text.{levelsRoom, textRoom, levelsText, takenText, textVerdict, textRule};
 ghost use Rattle.report.specs.Wrote.{Wrote};
+
+// Room for the words of the graph, and for the longest text.
+const LEVELS_ROOM: usize = 8192;
+
+pub const TEXT_ROOM: usize = 8600;
 
 // The number of bytes written, or why the call is turned away.
 pub enum TextAnswer {
@@ -34,11 +39,11 @@ fn taken_text(file: &[u8], c: Counts, words: &mut [u64], out: &mut [u8]) -> usiz
     requires { ⌜ (fileRule (now file) ≡ accepted c) × (length (now words) ≡ levelsRoom) × (textRoom ≤ length (now out)) ⌝ }
     ensures { λ r. ⌜ Wrote (now (out .entry)) 0 (takenText (now (file .entry)) c) (now (out .exit)) r ⌝ }
 {
-    let v = c.actions + c.props;
-    let depth = depth_for(c.props, v, words.len());
-    let count = word_count(c.props, v, depth);
+    let shape = c.shape();
+    let depth = depth_for(shape, words.len());
+    let count = word_count(shape, depth);
     build(file, depth, &mut *words);
-    put_graph(&words[..count], c.props, v, c.states, depth, out)
+    put_graph(&words[..count], shape, c.states, depth, out)
 }
 
 // The text of any file.
@@ -58,7 +63,7 @@ fn own_text(file: &[u8], out: &mut [u8]) -> usize
     requires { ⌜ textRoom ≤ length (now out) ⌝ }
     ensures { λ r. ⌜ Wrote (now (out .entry)) 0 (levelsText (now (file .entry))) (now (out .exit)) r ⌝ }
 {
-    let mut words = [0u64; 8192];
+    let mut words = [0u64; LEVELS_ROOM];
     file_text(file, &mut words, out)
 }
 
@@ -67,7 +72,7 @@ pub fn levels_text(file: &[u8], out: &mut [u8]) -> TextAnswer
     ensures { λ r. ⌜ (textVerdict r ≡ written (textRule (now (file .entry)) (length (now (out .entry)))))
         × (now (out .exit) ≡ laid (textRule (now (file .entry)) (length (now (out .entry)))) (now (out .entry))) ⌝ }
 {
-    let check = check_output(8600, out.len());
+    let check = check_output(TEXT_ROOM, out.len());
     match check {
         Check::Refused(why) => TextAnswer::Refused(why),
         Check::Passed => TextAnswer::Written(own_text(file, out)),

@@ -18,10 +18,10 @@ use Rattle.rules.proofs.Tests.{choose-held, choose-failed, or-at, impli
 use Rattle.rules.proofs.Words.{bit-union, bit-without, single-has, single-only, within-at}
 use Rattle.rules.proofs.Overs.{all-of, all-at, parts}
 use Rattle.rules.proofs.Firsts.{first-to}
-use Rattle.rules.proofs.Layers.{length-listOver, getD-listOver, paired-differ}
+use Rattle.rules.proofs.Layers.{getD-listOver, paired-differ}
 use Rattle.rules.proofs.Order.{Apart, Admits, admits-of, start-admits, Explains, explained}
 use Rattle.rules.proofs.Domains.{persistence-below, action-below, needs-action, adds-action, deletes-action, needs-persistence, adds-persistence}
-use Rattle.rules.proofs.Domains.{breaks-apart, persistence-breaks, breaks-persistence}
+use Rattle.rules.proofs.Domains.{clobbers-apart, persistence-clobbers, clobbers-persistence}
 
 -- ---- a step is explained: by the persistences of what was there, and by the action
 
@@ -62,10 +62,10 @@ module _ (A : Actions) (a x : ℕ) (is-action : a < A .count) (can : So (within 
   picked-apart : (p q v w : ℕ) → So (bit p (after A a x)) → So (bit q (after A a x)) → Picked A a x p v → Picked A a x q w → Apart (domain A) v w
   picked-apart p q v w s t k l c =
       ⊎-elim (λ (i, e).
-      ⊎-elim (λ (j, f). breaks-apart A (persistence A p) (persistence A q) (persistence-breaks A p _) (persistence-breaks A q _) (rw (e, f) at c))
-      (λ (j, f). breaks-apart A (persistence A p) a (persistence-breaks A p _) (breaks-persistence A a p (stays p s)) (rw (e, f) at c)) l)
+      ⊎-elim (λ (j, f). clobbers-apart A (persistence A p) (persistence A q) (persistence-clobbers A p _) (persistence-clobbers A q _) (rw (e, f) at c))
+      (λ (j, f). clobbers-apart A (persistence A p) a (persistence-clobbers A p _) (clobbers-persistence A a p (stays p s)) (rw (e, f) at c)) l)
       (λ (i, e).
-      ⊎-elim (λ (j, f). breaks-apart A a (persistence A q) (breaks-persistence A a q (stays q t)) (persistence-breaks A q _) (rw (e, f) at c))
+      ⊎-elim (λ (j, f). clobbers-apart A a (persistence A q) (clobbers-persistence A a q (stays q t)) (persistence-clobbers A q _) (rw (e, f) at c))
       (λ (j, f). fails-at _ (paired-differ _ v w c) (same-of _ _ (e ∙ sym f))) l) k
 
   pub step-explains : Explains (domain A) x (after A a x)
@@ -86,10 +86,6 @@ module _ (A : Actions) (n set : ℕ) where
   unfolding stepped
   stepped-inside a xs s h t = getD-listOver n _ s h ∙ choose-held _ _ _ t
 
-  stepped-outside : (a : ℕ) (xs : List ℕ) (s : ℕ) → s < n → So (fails (bit s set)) → getD (stepped A n set a xs) s 0 ≡ getD xs s 0
-  unfolding stepped
-  stepped-outside a xs s h t = getD-listOver n _ s h ∙ choose-failed _ _ _ t
-
   -- what holds at the start, and from each step that is ready to the next, holds where the run ends
   pub run-ind : (P : ℕ → List ℕ → Type 0) (i : ℕ) (xs list ends : List ℕ)
       → ((t : ℕ) (ys : List ℕ) → t < length list → So (ready A n set (getD list t 0) ys) → P t ys → P (suc t) (stepped A n set (getD list t 0) ys))
@@ -105,17 +101,6 @@ module _ (A : Actions) (n set : ℕ) where
       (holds-or (ready A n set a xs))
 
 module _ (A : Actions) (n : ℕ) (start : ℕ → ℕ) (set : ℕ) (list ends : List ℕ) where
-  pub run-length : runOf A n start set list ≡ ended ends → length ends ≡ n
-  unfolding runOf stepped
-  run-length = run-ind A n set (λ t xs. length xs ≡ n) 0 (listOver n start) list ends (λ t ys l r e. length-listOver n _) (length-listOver n start)
-
-  -- 'states outside S keep their start'
-  pub outside-keeps : runOf A n start set list ≡ ended ends → (s : ℕ) → s < n → So (fails (bit s set)) → getD ends s 0 ≡ start s
-  unfolding runOf
-  outside-keeps ran s h f =
-      run-ind A n set (λ t xs. getD xs s 0 ≡ start s) 0 (listOver n start) list ends (λ t ys l r e. stepped-outside A n set _ ys s h f ∙ e)
-      (getD-listOver n start s h) ran
-
   module _ (known : (i : ℕ) → i < length list → getD list i 0 < A .count) (ran : runOf A n start set list ≡ ended ends) where
     -- where the list ends, the own graph of a state of S admits what the state has become, as many layers on as the list is long
     pub run-admits : (s : ℕ) → s < n → So (bit s set) → Admits (A .props) (ownProps (domain A) (start s) (length list)) (getD ends s 0)

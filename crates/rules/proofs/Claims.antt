@@ -1,7 +1,7 @@
 -- The claims of document 01 about built words: memory that begins with the words of the build, then anything.
 -- Assumes nothing.
 use mathlib.Core.Path.{_≡_, refl, sym, ap, subst, _∙_}
-use mathlib.Core.Bool.{So, false}
+use mathlib.Core.Bool.{So}
 use mathlib.Core.Logic.{_⊎_, inl, inr, ⊎-elim}
 use mathlib.Core.List.{List}
 use Prim.Native.Nat.{ℕ, suc, _^_, _≤_, _<_}
@@ -11,15 +11,14 @@ use lib.ListN.{length, getD}
 use Rattle.rules.specs.Test.{_implies_, below}
 use Rattle.rules.specs.Word.{bit, within}
 use Rattle.rules.specs.Over.{keep, allBelow, firstBelow, greatest}
-use Rattle.rules.specs.Domain.{Domain, Actions, domain}
+use Rattle.rules.specs.Domain.{Domain, shapeOf, Actions, domain}
 use Rattle.rules.specs.Layer.{propsIn}
 use Rattle.rules.specs.Own.{admits, ownStart, ownFrom, ownProps, ownLevel}
-use Rattle.rules.specs.Shared.{propLayer, graphWords}
+use Rattle.rules.specs.Shared.{propLayer}
 use Rattle.rules.specs.Level.{goalMet, firstMet, firstRest, Rest, restsAt, none, restOf, Level, level, never, notByDepth, levelOf}
 use Rattle.rules.specs.Run.{ended, runOf}
 use Rattle.rules.specs.Plan.{planned, stuck, noLevel, planAt, planOf}
 use Rattle.rules.proofs.Tests.{choose-held, choose-failed, implies-of, implies-at, holds-or, below-at, below-fails}
-use Rattle.rules.proofs.Words.{bit-above}
 use Rattle.rules.proofs.Overs.{all-of, all-at, keep-held, keep-le}
 use Rattle.rules.proofs.Firsts.{first-before, first-at, first-eq, greatest-le, greatest-at}
 use Rattle.rules.proofs.Layers.{which}
@@ -28,14 +27,9 @@ use Rattle.rules.proofs.Bounds.{goal-admitted, set-bound}
 use Rattle.rules.proofs.Levels.{own-levels, answer-says, level-of}
 use Rattle.rules.proofs.Agree.{props-agree}
 use Rattle.rules.proofs.Layouts.{Built, props-in, props-in-agree, actions-in-agree}
-use Rattle.rules.proofs.Smalls.{graph-small}
 use Rattle.rules.proofs.Rests.{first-rests, before-rest}
 use Rattle.rules.proofs.Mets.{met-layer, met-agrees}
 use Rattle.rules.proofs.Plans.{PreLt, RelaxedPlan, planOf-at, plan-made}
-
--- no word of the graph of n start states has bit n or above
-pub words-small : (D : Domain) (n : ℕ) (start : ℕ → ℕ) (k i j : ℕ) → n ≤ i → bit i (getD (graphWords D n start k) j 0) ≡ false
-words-small D n start k i j l = bit-above i _ n (graph-small D n start k j) l
 
 -- in layer t of its own graph, each state of S has every goal and no two of them mutex
 abbrev pub AllAdmit : Domain → ℕ → (ℕ → ℕ) → ℕ → ℕ → ℕ → Type 0
@@ -48,23 +42,23 @@ greatestLevel D n start k set goal = greatest n (λ s. keep (bit s set) (ownLeve
 module _ (D : Domain) (n : ℕ) (start : ℕ → ℕ) (k : ℕ) (words : List ℕ) (built : Built D n start k words) (set goal : ℕ) (small : set < 2 ^ n) where
   -- ---- the level
 
-  first-met : firstMet D k set goal words
+  first-met : firstMet (shapeOf D) k set goal words
       ≡ firstBelow (suc k) (λ t. allBelow n (λ s. bit s set implies admits (D .props) (ownProps D (start s) t) goal))
   unfolding firstMet
   first-met = first-eq (suc k) _ _ (λ t h. met-agrees D n start k words built set goal small t (omega arith))
 
   -- the level of a set is the greatest of the levels that its states have by themselves
-  pub set-level : Keeps D → firstMet D k set goal words ≡ greatestLevel D n start k set goal
+  pub set-level : Keeps D → firstMet (shapeOf D) k set goal words ≡ greatestLevel D n start k set goal
   set-level K = first-met ∙ own-levels D K k goal n set start
 
   -- a set has a level exactly when each of its states has one by itself, and it is the greatest of these
   pub level-exists : Keeps D → ((s : ℕ) → s < n → So (bit s set) → ownLevel D k goal (start s) ≤ k)
-      → levelOf D k set goal words ≡ level (greatestLevel D n start k set goal)
+      → levelOf (shapeOf D) k set goal words ≡ level (greatestLevel D n start k set goal)
   level-exists K each =
       level-of D k set goal words (subst (λ (t : ℕ). t ≤ k) (sym (set-level K)) (greatest-le n _ k (λ s h. keep-le _ _ _ (each s h))))
       ∙ ap level (set-level K)
 
-  pub level-only : Keeps D → (t : ℕ) → levelOf D k set goal words ≡ level t
+  pub level-only : Keeps D → (t : ℕ) → levelOf (shapeOf D) k set goal words ≡ level t
       → (t ≤ k) × (t ≡ greatestLevel D n start k set goal) × ((s : ℕ) → s < n → So (bit s set) → ownLevel D k goal (start s) ≤ t)
   level-only K t e =
       let (l, q) = answer-says D k set goal words e in (
@@ -80,12 +74,12 @@ module _ (D : Domain) (n : ℕ) (start : ℕ → ℕ) (k : ℕ) (words : List �
       )
 
   -- at the level each state of S has the goal
-  pub level-admits : (t : ℕ) → levelOf D k set goal words ≡ level t → (t ≤ k) × AllAdmit D n start set goal t
+  pub level-admits : (t : ℕ) → levelOf (shapeOf D) k set goal words ≡ level t → (t ≤ k) × AllAdmit D n start set goal t
   unfolding firstMet
   level-admits t e =
       let (l, q) = answer-says D k set goal words e in
-      let met : So (goalMet (D .props) (propsIn D words t) set goal) =
-      rw q (first-at (suc k) (λ t. goalMet (D .props) (propsIn D words t) set goal) (omega arith)) in
+      let met : So (goalMet (D .props) (propsIn (shapeOf D) words t) set goal) =
+      rw q (first-at (suc k) (λ t. goalMet (D .props) (propsIn (shapeOf D) words t) set goal) (omega arith)) in
       (l, λ s h. implies-at _ _ (all-at _ _ (sym (met-agrees D n start k words built set goal small t l) ∙ met) s h))
 
   -- ---- no level
@@ -96,22 +90,22 @@ module _ (D : Domain) (n : ℕ) (start : ℕ → ℕ) (k : ℕ) (words : List �
       ∙ all-of _ _ (λ s h. implies-of _ _ (all s h))
 
   -- where no layer up to the depth meets the goal
-  unmet : k < firstMet D k set goal words → (u : ℕ) → u ≤ k → So (goalMet (D .props) (propLayer D n start u) set goal) → ⊥
+  unmet : k < firstMet (shapeOf D) k set goal words → (u : ℕ) → u ≤ k → So (goalMet (D .props) (propLayer D n start u) set goal) → ⊥
   unfolding firstMet
   unmet l u h t =
-      first-before (suc k) (λ t. goalMet (D .props) (propsIn D words t) set goal) u (omega arith) (rw (props-in D n start k words built u h) t)
+      first-before (suc k) (λ t. goalMet (D .props) (propsIn (shapeOf D) words t) set goal) u (omega arith) (rw (props-in D n start k words built u h) t)
 
   -- 'never': at no depth do all states of S have the goal
-  pub never-is-never : levelOf D k set goal words ≡ never → (u : ℕ) → AllAdmit D n start set goal u → ⊥
+  pub never-is-never : levelOf (shapeOf D) k set goal words ≡ never → (u : ℕ) → AllAdmit D n start set goal u → ⊥
   never-is-never e u all =
       let (l, r) = answer-says D k set goal words e in
       ⊎-elim (λ h. unmet l u h (layer-met u all))
-      (λ h. unmet l (firstRest D k words) (omega arith)
+      (λ h. unmet l (firstRest (shapeOf D) k words) (omega arith)
       (subst (λ (x : List ℕ). So (goalMet (D .props) x set goal)) (first-rests D n start k words built r u (omega arith)) (layer-met u all)))
       (which u k)
 
   -- 'not by depth': not up to the depth
-  pub not-by-depth : levelOf D k set goal words ≡ notByDepth → (u : ℕ) → u ≤ k → AllAdmit D n start set goal u → ⊥
+  pub not-by-depth : levelOf (shapeOf D) k set goal words ≡ notByDepth → (u : ℕ) → u ≤ k → AllAdmit D n start set goal u → ⊥
   not-by-depth e u h all = unmet (answer-says D k set goal words e .0) u h (layer-met u all)
 
 -- ---- the rest
@@ -123,7 +117,7 @@ RestSays D n start k (restsAt t) =
 RestSays D n start k none = (u : ℕ) → u < k → propLayer D n start u ≡ propLayer D n start (suc u) → ⊥
 
 module _ (D : Domain) (n : ℕ) (start : ℕ → ℕ) (k : ℕ) (words : List ℕ) (built : Built D n start k words) where
-  says : RestSays D n start k (restOf D k words)
+  says : RestSays D n start k (restOf (shapeOf D) k words)
   unfolding restOf
   says = ⊎-elim
       (λ h.
@@ -131,10 +125,10 @@ module _ (D : Domain) (n : ℕ) (start : ℕ → ℕ) (k : ℕ) (words : List �
       subst (RestSays D n start k) (sym (choose-held _ _ _ h))
       (l, (λ u g. before-rest D n start k words built u (omega arith) g), first-rests D n start k words built l))
       (λ f. subst (RestSays D n start k) (sym (choose-failed _ _ _ f)) (λ u g. before-rest D n start k words built u g (omega (arith, below-fails _ _ f))))
-      (holds-or (below (firstRest D k words) k))
+      (holds-or (below (firstRest (shapeOf D) k words) k))
 
   -- 'The graph rests at the first t below k'
-  pub rest-says : {r : Rest} → restOf D k words ≡ r → RestSays D n start k r
+  pub rest-says : {r : Rest} → restOf (shapeOf D) k words ≡ r → RestSays D n start k r
   rest-says e = subst (RestSays D n start k) e says
 
 -- ---- lists of actions
@@ -147,7 +141,7 @@ module _ (A : Actions) (n : ℕ) (start : ℕ → ℕ) (k : ℕ) (words : List �
   all-admit s h t = goal-admitted A n start set list ends known ran s h t goal (reach s h t)
 
   -- no list of actions that ends with the goal is shorter than the level
-  pub level-bound : (t : ℕ) → levelOf (domain A) k set goal words ≡ level t → t ≤ length list
+  pub level-bound : (t : ℕ) → levelOf (shapeOf (domain A)) k set goal words ≡ level t → t ≤ length list
   unfolding domain
   level-bound t e =
       let (l, q) = answer-says (domain A) k set goal words e in
@@ -155,11 +149,11 @@ module _ (A : Actions) (n : ℕ) (start : ℕ → ℕ) (k : ℕ) (words : List �
       (set-bound A n start set list ends known ran goal reach k)
 
   -- there is none where the answer is 'never'
-  pub never-bound : levelOf (domain A) k set goal words ≡ never → ⊥
+  pub never-bound : levelOf (shapeOf (domain A)) k set goal words ≡ never → ⊥
   never-bound e = never-is-never (domain A) n start k words built set goal small e (length list) all-admit
 
   -- and one is longer than the depth where it is 'not by depth'
-  pub depth-bound : levelOf (domain A) k set goal words ≡ notByDepth → k < length list
+  pub depth-bound : levelOf (shapeOf (domain A)) k set goal words ≡ notByDepth → k < length list
   depth-bound e = lt-of-not-le (λ h. not-by-depth (domain A) n start k words built set goal small e (length list) h all-admit)
 
 -- ---- the relaxed plan
@@ -167,16 +161,16 @@ module _ (A : Actions) (n : ℕ) (start : ℕ → ℕ) (k : ℕ) (words : List �
 -- there is a level, and a plan of as many words is answered
 abbrev WithPlan : Actions → ℕ → ℕ → ℕ → List ℕ → Type 0
 WithPlan A k set goal words =
-    (plan : List ℕ) × (levelOf (domain A) k set goal words ≡ level (length plan)) × (planOf A k set goal words ≡ planned plan)
+    (plan : List ℕ) × (levelOf (shapeOf (domain A)) k set goal words ≡ level (length plan)) × (planOf A k set goal words ≡ planned plan)
 
 -- there is no level, and that is answered
 abbrev WithoutPlan : Actions → ℕ → ℕ → ℕ → List ℕ → Type 0
-WithoutPlan A k set goal words = ((t : ℕ) → levelOf (domain A) k set goal words ≡ level t → ⊥) × (planOf A k set goal words ≡ noLevel)
+WithoutPlan A k set goal words = ((t : ℕ) → levelOf (shapeOf (domain A)) k set goal words ≡ level t → ⊥) × (planOf A k set goal words ≡ noLevel)
 
 module _ (A : Actions) (n : ℕ) (start : ℕ → ℕ) (k : ℕ) (words : List ℕ) (built : Built (domain A) n start k words) (set goal : ℕ) (small : set < 2 ^ n)
     (pre-lt : PreLt A) (goal-lt : goal < 2 ^ A .props) where
   -- where there is a level, a plan of as many words is answered, and it leads each state of S to the goal, deletes left out
-  pub plan-of : (t : ℕ) → levelOf (domain A) k set goal words ≡ level t
+  pub plan-of : (t : ℕ) → levelOf (shapeOf (domain A)) k set goal words ≡ level t
       → (plan : List ℕ) × (planOf A k set goal words ≡ planned plan) × RelaxedPlan A start n t set goal plan
   unfolding domain ownProps ownFrom ownStart admits
   plan-of t e =
@@ -189,9 +183,9 @@ module _ (A : Actions) (n : ℕ) (start : ℕ → ℕ) (k : ℕ) (words : List �
 
   by-level : WithPlan A k set goal words ⊎ WithoutPlan A k set goal words
   unfolding planOf planAt
-  by-level = go (levelOf (domain A) k set goal words) refl
+  by-level = go (levelOf (shapeOf (domain A)) k set goal words) refl
     where
-      go : (a : Level) → levelOf (domain A) k set goal words ≡ a → WithPlan A k set goal words ⊎ WithoutPlan A k set goal words
+      go : (a : Level) → levelOf (shapeOf (domain A)) k set goal words ≡ a → WithPlan A k set goal words ⊎ WithoutPlan A k set goal words
       go (level t) e = let (plan, d, r) = plan-of t e in inl (plan, e ∙ ap level (sym (r .sized)), d)
       go never e = inr ((λ t d. let z : _≡_ {A = ℕ} 0 1 = cc in omega arith), ap (planAt A set goal words) e)
       go notByDepth e = inr ((λ t d. let z : _≡_ {A = ℕ} 0 1 = cc in omega arith), ap (planAt A set goal words) e)
@@ -202,14 +196,14 @@ module _ (A : Actions) (n : ℕ) (start : ℕ → ℕ) (k : ℕ) (words : List �
       ⊎-elim (λ (plan, l, p). let z : _≡_ {A = ℕ} 0 1 = cc in omega arith) (λ (f, p). let z : _≡_ {A = ℕ} 0 1 = cc in omega arith) by-level
 
   -- 'the level, which is the number of words written'
-  pub plan-level : (plan : List ℕ) → planOf A k set goal words ≡ planned plan → levelOf (domain A) k set goal words ≡ level (length plan)
+  pub plan-level : (plan : List ℕ) → planOf A k set goal words ≡ planned plan → levelOf (shapeOf (domain A)) k set goal words ≡ level (length plan)
   plan-level plan e =
       ⊎-elim (λ (plan', l, p). let d : plan' ≡ plan = cc in l ∙ ap (λ (x : List ℕ). level (length x)) d)
       (λ (f, p). let z : _≡_ {A = ℕ} 0 1 = cc in absurd (omega arith)) by-level
 
   -- 'a plan is wanted and there is no level': exactly where there is none
-  pub no-level-of : ((t : ℕ) → levelOf (domain A) k set goal words ≡ level t → ⊥) → planOf A k set goal words ≡ noLevel
+  pub no-level-of : ((t : ℕ) → levelOf (shapeOf (domain A)) k set goal words ≡ level t → ⊥) → planOf A k set goal words ≡ noLevel
   no-level-of f = ⊎-elim (λ (plan, l, p). absurd (f (length plan) l)) (λ (g, p). p) by-level
 
-  pub no-level-at : planOf A k set goal words ≡ noLevel → (t : ℕ) → levelOf (domain A) k set goal words ≡ level t → ⊥
+  pub no-level-at : planOf A k set goal words ≡ noLevel → (t : ℕ) → levelOf (shapeOf (domain A)) k set goal words ≡ level t → ⊥
   no-level-at e = ⊎-elim (λ (plan, l, p). let z : _≡_ {A = ℕ} 0 1 = cc in absurd (omega arith)) (λ (f, p). f) by-level

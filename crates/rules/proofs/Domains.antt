@@ -7,7 +7,7 @@ use Prim.Native.Nat.{ℕ, _+_, _<_}
 use native.Mathlib.Omega.{arith}
 use Rattle.rules.specs.Test.{_or_, below, choose}
 use Rattle.rules.specs.Word.{bit, union, single}
-use Rattle.rules.specs.Domain.{Actions, persistence, needsOf, addsOf, deletesOf, breaks, domain}
+use Rattle.rules.specs.Domain.{Actions, persistence, needsOf, addsOf, deletesOf, clobbers, domain}
 use Rattle.rules.proofs.Tests.{choose-held, choose-failed, or-at, fails-of, below-of, below-at}
 use Rattle.rules.proofs.Words.{bit-union, no-bit-zero, single-only, width, meets-of, meets-no}
 use Rattle.rules.proofs.Layers.{ordered, paired-at}
@@ -55,30 +55,30 @@ module _ (A : Actions) where
 
   -- ---- interference
 
-  -- v breaks w exactly when it 'deletes something the other needs or adds'
-  pub breaks-of : (v w p : ℕ) → So (bit p (deletesOf A v)) → So (bit p (needsOf A w) or bit p (addsOf A w)) → So (breaks A v w)
-  unfolding breaks
-  breaks-of v w p d t = meets-of (deletesOf A v) (union (needsOf A w) (addsOf A w)) p d (bit-union p (needsOf A w) (addsOf A w) ∙ t)
+  -- v clobbers w exactly when it 'deletes something the other needs or adds'
+  pub clobbers-of : (v w p : ℕ) → So (bit p (deletesOf A v)) → So (bit p (needsOf A w) or bit p (addsOf A w)) → So (clobbers A v w)
+  unfolding clobbers
+  clobbers-of v w p d t = meets-of (deletesOf A v) (union (needsOf A w) (addsOf A w)) p d (bit-union p (needsOf A w) (addsOf A w) ∙ t)
 
-  pub breaks-no : (v w : ℕ) → ((p : ℕ) → So (bit p (deletesOf A v)) → So (bit p (needsOf A w) or bit p (addsOf A w)) → ⊥) → So (breaks A v w) → ⊥
-  unfolding breaks
-  breaks-no v w f t =
+  pub clobbers-no : (v w : ℕ) → ((p : ℕ) → So (bit p (deletesOf A v)) → So (bit p (needsOf A w) or bit p (addsOf A w)) → ⊥) → So (clobbers A v w) → ⊥
+  unfolding clobbers
+  clobbers-no v w f t =
       meets-no (deletesOf A v) (deletesOf A v) (union (needsOf A w) (addsOf A w)) (width (deletesOf A v))
       (λ p h d e. f p d (sym (bit-union p (needsOf A w) (addsOf A w)) ∙ e)) t
 
-  -- two vertices of which neither breaks the other
-  pub breaks-apart : (v w : ℕ) → (So (breaks A v w) → ⊥) → (So (breaks A w v) → ⊥) → Apart (domain A) v w
+  -- two vertices of which neither clobbers the other
+  pub clobbers-apart : (v w : ℕ) → (So (clobbers A v w) → ⊥) → (So (clobbers A w v) → ⊥) → Apart (domain A) v w
   unfolding domain
-  breaks-apart v w f g c =
-      ordered (λ a b. So (breaks A a b or breaks A b a) → ⊥) v w (λ t. ⊎-elim f g (or-at _ _ t)) (λ t. ⊎-elim g f (or-at _ _ t)) (paired-at _ v w c)
+  clobbers-apart v w f g c =
+      ordered (λ a b. So (clobbers A a b or clobbers A b a) → ⊥) v w (λ t. ⊎-elim f g (or-at _ _ t)) (λ t. ⊎-elim g f (or-at _ _ t)) (paired-at _ v w c)
 
-  -- a persistence breaks nothing
-  pub persistence-breaks : (p w : ℕ) → So (breaks A (persistence A p) w) → ⊥
-  persistence-breaks p w = breaks-no (persistence A p) w (λ q d e. no-bit-zero q (ap (bit q) (sym (deletes-persistence p)) ∙ d))
+  -- a persistence clobbers nothing
+  pub persistence-clobbers : (p w : ℕ) → So (clobbers A (persistence A p) w) → ⊥
+  persistence-clobbers p w = clobbers-no (persistence A p) w (λ q d e. no-bit-zero q (ap (bit q) (sym (deletes-persistence p)) ∙ d))
 
-  -- and only what deletes its proposition breaks it
-  pub breaks-persistence : (v p : ℕ) → (So (bit p (deletesOf A v)) → ⊥) → So (breaks A v (persistence A p)) → ⊥
-  breaks-persistence v p f = breaks-no v (persistence A p) (λ q d e. f (subst (λ (x : ℕ). So (bit x (deletesOf A v))) (its q e) d))
+  -- and only what deletes its proposition clobbers it
+  pub clobbers-persistence : (v p : ℕ) → (So (bit p (deletesOf A v)) → ⊥) → So (clobbers A v (persistence A p)) → ⊥
+  clobbers-persistence v p f = clobbers-no v (persistence A p) (λ q d e. f (subst (λ (x : ℕ). So (bit x (deletesOf A v))) (its q e) d))
     where
       its : (q : ℕ) → So (bit q (needsOf A (persistence A p)) or bit q (addsOf A (persistence A p))) → q ≡ p
       its q e = ⊎-elim (single-only p _ q (needs-persistence p)) (single-only p _ q (adds-persistence p)) (or-at _ _ e)
@@ -90,5 +90,5 @@ module _ (A : Actions) where
     below = persistence-below;
     needs = λ p h. needs-persistence p;
     adds = λ p h. adds-persistence p;
-    apart = λ p q h l. breaks-apart _ _ (persistence-breaks p _) (persistence-breaks q _);
+    apart = λ p q h l. clobbers-apart _ _ (persistence-clobbers p _) (persistence-clobbers q _);
   }

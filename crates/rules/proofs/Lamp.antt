@@ -9,7 +9,7 @@ use Rattle.rules.specs.Test.{_and_, _or_, _implies_, fails, same, below,
 use Rattle.rules.specs.Word.{bit, within, meets}
 use Rattle.rules.specs.Over.{keep, joinOver, meetOver, removeOver, allBelow, anyBelow, countBelow, firstBelow}
 use Rattle.rules.specs.Lists.{listOver, runOver}
-use Rattle.rules.specs.Domain.{Actions, persistence, needsOf, addsOf, deletesOf, breaks, domain}
+use Rattle.rules.specs.Domain.{Actions, shapeOf, persistence, needsOf, addsOf, deletesOf, clobbers, domain}
 use Rattle.rules.specs.Layer.{pairs, size, pairAt, rowOf, layerOf, paired, labelIn, mutexIn, stride, wordCount, propsIn, actionsIn}
 use Rattle.rules.specs.Shared.{startLabel, startLayer, needsLabel, needsApart, vertexLabel, needsMutex, vertexMutex, actionLayer, nextLabel, oneAdds}
 use Rattle.rules.specs.Shared.{twoAdd, nextMutex, nextLayer, propLayer, vertexLayer, graphWords}
@@ -64,21 +64,21 @@ pub record Figures : Type 0 where
 -- the figures, from the definitions
 unfoldable pub computed : Figures
 computed = record {
-  words = wordCount (domain lamp) 2;
-  layer-0 = propsIn (domain lamp) (built 2) 0;
-  actions-0 = actionsIn (domain lamp) (built 2) 0;
-  layer-1 = propsIn (domain lamp) (built 2) 1;
-  actions-1 = actionsIn (domain lamp) (built 2) 1;
-  layer-2 = propsIn (domain lamp) (built 2) 2;
-  lit-both = levelOf (domain lamp) 2 3 4 (built 2);
-  lit-desk = levelOf (domain lamp) 2 2 4 (built 2);
-  door-lit-2 = levelOf (domain lamp) 2 1 5 (built 2);
-  door-lit-3 = levelOf (domain lamp) 3 1 5 (built 3);
-  rest-2 = restOf (domain lamp) 2 (built 2);
-  rest-3 = restOf (domain lamp) 3 (built 3);
+  words = wordCount (shapeOf (domain lamp)) 2;
+  layer-0 = propsIn (shapeOf (domain lamp)) (built 2) 0;
+  actions-0 = actionsIn (shapeOf (domain lamp)) (built 2) 0;
+  layer-1 = propsIn (shapeOf (domain lamp)) (built 2) 1;
+  actions-1 = actionsIn (shapeOf (domain lamp)) (built 2) 1;
+  layer-2 = propsIn (shapeOf (domain lamp)) (built 2) 2;
+  lit-both = levelOf (shapeOf (domain lamp)) 2 3 4 (built 2);
+  lit-desk = levelOf (shapeOf (domain lamp)) 2 2 4 (built 2);
+  door-lit-2 = levelOf (shapeOf (domain lamp)) 2 1 5 (built 2);
+  door-lit-3 = levelOf (shapeOf (domain lamp)) 3 1 5 (built 3);
+  rest-2 = restOf (shapeOf (domain lamp)) 2 (built 2);
+  rest-3 = restOf (shapeOf (domain lamp)) 3 (built 3);
   plan = planOf lamp 2 3 4 (built 2);
   count = countIn (planOf lamp 2 3 4 (built 2));
-  desk-layer-2 = propsIn (domain lamp) (extractOf (domain lamp) 2 2 2 (built 2)) 2;
+  desk-layer-2 = propsIn (shapeOf (domain lamp)) (extractOf (shapeOf (domain lamp)) 2 2 2 (built 2)) 2;
   walk = runOf lamp 2 start 3 (0 ∷ []);
 }
 
@@ -105,7 +105,7 @@ table = record {
 
 pub lamp-table : computed ≡ table
 unfolding lamp start built computed table _and_ _or_ _implies_ fails same below choose bit within meets keep joinOver meetOver removeOver allBelow
-    anyBelow countBelow firstBelow listOver runOver persistence needsOf addsOf deletesOf breaks domain pairs size pairAt rowOf layerOf paired labelIn
+    anyBelow countBelow firstBelow listOver runOver persistence needsOf addsOf deletesOf clobbers domain pairs size pairAt rowOf layerOf paired labelIn
     mutexIn stride wordCount propsIn actionsIn startLabel startLayer needsLabel needsApart vertexLabel needsMutex vertexMutex actionLayer nextLabel
     oneAdds twoAdd nextMutex nextLayer propLayer vertexLayer graphWords goalMet firstMet layerRests firstRest restOf levelOf rank closeUp extractOf
     ready after stepped runFrom runOf takes order support coverFrom cover ground onCover descend planAt planOf planCount countIn ones

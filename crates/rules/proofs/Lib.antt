@@ -12,7 +12,7 @@ pub mod Levels
 pub mod Agree
 pub mod Layouts
 pub mod Matches
-pub mod Smalls
+pub mod NoHighBits
 pub mod Rests
 pub mod Leaks
 pub mod Extracts
@@ -21,3 +21,5 @@ pub mod Supports
 pub mod Plans
 pub mod Claims
 pub mod Lamp
+pub mod SamePlans
+pub mod SameDomains

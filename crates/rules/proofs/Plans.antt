@@ -13,7 +13,7 @@ use Rattle.rules.specs.Test.{_and_, fails, same}
 use Rattle.rules.specs.Word.{bit, within}
 use Rattle.rules.specs.Over.{keep, joinOver, allBelow}
 use Rattle.rules.specs.Lists.{listOver}
-use Rattle.rules.specs.Domain.{Domain, Actions, needsOf, addsOf, domain}
+use Rattle.rules.specs.Domain.{Domain, shapeOf, Actions, needsOf, addsOf, domain}
 use Rattle.rules.specs.Layer.{labelIn, propsIn, actionsIn}
 use Rattle.rules.specs.Own.{layerWith, ownStart, ownActions, reached, ownNext, ownFrom, ownProps}
 use Rattle.rules.specs.Level.{level, levelOf}
@@ -171,17 +171,18 @@ pub record Descended (A : Actions) (words : List ℕ) (t : ℕ) (wanted plan pla
   pub sized : length plan' ≡ t + length plan
   pub bounded : ((i : ℕ) → getD plan i 0 < 2 ^ A .count) → (i : ℕ) → getD plan' i 0 < 2 ^ A .count
   -- from a set that has what the labels of layer 0 say of the state i, the new words reach a set that has all that is wanted for i
-  pub reaches : PreLt A → (i x : ℕ) → ((p : ℕ) → p < A .props → So (bit i (labelIn (propsIn (domain A) words 0) p)) → So (bit p x))
+  pub reaches : PreLt A → (i x : ℕ) → ((p : ℕ) → p < A .props → So (bit i (labelIn (propsIn (shapeOf (domain A)) words 0) p)) → So (bit p x))
       → (y : ℕ) × (relaxedRun A plan' x ≡ relaxedRun A plan y) × ((p : ℕ) → p < A .props → So (bit i (labelIn wanted p)) → So (bit p y))
 
 module _ (A : Actions) (words : List ℕ) where
   -- one layer down, or states left uncovered at it
-  pub descend-next : (t : ℕ) (wanted plan : List ℕ) (marks : ℕ) (needed : List ℕ) → cover A (actionsIn (domain A) words t) wanted ≡ covered marks needed
+  pub descend-next : (t : ℕ) (wanted plan : List ℕ) (marks : ℕ) (needed : List ℕ)
+      → cover A (actionsIn (shapeOf (domain A)) words t) wanted ≡ covered marks needed
       → descend A words (suc t) wanted plan ≡ descend A words t needed (marks ∷ plan)
   unfolding descend onCover
   descend-next t wanted plan marks needed e = ap (λ (c : Covered). onCover c (λ marks needed. descend A words t needed (marks ∷ plan)) (stuck (suc t))) e
 
-  pub descend-stuck : (t : ℕ) (wanted plan : List ℕ) → cover A (actionsIn (domain A) words t) wanted ≡ uncovered
+  pub descend-stuck : (t : ℕ) (wanted plan : List ℕ) → cover A (actionsIn (shapeOf (domain A)) words t) wanted ≡ uncovered
       → descend A words (suc t) wanted plan ≡ stuck (suc t)
   unfolding descend onCover
   descend-stuck t wanted plan e = ap (λ (c : Covered). onCover c (λ marks needed. descend A words t needed (marks ∷ plan)) (stuck (suc t))) e
@@ -197,15 +198,15 @@ module _ (A : Actions) (words : List ℕ) where
         reaches = λ pre-lt i x f. (x, refl, λ p l t. f p l (within-at _ _ i (all-at _ _ h p l) t));
       }))
       (λ f. let z : _≡_ {A = ℕ} 0 1 = cc (choose-failed _ (planned plan) (stuck 0) f) in absurd (omega arith))
-      (holds-or (allBelow (A .props) (λ p. within (labelIn wanted p) (labelIn (propsIn (domain A) words 0) p))))
+      (holds-or (allBelow (A .props) (λ p. within (labelIn wanted p) (labelIn (propsIn (shapeOf (domain A)) words 0) p))))
 
   -- one layer, then those below it
   descended-more : (t : ℕ) (wanted plan plan' : List ℕ) (marks : ℕ) (needed : List ℕ)
-      → cover A (actionsIn (domain A) words t) wanted ≡ covered marks needed
+      → cover A (actionsIn (shapeOf (domain A)) words t) wanted ≡ covered marks needed
       → Descended A words t needed (marks ∷ plan) plan' → Descended A words (suc t) wanted plan plan'
   unfolding relaxedRun
   descended-more t wanted plan plan' marks needed e d =
-      let labels = actionsIn (domain A) words t in
+      let labels = actionsIn (shapeOf (domain A)) words t in
       record {
         sized = omega (arith, d .sized);
         bounded = λ f. d .bounded (at (cover-lt A labels wanted marks needed e) f);
@@ -225,10 +226,10 @@ module _ (A : Actions) (words : List ℕ) where
   unfolding descend
   descend-descends zero wanted plan plan' e = descended-none wanted plan plan' e
   descend-descends (suc t) wanted plan plan' e =
-      go (λ marks needed h. descend-descends t needed (marks ∷ plan) plan' h) (cover A (actionsIn (domain A) words t) wanted) refl
+      go (λ marks needed h. descend-descends t needed (marks ∷ plan) plan' h) (cover A (actionsIn (shapeOf (domain A)) words t) wanted) refl
     where
       go : ((marks : ℕ) (needed : List ℕ) → descend A words t needed (marks ∷ plan) ≡ planned plan' → Descended A words t needed (marks ∷ plan) plan')
-          → (c : Covered) → cover A (actionsIn (domain A) words t) wanted ≡ c → Descended A words (suc t) wanted plan plan'
+          → (c : Covered) → cover A (actionsIn (shapeOf (domain A)) words t) wanted ≡ c → Descended A words (suc t) wanted plan plan'
       go below (covered marks needed) d =
           descended-more t wanted plan plan' marks needed d (below marks needed (sym (descend-next t wanted plan marks needed d) ∙ e))
       go below uncovered d = let z : _≡_ {A = ℕ} 0 1 = cc (descend-stuck t wanted plan d) in absurd (omega arith)
@@ -275,7 +276,7 @@ pub record RelaxedPlan (A : Actions) (start : ℕ → ℕ) (n m set goal : ℕ) 
   pub works : (s : ℕ) → s < n → So (bit s set) → So (within goal (relaxedRun A plan (start s)))
 
 -- at the level, the plan is that of the goals
-pub planOf-at : (A : Actions) (k set goal : ℕ) (words : List ℕ) (m : ℕ) → levelOf (domain A) k set goal words ≡ level m
+pub planOf-at : (A : Actions) (k set goal : ℕ) (words : List ℕ) (m : ℕ) → levelOf (shapeOf (domain A)) k set goal words ≡ level m
     → planOf A k set goal words ≡ descend A words m (goals A set goal) []
 unfolding planOf planAt
 planOf-at A k set goal words m e = ap (planAt A set goal words) e
@@ -285,7 +286,7 @@ unfolding labelIn
 goal-bit A set goal s p h = ap (bit s) (getD-listOver (A .props) (λ p. keep (bit p goal) set) p h) ∙ bit-keep s (bit p goal) set
 
 module _ (A : Actions) (start : ℕ → ℕ) (words : List ℕ) (n m : ℕ) (pre-lt : PreLt A)
-    (start-agrees : (s p : ℕ) → s < n → p < A .props → bit s (labelIn (propsIn (domain A) words 0) p) ≡ bit p (start s)) where
+    (start-agrees : (s p : ℕ) → s < n → p < A .props → bit s (labelIn (propsIn (shapeOf (domain A)) words 0) p) ≡ bit p (start s)) where
   -- over a layer 0 that agrees, any plan that is answered works
   pub plan-works : (set goal : ℕ) → goal < 2 ^ A .props → (plan : List ℕ) → descend A words m (goals A set goal) [] ≡ planned plan
       → RelaxedPlan A start n m set goal plan
@@ -301,7 +302,7 @@ module _ (A : Actions) (start : ℕ → ℕ) (words : List ℕ) (n m : ℕ) (pre
       }
 
   module _ (actions-agree : (t s v : ℕ) → t < m → s < n → v < domain A .vertices
-      → bit s (labelIn (actionsIn (domain A) words t) v) ≡ ownActions (domain A) (ownProps (domain A) (start s) t) .has v) where
+      → bit s (labelIn (actionsIn (shapeOf (domain A)) words t) v) ≡ ownActions (domain A) (ownProps (domain A) (start s) t) .has v) where
     -- from what is there, no layer leaves a state uncovered
     descend-made : (t : ℕ) → t ≤ m → (wanted plan : List ℕ) → There A start n t wanted → (plan' : List ℕ) × (descend A words t wanted plan ≡ planned plan')
     unfolding descend ground ownProps ownFrom ownStart
@@ -312,7 +313,7 @@ module _ (A : Actions) (start : ℕ → ℕ) (words : List ℕ) (n m : ℕ) (pre
           start-agrees s p i h ∙ u))),
     )
     descend-made (suc t) l wanted plan there =
-        let labels = actionsIn (domain A) words t in
+        let labels = actionsIn (shapeOf (domain A)) words t in
         let (marks, needed, e) = cover-made A labels wanted (there-added A start labels wanted n t (λ s v h k. actions-agree t s v l h k) there) in
         let below = there-below A start labels wanted n t (λ s v h k. actions-agree t s v l h k) there marks needed e in
         let (plan', d) = descend-made t (omega arith) needed (marks ∷ plan) below in

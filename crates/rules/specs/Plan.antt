@@ -6,7 +6,7 @@ use Rattle.rules.specs.Test.{_and_, fails, same, below, choose}
 use Rattle.rules.specs.Word.{bit, common, union, without, single, within}
 use Rattle.rules.specs.Over.{keep, joinOver, allBelow}
 use Rattle.rules.specs.Lists.{listOver}
-use Rattle.rules.specs.Domain.{Actions, persistence, needsOf, addsOf, domain}
+use Rattle.rules.specs.Domain.{Actions, shapeOf, persistence, needsOf, addsOf, domain}
 use Rattle.rules.specs.Layer.{labelIn, propsIn, actionsIn}
 use Rattle.rules.specs.Level.{Level, level, never, notByDepth, levelOf}
 
@@ -61,7 +61,7 @@ pub data Planned : Type 0 where
 -- 'at layer 0 a need outside its label'
 unfoldable pub ground : Actions → List ℕ → List ℕ → List ℕ → Planned
 ground A words wanted plan =
-    choose (allBelow (A .props) (λ p. within (labelIn wanted p) (labelIn (propsIn (domain A) words 0) p))) (planned plan) (stuck 0)
+    choose (allBelow (A .props) (λ p. within (labelIn wanted p) (labelIn (propsIn (shapeOf (domain A)) words 0) p))) (planned plan) (stuck 0)
 
 unfoldable pub onCover : Covered → (ℕ → List ℕ → Planned) → Planned → Planned
 onCover (covered marks needed) go fail = go marks needed
@@ -71,7 +71,7 @@ onCover uncovered go fail = fail
 unfoldable pub descend : Actions → List ℕ → ℕ → List ℕ → List ℕ → Planned
 descend A words zero wanted plan = ground A words wanted plan
 descend A words (suc t) wanted plan =
-    onCover (cover A (actionsIn (domain A) words t) wanted) (λ marks needed. descend A words t needed (marks ∷ plan)) (stuck (suc t))
+    onCover (cover A (actionsIn (shapeOf (domain A)) words t) wanted) (λ marks needed. descend A words t needed (marks ∷ plan)) (stuck (suc t))
 
 -- 'At the level, each goal is needed for S.'
 unfoldable pub planAt : Actions → ℕ → ℕ → List ℕ → Level → Planned
@@ -80,7 +80,7 @@ planAt A set goal words never = noLevel
 planAt A set goal words notByDepth = noLevel
 
 unfoldable pub planOf : Actions → ℕ → ℕ → ℕ → List ℕ → Planned
-planOf A k set goal words = planAt A set goal words (levelOf (domain A) k set goal words)
+planOf A k set goal words = planAt A set goal words (levelOf (shapeOf (domain A)) k set goal words)
 
 -- 'The count is the number of marked bits over all words'
 unfoldable pub planCount : List ℕ → ℕ

@@ -6,13 +6,14 @@ use mathlib.Core.List.{List}
 use lib.ListN.{length}
 use Rattle.rules.specs.Run.{Ran, ended, lacks, runOf}
 use Rattle.graph.specs.Verdict.{accepted}
-use Rattle.graph.specs.File.{Taken, fileRule, actionsOf, startOf}
-use Rattle.graph.specs.Calls.{setRule, outputRule}
-use Rattle.graph.specs.declared.file.Counts.{Counts}
-use Rattle.run.specs.Run.{sequenceRule, ranVerdict, endRule, takenRule, runRule}
+use Rattle.graph.specs.Format.{actionsOf, startOf}
+use Rattle.graph.specs.File.{Taken, fileRule}
+use Rattle.graph.specs.Checks.{setRule, outputRule}
+use Rattle.graph.specs.declared.format.Counts.{Counts}
+use Rattle.run.specs.Run.{maxSteps, sequenceRule, ranVerdict, endRule, runTaken, runRule}
 use Rattle.run.specs.Course.{Known}
-use Rattle.graph.proofs.Takens.{passed-then, taken-means, set-means, output-means}
-use Rattle.run.proofs.Loops.{sequence-means}
+use Rattle.graph.proofs.Ladder.{passed-then, taken-means, set-means, output-means}
+use Rattle.run.proofs.Sequences.{sequence-means}
 
 ran-means : (r : Ran) (ends : List ℕ) → ranVerdict r ≡ accepted ends → r ≡ ended ends
 unfolding ranVerdict
@@ -27,13 +28,13 @@ pub record Accepted (file : List ℕ) (set : ℕ) (list : List ℕ) (room : ℕ)
   pub some : set ≡ 0 → ⊥
   pub small : set < 2 ^ counts .states
   pub fits : counts .states ≤ room
-  pub short : length list ≤ 65535
+  pub short : length list ≤ maxSteps
   pub known : Known (counts .actions) list
   pub ran : runOf (actionsOf file counts) (counts .states) (startOf file counts) set list ≡ ended ends
 
 pub run-accepted : (file : List ℕ) (set : ℕ) (list : List ℕ) (room : ℕ) (ends : List ℕ) → runRule file set list room ≡ accepted ends
     → Accepted file set list room ends
-unfolding runRule takenRule endRule
+unfolding runRule runTaken endRule
 run-accepted file set list room ends e =
     let (c, taken, e1) = passed-then (fileRule file) _ ends e in
     let (_, set-passed, e2) = passed-then (setRule (c .states) set) _ ends e1 in

@@ -18,8 +18,8 @@ use Rattle.rules.proofs.Overs.{all-of, all-at}
 use Rattle.rules.proofs.Words.{bit-union, bit-without, bit-zero, bit-first, ext-all, within-of, within-at}
 use Rattle.rules.proofs.Members.{meetOf-at, meetOf-of}
 use Rattle.rules.proofs.Layers.{length-listOver, getD-listOver, listOver-eq}
-use Rattle.graph.specs.Width.{propWidth}
-use Rattle.graph.proofs.Joins.{lowest-in, lowest-lt}
+use Rattle.words.specs.Width.{propWidth, stateWidth, wordWidth}
+use Rattle.words.proofs.MemberLoops.{lowest-in, lowest-lt}
 use Rattle.run.specs.Course.{Some, came, further, setsOf}
 use Rattle.run.specs.declared.step.Course.{Course}
 
@@ -39,7 +39,7 @@ not-none true = refl
 not-none false = refl
 
 -- before the first step it has what it started with
-pub came-new : (w : Course) (x : ℕ) → w .removed ≡ 0 → w .added ≡ 0 → came w x ≡ x
+came-new : (w : Course) (x : ℕ) → w .removed ≡ 0 → w .added ≡ 0 → came w x ≡ x
 came-new w x r a = ext-all _ _ (λ p.
     bit-came p w x ∙ ap₂ (λ (y z : Bool). (bit p x and fails y) or z) (ap (bit p) r ∙ bit-zero p) (ap (bit p) a ∙ bit-zero p) ∙ not-none (bit p x))
 
@@ -96,7 +96,7 @@ module _ (n : ℕ) (start : ℕ → ℕ) (set : ℕ) where
   set-in w s l t = getD-listOver n _ s l ∙ choose-held _ _ _ t
 
   -- a precondition is in every state of the set exactly when it is in what came of all that they have in common at the start
-  module _ (few : n ≤ 64) (some : Some n set) (w : Course) (sure : ℕ) (is : sure ≡ meetOf n set start (first propWidth)) where
+  module _ (few : n ≤ stateWidth) (some : Some n set) (w : Course) (sure : ℕ) (is : sure ≡ meetOf n set start (first propWidth)) where
     sure-at : (p s : ℕ) → So (bit p sure) → s < n → So (bit s set) → So (bit p (start s))
     sure-at p s t = meetOf-at p n set (first propWidth) start (sym (ap (bit p) is) ∙ t) .1 s
 
@@ -108,7 +108,8 @@ module _ (n : ℕ) (start : ℕ → ℕ) (set : ℕ) where
     kept-in p h each =
         bit-came p w sure
         ∙ or-left _ _ (and-of _ _ (sure-of p h (λ s l t. and-left _ _ (each s l t)))
-        (and-right _ _ (each (trailingZeros 64 set) (lowest-lt n set few (some .inside) (some .some)) (lowest-in n set few (some .inside) (some .some)))))
+        (and-right _ _ (each (trailingZeros wordWidth set) (lowest-lt n set few (some .inside) (some .some)) (lowest-in n set few (some .inside)
+        (some .some)))))
 
     came-all : (p : ℕ) → p < propWidth → ((s : ℕ) → s < n → So (bit s set) → So (bit p (came w (start s)))) → So (bit p (came w sure))
     came-all p h each = ⊎-elim

@@ -6,11 +6,16 @@ use Rattle.rules.specs.Test.{fails, below, choose}
 use Rattle.rules.specs.Over.{firstBelow}
 use Rattle.rules.specs.Run.{Ran, ended, lacks, runOf}
 use Rattle.graph.specs.Verdict.{Verdict, accepted, refused, turnedAway, andThen}
-use Rattle.graph.specs.File.{fileRule, actionsOf, startOf}
-use Rattle.graph.specs.Calls.{setRule, outputRule}
-use Rattle.graph.specs.declared.file.Counts.{Counts}
+use Rattle.graph.specs.Format.{actionsOf, startOf}
+use Rattle.graph.specs.File.{fileRule}
+use Rattle.graph.specs.Checks.{setRule, outputRule}
+use Rattle.graph.specs.declared.format.Counts.{Counts}
 use Rattle.run.specs.declared.RunAnswer.{RunAnswer}
 use Rattle.run.specs.declared.RunAnswer.the-variants as answer
+
+-- 'sequence over 65,535'
+abbrev pub maxSteps : ℕ
+maxSteps = 65535
 
 -- the index of the first number of the list that is A or above, and the list's length where there is none
 unfoldable pub firstUnknown : ℕ → List ℕ → ℕ
@@ -23,7 +28,7 @@ numbersRule actions list =
 
 -- 11: 'sequence over 65,535 (place 65,535), else' the former
 unfoldable pub sequenceRule : ℕ → List ℕ → Verdict (Unit {0})
-sequenceRule actions list = choose (below 65535 (length list)) (refused 11 65535) (numbersRule actions list)
+sequenceRule actions list = choose (below maxSteps (length list)) (refused 11 maxSteps) (numbersRule actions list)
 
 -- 12: 'a step lacks its precondition (step index)'
 unfoldable pub ranVerdict : Ran → Verdict (List ℕ)
@@ -35,8 +40,8 @@ unfoldable pub endRule : List ℕ → Counts → ℕ → List ℕ → Verdict (L
 endRule file c set list = ranVerdict (runOf (actionsOf file c) (c .states) (startOf file c) set list)
 
 -- of a file that was taken, with room for so many sets: 7, 10 ('run N sets'), 11, and the end
-unfoldable pub takenRule : List ℕ → Counts → ℕ → List ℕ → ℕ → Verdict (List ℕ)
-takenRule file c set list room =
+unfoldable pub runTaken : List ℕ → Counts → ℕ → List ℕ → ℕ → Verdict (List ℕ)
+runTaken file c set list room =
     andThen (setRule (c .states) set) (λ _.
     andThen (outputRule (c .states) room) (λ _.
     andThen (sequenceRule (c .actions) list) (λ _.
@@ -44,7 +49,7 @@ takenRule file c set list room =
 
 -- 'a run takes the file, S, its list and its output only': 1 to 5, then the former
 unfoldable pub runRule : List ℕ → ℕ → List ℕ → ℕ → Verdict (List ℕ)
-runRule file set list room = andThen (fileRule file) (λ c. takenRule file c set list room)
+runRule file set list room = andThen (fileRule file) (λ c. runTaken file c set list room)
 
 -- what a run's answer says: 'a run the number of sets written'
 abbrev pub runVerdict : RunAnswer → Verdict ℕ

@@ -4,19 +4,20 @@ mod step;
 use crate::step::Course;
 use crate::step::Stepped;
 use crate::step::step;
-use graph::calls::Check;
-use graph::calls::check_output;
-use graph::calls::check_set;
-use graph::file::Counts;
+use graph::checks::check_output;
+use graph::checks::check_set;
 use graph::file::FileAnswer;
 use graph::file::byte;
 use graph::file::check_file;
+use graph::format::Counts;
 use graph::read::start;
+use graph::refusal::Check;
 use graph::refusal::Refusal;
-use graph::rows::lowest;
-use graph::rows::others;
-use graph::sets::Props;
-use graph::sets::States;
+use words::members::lowest;
+use words::members::others;
+use words::sets::PROP_WIDTH;
+use words::sets::Props;
+use words::sets::States;
 ghost use mathlib.Core.Path.{_≡_};
 ghost use Prim.Native.Nat.{_≤_, _<_, max};
 ghost use lib.ListN.{length, getD};
@@ -24,13 +25,17 @@ ghost use Rattle.rules.specs.Test.{choose};
 ghost use Rattle.rules.specs.Word.{bit, first};
 ghost use Rattle.rules.specs.Over as O;
 ghost use Rattle.rules.specs.Over.{meetOf};
-ghost use Rattle.graph.specs.Width.{propWidth, stateWidth};
+ghost use Rattle.words.specs.Width.{propWidth, stateWidth};
+ghost use Rattle.words.specs.Memory.{putAt};
 ghost use Rattle.graph.specs.Verdict.{laid, written};
-ghost use Rattle.graph.specs.Memory.{putAt};
-ghost use Rattle.graph.specs.File.{Taken, startOf};
-ghost use Rattle.graph.specs.Calls.{checkVerdict};
+ghost use Rattle.graph.specs.Format.{startOf};
+ghost use Rattle.graph.specs.File.{Taken};
+ghost use Rattle.graph.specs.Checks.{checkVerdict};
 ghost use Rattle.run.specs.Course.{Known, Some, came, setsOf};
-ghost use Rattle.run.specs.Run.{numbersRule, sequenceRule, endRule, takenRule, runRule, runVerdict};
+ghost use Rattle.run.specs.Run.{numbersRule, sequenceRule, endRule, runTaken, runRule, runVerdict};
+
+// The longest list that a run takes.
+const MAX_STEPS: usize = 65535;
 
 // The number of sets written, or why the run is turned away.
 pub enum RunAnswer {
@@ -81,8 +86,8 @@ fn check_numbers(list: &[u8], actions: usize) -> Check
 fn check_sequence(list: &[u8], actions: usize) -> Check
     ensures { λ r. ⌜ checkVerdict r ≡ sequenceRule actions (now (list .entry)) ⌝ }
 {
-    if 65535 < list.len() {
-        return Check::Refused(Refusal::Sequence(65535));
+    if MAX_STEPS < list.len() {
+        return Check::Refused(Refusal::Sequence(MAX_STEPS));
     }
     check_numbers(list, actions)
 }
@@ -93,7 +98,7 @@ fn shared_start(file: &[u8], c: Counts, set: States) -> Props
     ensures { λ r. ⌜ r .0 ≡ meetOf (c .states) (set .0) (startOf (now (file .entry)) c) (first propWidth) ⌝ }
 {
     let mut left = set.0;
-    let mut met = 0xffff_ffffu32;
+    let mut met = Props::first(PROP_WIDTH).0;
     while 0 < left {
         met = met & start(file, c, lowest(left));
         left = others(left);
@@ -146,8 +151,8 @@ fn run_passed(file: &[u8], c: Counts, set: States, list: &[u8], out: &mut [u32])
 // The caller's checks over a file that was taken, then the run.
 fn run_taken(file: &[u8], c: Counts, set: States, list: &[u8], out: &mut [u32]) -> RunAnswer
     requires { ⌜ Taken (now file) c ⌝ }
-    ensures { λ r. ⌜ (runVerdict r ≡ written (takenRule (now (file .entry)) c (set .0) (now (list .entry)) (length (now (out .entry)))))
-        × (now (out .exit) ≡ laid (takenRule (now (file .entry)) c (set .0) (now (list .entry)) (length (now (out .entry)))) (now (out .entry))) ⌝ }
+    ensures { λ r. ⌜ (runVerdict r ≡ written (runTaken (now (file .entry)) c (set .0) (now (list .entry)) (length (now (out .entry)))))
+        × (now (out .exit) ≡ laid (runTaken (now (file .entry)) c (set .0) (now (list .entry)) (length (now (out .entry)))) (now (out .entry))) ⌝ }
 {
     let check = check_set(c.states, set);
     if let Check::Refused(why) = check {

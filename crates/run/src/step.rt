@@ -1,12 +1,13 @@
 // One action, carried out in every state of a set at once: it adds and deletes the same in each, so what was done is told once for all of them.
-use graph::file::Counts;
+use graph::format::Counts;
 use graph::read::added;
 use graph::read::deleted;
 use graph::read::precondition;
-use graph::sets::Props;
+use words::sets::Props;
 ghost use mathlib.Core.Path.{_≡_};
 ghost use Prim.Native.Nat.{_<_};
-ghost use Rattle.graph.specs.File.{Taken, actionsOf};
+ghost use Rattle.graph.specs.Format.{actionsOf};
+ghost use Rattle.graph.specs.File.{Taken};
 ghost use Rattle.run.specs.Course as C;
 
 // What the steps so far have done to each state of the set: of its start these are removed, and these added and still there.

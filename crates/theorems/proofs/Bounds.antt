@@ -10,16 +10,17 @@ use Rattle.rules.specs.Run.{ended, runOf}
 use Rattle.rules.proofs.Tests.{choose-failed, is-fails, below-not, below-of, same-not}
 use Rattle.rules.proofs.Claims as claims
 use Rattle.graph.specs.Verdict.{accepted}
-use Rattle.graph.specs.File.{fileRule, actionsOf, startOf}
-use Rattle.graph.specs.declared.file.Counts.{Counts}
-use Rattle.graph.proofs.Rules.{some-states, long-output}
-use Rattle.graph.proofs.Takens.{accepted-is}
+use Rattle.graph.specs.Format.{actionsOf, startOf}
+use Rattle.graph.specs.File.{fileRule}
+use Rattle.graph.specs.declared.format.Counts.{Counts}
+use Rattle.graph.proofs.Links.{some-states, long-output}
+use Rattle.graph.proofs.Ladder.{accepted-is}
+use Rattle.graph.proofs.Verdicts.{then-accepted}
 use Rattle.level.specs.Rule.{levelRule}
-use Rattle.run.specs.Run.{sequenceRule, ranVerdict, endRule, runRule}
-use Rattle.run.proofs.Loops.{none-unknown}
-use Rattle.run.proofs.Chains.{all-passed, file-taken}
+use Rattle.run.specs.Run.{maxSteps, sequenceRule, ranVerdict, endRule, runTaken, runRule}
+use Rattle.run.proofs.Sequences.{none-unknown}
 use Rattle.run.proofs.Built.{run-accepted}
-use Rattle.theorems.proofs.Setting.{Found, StatesOf, GoalOf, EndsWith, Reaches}
+use Rattle.theorems.specs.Setting.{Found, StatesOf, GoalOf, EndsWith, Reaches}
 use Rattle.theorems.proofs.Founds.{built, level-says}
 
 module _ {file : List ℕ} {c : Counts} {depth : ℕ} {found : List ℕ} (f : Found file c depth found) {set goal : ℕ} (some : StatesOf c set) (over : GoalOf c goal)
@@ -58,7 +59,7 @@ run-reaches {file} {c} taken {set} {goal} {list} {ends} room e goals =
 
 -- and the run call accepts each list that reaches the goal, if it is short enough
 module _ {file : List ℕ} {c : Counts} (taken : fileRule file ≡ accepted c) {set goal : ℕ} (some : StatesOf c set) {list : List ℕ}
-    (r : Reaches file c set goal list) (room : ℕ) (enough : c .states ≤ room) (short : length list ≤ 65535) where
+    (r : Reaches file c set goal list) (room : ℕ) (enough : c .states ≤ room) (short : length list ≤ maxSteps) where
   numbers-pass : sequenceRule (c .actions) list ≡ accepted tt
   unfolding sequenceRule
   numbers-pass =
@@ -67,9 +68,10 @@ module _ {file : List ℕ} {c : Counts} (taken : fileRule file ≡ accepted c) {
       (record { within = omega arith; is = λ k h. below-of _ _ (r .known k h) }) (omega arith))
 
   pub run-accepts : runRule file set list room ≡ accepted (r .ends)
-  unfolding endRule ranVerdict
+  unfolding runRule runTaken endRule ranVerdict
   run-accepts =
-      sym (file-taken file set list room c taken)
-      ∙ sym (all-passed file c set list room (sym (some-states (c .states) set (same-not set 0 (some .some)) (some .few)))
-      (sym (long-output (c .states) room enough)) numbers-pass)
+      then-accepted (fileRule file) _ c taken
+      ∙ then-accepted _ _ tt (sym (some-states (c .states) set (same-not set 0 (some .some)) (some .few)))
+      ∙ then-accepted _ _ tt (sym (long-output (c .states) room enough))
+      ∙ then-accepted _ _ tt numbers-pass
       ∙ ap ranVerdict (r .ran)

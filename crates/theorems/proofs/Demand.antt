@@ -8,20 +8,22 @@ use mathlib.Core.List.{List}
 use Prim.Native.Nat.{ℕ, _≤_, _<_}
 use lib.ListN.{length, getD}
 use Rattle.rules.specs.Word.{bit, single, within}
+use Rattle.rules.specs.Domain.{SameActions}
 use Rattle.rules.specs.Level.{Level, level, never, notByDepth}
+use Rattle.rules.specs.Extract.{rank}
 use Rattle.rules.specs.Plan.{relaxedRun}
-use Rattle.rules.proofs.Extracts.{OneState}
+use Rattle.rules.specs.Agreement.{OneState}
 use Rattle.graph.specs.Verdict.{accepted, refused, laid}
-use Rattle.graph.specs.File.{fileRule, actionsOf, startOf}
+use Rattle.graph.specs.Format.{actionsOf, startOf, domainOf, withCount, withStates}
+use Rattle.graph.specs.File.{fileRule}
 use Rattle.graph.specs.Build.{buildRule}
-use Rattle.graph.specs.declared.file.Counts.{Counts}
+use Rattle.graph.specs.declared.format.Counts.{Counts}
 use Rattle.level.specs.Rule.{levelRule}
-use Rattle.extract.specs.Rule.{extractRule}
-use Rattle.extract.specs.Restricted.{restricted, fewer}
-use Rattle.run.specs.Run.{runRule}
+use Rattle.extract.specs.Rule.{extractRule, statesOf}
+use Rattle.run.specs.Run.{maxSteps, runRule}
 use Rattle.plan.specs.Plan.{planRule}
 use Rattle.plan.proofs.Built.{plan-accepted}
-use Rattle.theorems.proofs.Setting.{Exactly, Found, StatesOf, GoalOf, Each, domainOf, alone, Largest, EndsWith, Reaches, SameActions}
+use Rattle.theorems.specs.Setting.{Exactly, Found, StatesOf, GoalOf, Each, alone, Largest, EndsWith, Reaches}
 use Rattle.theorems.proofs.Founds as founds
 use Rattle.theorems.proofs.Levels as levels
 use Rattle.theorems.proofs.Bounds as bounds
@@ -41,14 +43,16 @@ one-state = founds.one-state
 module _ (file : List ℕ) (c : Counts) (depth : ℕ) (found : List ℕ) (built : Found file c depth found) where
   -- ---- 1: the extracted graph
 
-  -- For S, extract gives number for number the words that the build gives for the file of the states of S only; room and memory hold a graph.
+  -- For S, extract gives number for number the words that the build gives for the file of the states of S only (withStates, statesOf); room and memory
+  -- hold a graph.
   pub extract-is-build : (set : ℕ) → StatesOf c set → (room memory : ℕ) → length (built .words) ≤ room → length (built .words) ≤ memory
-      → (words : List ℕ) × (extractRule file depth set found room ≡ accepted words) × (buildRule (restricted file c set) depth memory ≡ accepted words)
+      → (words : List ℕ) × (extractRule file depth set found room ≡ accepted words) × (buildRule (withStates file c (statesOf file c set)) depth memory
+      ≡ accepted words)
   extract-is-build set some = extracts.extract-is-build built some
 
   -- So the memory after an extract is of this setting for that file, and all that is said here holds of it.
   pub extract-leaves : (set : ℕ) → StatesOf c set → (out : List ℕ) → length (built .words) ≤ length out
-      → Found (restricted file c set) (fewer c set) depth (laid (extractRule file depth set found (length out)) out)
+      → Found (withStates file c (statesOf file c set)) (withCount c (rank set (c .states))) depth (laid (extractRule file depth set found (length out)) out)
   extract-leaves set some = extracts.extract-leaves built some
 
   -- For one state, bit 0 of every label and mutex word says what Graphplan's graph of that state says (ownProps, ownActions), and every word is below 2.
@@ -86,8 +90,8 @@ module _ (file : List ℕ) (c : Counts) (depth : ℕ) (found : List ℕ) (built 
     pub depth-bound : levelRule file depth set goal found ≡ accepted notByDepth → (list : List ℕ) → Reaches file c set goal list → depth < length list
     depth-bound e list r = bounds.depth-bound built some over r e
 
-    -- So it is with the lists that the run call accepts: of at most 65,535 numbers, with room for the sets of all states, they are exactly these.
-    pub run-exactly : (list : List ℕ) (room : ℕ) → length list ≤ 65535 → c .states ≤ room
+    -- So it is with the lists that the run call accepts: of at most 65,535 numbers (maxSteps), with room for the sets of all states, they are exactly these.
+    pub run-exactly : (list : List ℕ) (room : ℕ) → length list ≤ maxSteps → c .states ≤ room
         → Exactly (Reaches file c set goal list) ((ends : List ℕ) × (runRule file set list room ≡ accepted ends) × EndsWith set goal ends)
     run-exactly list room short enough = (
       λ r. (r .ends, bounds.run-accepts (built .taken) some r room enough short, r .goals),
@@ -98,7 +102,7 @@ module _ (file : List ℕ) (c : Counts) (depth : ℕ) (found : List ℕ) (built 
 
     -- A plan is answered only where the output has that room.
     pub plan-needs-room : (room : ℕ) (plan : List ℕ) → planRule file depth set goal found room ≡ accepted plan → depth ≤ room
-    plan-needs-room room plan e = plan-accepted file depth set goal found room plan e .output
+    plan-needs-room room plan e = plan-accepted file depth set goal found room plan e .fits
 
     module _ (room : ℕ) (enough : depth ≤ room) where
       -- A plan is answered exactly when there is a level, and has as many words.
@@ -124,20 +128,21 @@ module _ (file : List ℕ) (c : Counts) (depth : ℕ) (found : List ℕ) (built 
 
 -- Two files with the same actions, each with its own start states. Whether a level that is not there is 'never' or 'not by depth' goes by the rest of
 -- the whole graph, and is not claimed.
-module _ (file : List ℕ) (c : Counts) (file' : List ℕ) (c' : Counts) (same : SameActions file c file' c') (depth : ℕ) (found found' : List ℕ)
+module _ (file : List ℕ) (c : Counts) (file' : List ℕ) (c' : Counts) (same : SameActions (actionsOf file c) (actionsOf file' c')) (depth : ℕ)
+    (found found' : List ℕ)
     (built : Found file c depth found) (built' : Found file' c' depth found') where
   -- Bit s of every word is the same where state s is.
   pub no-leak-words : (s : ℕ) → s < c .states → s < c' .states → startOf file c s ≡ startOf file' c' s
       → (i : ℕ) → bit s (getD (built .words) i 0) ≡ bit s (getD (built' .words) i 0)
-  no-leak-words = leaks.words-same same built built'
+  no-leak-words = leaks.words-same file c file' c' same built built'
 
   -- So is the level of S, where each state of S is: for one state, S = single s.
   module _ (set : ℕ) (some : StatesOf c set) (some' : StatesOf c' set) (agree : Each set (λ s. startOf file c s ≡ startOf file' c' s))
       (goal : ℕ) (over : GoalOf c goal) where
     pub no-leak-level : (t : ℕ) → Exactly (levelRule file depth set goal found ≡ accepted (level t))
         (levelRule file' depth set goal found' ≡ accepted (level t))
-    no-leak-level = leaks.level-same same built built' some some' over agree
+    no-leak-level = leaks.level-same file c file' c' same built built' some some' over agree
 
     -- And so is its plan.
     pub no-leak-plan : (room : ℕ) → depth ≤ room → planRule file depth set goal found room ≡ planRule file' depth set goal found' room
-    no-leak-plan = leaks.plan-same same built built' some some' over agree
+    no-leak-plan = leaks.plan-same file c file' c' same built built' some some' over agree

@@ -8,24 +8,25 @@ use native.Mathlib.Omega.{arith}
 use lib.Pow.{pow-pos}
 use lib.ListN.{length, drop, length-append}
 use Rattle.rules.specs.Word.{bit, single}
-use Rattle.rules.specs.Domain.{domain}
+use Rattle.rules.specs.Domain.{shapeOf, domain}
 use Rattle.rules.specs.Layer.{wordCount}
-use Rattle.rules.specs.Shared.{graphWords}
-use Rattle.rules.specs.Level.{Level, level, levelOf}
+use Rattle.rules.specs.Level.{Level, levelOf}
 use Rattle.rules.proofs.Tests.{same-not}
 use Rattle.rules.proofs.Words.{bit-below, single-lt}
-use Rattle.rules.proofs.Layouts.{Built, built-append, length-graph}
+use Rattle.rules.proofs.Layouts.{Built, built-append}
+use Rattle.graph.specs.Limits.{maxDepth}
 use Rattle.graph.specs.Verdict.{Verdict, accepted, laid}
-use Rattle.graph.specs.File.{Taken, fileRule, actionsOf, startOf}
-use Rattle.graph.specs.Build.{buildRule}
-use Rattle.graph.specs.declared.file.Counts.{Counts}
-use Rattle.graph.proofs.Rules.{deep-enough, some-states, fit-goal, long-memory}
-use Rattle.graph.proofs.Takens.{accepted-is, taken-means}
+use Rattle.graph.specs.Format.{actionsOf, startOf, domainOf, shapeIn}
+use Rattle.graph.specs.File.{Taken, fileRule}
+use Rattle.graph.specs.Checks.{Passed, askedRule}
+use Rattle.graph.specs.Build.{graphOf, buildRule}
+use Rattle.graph.specs.declared.format.Counts.{Counts}
+use Rattle.graph.proofs.Links.{some-states, fit-goal}
+use Rattle.graph.proofs.Ladder.{accepted-is, taken-means, asked-of, graph-of}
 use Rattle.graph.proofs.Verdicts.{then-accepted}
-use Rattle.graph.proofs.Graphs.{Accepted, build-means}
-use Rattle.level.specs.Rule.{levelRule}
-use Rattle.level.proofs.Stages.{level-passed}
-use Rattle.theorems.proofs.Setting.{Found, StatesOf, GoalOf, domainOf}
+use Rattle.graph.proofs.Graphs.{Accepted, build-means, graph-long}
+use Rattle.level.specs.Rule.{levelTaken, levelRule}
+use Rattle.theorems.specs.Setting.{Found, StatesOf, GoalOf}
 
 module _ {file : List ℕ} {c : Counts} {depth : ℕ} {found : List ℕ} (f : Found file c depth found) where
   pub file-taken : Taken file c
@@ -34,19 +35,17 @@ module _ {file : List ℕ} {c : Counts} {depth : ℕ} {found : List ℕ} (f : Fo
   made : Accepted file depth (f .memory) (f .words)
   made = build-means file depth (f .memory) (f .words) (f .build)
 
-  pub deep : depth ≤ 255
-  deep = made .deep
+  pub deep : depth ≤ maxDepth
+  deep = made .passed .deep
 
   -- the words that the build wrote are those of the file's graph
-  pub are : f .words ≡ graphWords (domainOf file c) (c .states) (startOf file c) depth
-  are =
-      subst (λ (x : Counts). f .words ≡ graphWords (domainOf file x) (x .states) (startOf file x) depth) (accepted-is _ _ (sym (made .file-rule) ∙ f .taken))
-      (made .are)
+  pub are : f .words ≡ graphOf file c depth
+  are = subst (λ (x : Counts). f .words ≡ graphOf file x depth) (accepted-is _ _ (sym (made .file-rule) ∙ f .taken)) (made .are)
 
-  pub count : length (f .words) ≡ wordCount (domainOf file c) depth
-  count = ap (λ (x : List ℕ). length x) are ∙ length-graph (domainOf file c) (c .states) (startOf file c) depth
+  pub count : length (f .words) ≡ wordCount (shapeIn c) depth
+  count = ap (λ (x : List ℕ). length x) are ∙ graph-long file c depth
 
-  found-is : found ≡ graphWords (domainOf file c) (c .states) (startOf file c) depth ++ f .rest
+  found-is : found ≡ graphOf file c depth ++ f .rest
   found-is = f .begins ∙ ap (λ (x : List ℕ). x ++ f .rest) are
 
   pub built : Built (domainOf file c) (c .states) (startOf file c) depth found
@@ -54,26 +53,30 @@ module _ {file : List ℕ} {c : Counts} {depth : ℕ} {found : List ℕ} (f : Fo
       subst (Built (domainOf file c) (c .states) (startOf file c) depth) (sym found-is)
       (built-append (domainOf file c) (c .states) (startOf file c) depth (f .rest))
 
-  pub fits : wordCount (domainOf file c) depth ≤ length found
+  pub fits : wordCount (shapeIn c) depth ≤ length found
   fits = omega (
     arith,
     ap (λ (x : List ℕ). length x) found-is,
-    length-append (graphWords (domainOf file c) (c .states) (startOf file c) depth) (f .rest),
-    length-graph (domainOf file c) (c .states) (startOf file c) depth,
+    length-append (graphOf file c depth) (f .rest),
+    graph-long file c depth,
   )
 
-  -- no cause of a level holds
+  -- no cause of a call with this set and goal holds
+  pub asked-passes : (set goal : ℕ) → StatesOf c set → GoalOf c goal → Passed c depth (askedRule c set goal) (length found)
+  asked-passes set goal s g = record {
+    deep = deep;
+    fine = asked-of c set goal (sym (some-states (c .states) set (same-not set 0 (s .some)) (s .few))) (sym (fit-goal (c .props) goal g));
+    fits = fits;
+  }
+
   pub level-answer : (set goal : ℕ) → StatesOf c set → GoalOf c goal
-      → levelRule file depth set goal found ≡ accepted (levelOf (domainOf file c) depth set goal found)
-  unfolding levelRule domain actionsOf
+      → levelRule file depth set goal found ≡ accepted (levelOf (shapeOf (domainOf file c)) depth set goal found)
+  unfolding levelRule levelTaken domain actionsOf
   level-answer set goal s g =
-      then-accepted (fileRule file) _ c (f .taken)
-      ∙ sym (level-passed (domainOf file c) (c .states) depth set goal found (sym (deep-enough depth deep))
-      (sym (some-states (c .states) set (same-not set 0 (s .some)) (s .few))) (sym (fit-goal (c .props) goal g))
-      (sym (long-memory (wordCount (domainOf file c) depth) (length found) fits)))
+      then-accepted (fileRule file) _ c (f .taken) ∙ then-accepted _ _ tt (graph-of c depth _ (length found) (asked-passes set goal s g))
 
   pub level-says : (set goal : ℕ) → StatesOf c set → GoalOf c goal → (a : Level) → levelRule file depth set goal found ≡ accepted a
-      → levelOf (domainOf file c) depth set goal found ≡ a
+      → levelOf (shapeOf (domainOf file c)) depth set goal found ≡ a
   level-says set goal s g a e = accepted-is _ _ (sym (level-answer set goal s g) ∙ e)
 
 -- one state is a set of states

@@ -17,10 +17,10 @@ use Rattle.rules.proofs.Layers.{which}
 use Rattle.rules.proofs.Domains.{keeps}
 use Rattle.rules.proofs.Claims.{greatestLevel, level-exists, level-only}
 use Rattle.graph.specs.Verdict.{accepted}
-use Rattle.graph.specs.File.{actionsOf, startOf}
-use Rattle.graph.specs.declared.file.Counts.{Counts}
+use Rattle.graph.specs.Format.{actionsOf, startOf, domainOf}
+use Rattle.graph.specs.declared.format.Counts.{Counts}
 use Rattle.level.specs.Rule.{levelRule}
-use Rattle.theorems.proofs.Setting.{Exactly, Found, StatesOf, GoalOf, Each, domainOf, alone, Largest}
+use Rattle.theorems.specs.Setting.{Exactly, Found, StatesOf, GoalOf, Each, alone, Largest}
 use Rattle.theorems.proofs.Founds.{built, level-answer, level-says, is-state}
 
 -- the greatest of some numbers is one of them, or 0

@@ -7,24 +7,23 @@ use Prim.Native.Nat.{ℕ, _^_, _≤_, _<_}
 use native.Mathlib.Omega.{arith}
 use lib.ListN.{length}
 use Rattle.rules.specs.Word.{within}
-use Rattle.rules.specs.Domain.{domain}
-use Rattle.rules.specs.Layer.{wordCount}
+use Rattle.rules.specs.Domain.{shapeOf}
 use Rattle.rules.specs.Level.{level, levelOf}
 use Rattle.rules.specs.Plan.{Planned, planned, stuck, noLevel, planOf, relaxedRun}
-use Rattle.rules.proofs.Tests.{same-not}
 use Rattle.rules.proofs.Plans.{PreLt}
 use Rattle.rules.proofs.Claims.{plan-of, plan-level, never-stuck, no-level-of, no-level-at}
 use Rattle.graph.specs.Verdict.{accepted, refused}
-use Rattle.graph.specs.File.{fileRule, actionsOf, startOf}
-use Rattle.graph.specs.Calls.{depthRule, setRule, goalRule, memoryRule, outputRule}
-use Rattle.graph.specs.declared.file.Counts.{Counts}
-use Rattle.graph.proofs.Rules.{deep-enough, some-states, fit-goal, long-memory, long-output}
+use Rattle.graph.specs.Format.{actionsOf, startOf, domainOf}
+use Rattle.graph.specs.File.{fileRule}
+use Rattle.graph.specs.declared.format.Counts.{Counts}
+use Rattle.graph.proofs.Links.{long-output}
+use Rattle.graph.proofs.Ladder.{graph-of}
 use Rattle.graph.proofs.Verdicts.{then-accepted}
 use Rattle.graph.proofs.Graphs.{pre-small}
 use Rattle.level.specs.Rule.{levelRule}
-use Rattle.plan.specs.Plan.{plannedVerdict, takenRule, planRule}
-use Rattle.theorems.proofs.Setting.{Exactly, Found, StatesOf, GoalOf, Each, domainOf}
-use Rattle.theorems.proofs.Founds.{file-taken, deep, built, fits, level-answer, level-says, is-state}
+use Rattle.plan.specs.Plan.{plannedVerdict, planTaken, planRule}
+use Rattle.theorems.specs.Setting.{Exactly, Found, StatesOf, GoalOf, Each}
+use Rattle.theorems.proofs.Founds.{file-taken, built, asked-passes, level-answer, level-says, is-state}
 
 -- ---- what a plan's verdict says
 
@@ -50,14 +49,11 @@ module _ {file : List ℕ} {c : Counts} {depth : ℕ} {found : List ℕ} (f : Fo
     (room : ℕ) (enough : depth ≤ room) where
   -- no cause before 13 holds
   pub plan-answer : planRule file depth set goal found room ≡ plannedVerdict depth (planOf (actionsOf file c) depth set goal found)
-  unfolding planRule takenRule
+  unfolding planRule planTaken
   plan-answer =
       then-accepted (fileRule file) _ c (f .taken)
-      ∙ then-accepted (depthRule depth) _ tt (sym (deep-enough depth (deep f)))
-      ∙ then-accepted (setRule (c .states) set) _ tt (sym (some-states (c .states) set (same-not set 0 (some .some)) (some .few)))
-      ∙ then-accepted (goalRule (c .props) goal) _ tt (sym (fit-goal (c .props) goal over))
-      ∙ then-accepted (memoryRule (wordCount (domain (actionsOf file c)) depth) (length found)) _ tt (sym (long-memory _ (length found) (fits f)))
-      ∙ then-accepted (outputRule depth room) _ tt (sym (long-output depth room enough))
+      ∙ then-accepted _ _ tt (graph-of c depth _ (length found) (asked-passes f set goal some over))
+      ∙ then-accepted _ _ tt (sym (long-output depth room enough))
 
   small : PreLt (actionsOf file c)
   small = pre-small file c (file-taken f)
@@ -70,7 +66,8 @@ module _ {file : List ℕ} {c : Counts} {depth : ℕ} {found : List ℕ} (f : Fo
   planned-at : (plan : List ℕ) → planRule file depth set goal found room ≡ accepted plan → planOf (actionsOf file c) depth set goal found ≡ planned plan
   planned-at plan e = planned-means depth _ plan (sym plan-answer ∙ e)
 
-  level-at : (plan : List ℕ) → planRule file depth set goal found room ≡ accepted plan → levelOf (domainOf file c) depth set goal found ≡ level (length plan)
+  level-at : (plan : List ℕ) → planRule file depth set goal found room ≡ accepted plan
+      → levelOf (shapeOf (domainOf file c)) depth set goal found ≡ level (length plan)
   level-at plan e =
       plan-level (actionsOf file c) (c .states) (startOf file c) depth found (built f) set goal (some .few) small goal-lt plan (planned-at plan e)
 

@@ -36,8 +36,8 @@ use crate::show::say_cases;
 use crate::show::say_cut;
 use crate::show::say_kind_tally;
 use crate::show::say_other;
-use graph::sets::Props;
-use graph::sets::States;
+use words::sets::Props;
+use words::sets::States;
 
 // The memory that there is: words of a graph and of an extract, sets of a plan and of a run.
 const WORDS: usize = 40000;

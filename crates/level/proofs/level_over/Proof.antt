@@ -1,6 +1,6 @@
 -- The two searches decide the answer as the rule does.
 use borrow.Author.Needs.{needs}
-use Rattle.level.proofs.Stages.{level-at, level-never, level-not-by-depth}
+use Rattle.level.proofs.Answers.{level-at, level-never, level-not-by-depth}
 use Rattle.level.proofs.level_over.Statement.{statement}
 use Rattle.level.proofs.level_over.Tie as tie
 

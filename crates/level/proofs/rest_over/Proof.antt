@@ -1,6 +1,6 @@
 -- The search decides the answer as the rule does.
 use borrow.Author.Needs.{needs}
-use Rattle.level.proofs.Stages.{rest-at, rest-none}
+use Rattle.level.proofs.Answers.{rest-at, rest-none}
 use Rattle.level.proofs.rest_over.Statement.{statement}
 use Rattle.level.proofs.rest_over.Tie as tie
 

@@ -1,6 +1,6 @@
 -- The lists that were read hold the actions' sets, so the plan over them is the plan of the file's actions.
 use Rattle.plan.proofs.Answers.{equal-rule, room-counted}
-use Rattle.plan.proofs.Alike.{front-length, read-plan}
+use Rattle.plan.proofs.ReadPlans.{front-length, read-plan}
 use Rattle.plan.specs.Plan.{plannedVerdict}
 use native.Mathlib.Omega.{arith}
 use mathlib.Core.Path.{sym, ap, _∙_}
@@ -28,23 +28,15 @@ slice-aggregate-plan-over-2 c = sym (front-length
     .c .actions) _ _ _ (omega arith) (c .before .before .before .before .before .before .before .before .read-vertices .ensures .1))
 
 plan-over-requires : tie.Need-plan-over-requires
-plan-over-requires c κs = let e = front-length
-    (c .before .before .before .before .before .before .before .before .before .before .before .before .before .before .before .before .before .before
-    .before .args .c .actions) _ _ _ (omega arith) (c .before .before .before .before .before .before .before .before .before .read-vertices .ensures .0) in
-    let f = front-length (c .before .before .before .before .before .before .before .before .before .before .before .before .before .before .before .before
-    .before .before .before .args .c .actions) _ _ _ (omega arith) (c .before .before .before .before .before .before .before .before .before
-    .read-vertices .ensures .1) in (
-      room-counted _ _ e (c .before .before .before .before .before .before .before .before .before .before .before .before .before .before .before .before
-          .before .before .before .pre .0 .1),
-      omega (
-        arith,
-        e,
-        c .before .before .before .before .before .before .before .before .before .before .before .before
-            .before .before .before .before .before .before .before .pre .0 .0 .actions,
-      ),
-      f ∙ sym e,
-      c .before .before .before .before .before .before .before
-          .before .before .before .before .before .before .before .before .before .before .before .before .pre .0 .2,
+plan-over-requires c κs =
+    let start = c .before .before .before .before .before .before .before .before .before .before .before .before .before .before .before .before
+    .before .before .before in
+    let at-read = c .before .before .before .before .before .before .before .before .before in
+    let e = front-length (start .args .c .actions) _ _ _ (omega arith) (at-read .read-vertices .ensures .0) in
+    let f = front-length (start .args .c .actions) _ _ _ (omega arith) (at-read .read-vertices .ensures .1) in (
+      room-counted _ _ e (start .pre .0 .1),
+      record { few = omega (arith, e, start .pre .0 .0 .ranged .actions); alike = f ∙ sym e },
+      start .pre .0 .2,
     )
 
 same-length : tie.Need-same-length
@@ -60,13 +52,15 @@ same-length-4 : tie.Need-same-length-4
 same-length-4 c = search needs
 
 returns : tie.Need-returns
-returns c = let a = c .before .before .before .before .before .before .before .before .before .before .before .before .before .before .before .before .before
+returns c =
+    let at-read-vertices = c .before .before .before .before .before .before .before .before .before .before .before .before in
+    let a = c .before .before .before .before .before .before .before .before .before .before .before .before .before .before .before .before .before
     .before .before .before .before .before .args in
     equal-rule (a .out .now) _ _
     (ap (plannedVerdict (a .depth))
     (read-plan (a .file .now) (a .c) _ _ (a .depth) (a .set .0) (a .goal .0) (a .words .now)
-    (c .before .before .before .before .before .before .before .before .before .before .before .before .read-vertices .ensures .0)
-    (c .before .before .before .before .before .before .before .before .before .before .before .before .read-vertices .ensures .1)))
+    (at-read-vertices .read-vertices .ensures .0)
+    (at-read-vertices .read-vertices .ensures .1)))
     (c .before .before .plan-over .ensures)
 
 pub plan-in-spec : {M : Type 1} → statement M

@@ -1,12 +1,13 @@
 -- Cause 13 where no layer meets the goal; else the descent from the level.
 use Rattle.plan.proofs.Answers.{plan-refused, equal-rule, no-level, at-level, room-deep}
-use Rattle.plan.specs.Search.{listed}
+use Rattle.plan.specs.Search.{listedActions}
 use Rattle.plan.specs.Plan.{plannedVerdict}
 use Rattle.level.proofs.Parts.{fewer}
 use Rattle.rules.specs.Plan.{descend}
 use Rattle.rules.specs.Lists.{listOver}
 use Rattle.rules.specs.Over.{keep}
 use Rattle.rules.specs.Word.{bit}
+use Rattle.graph.specs.Limits.{maxDepth}
 use lib.Seq.{length-take-le}
 use lib.ListN.{replicate}
 use native.Mathlib.Nat.{le-trans, le-of-eq}
@@ -17,8 +18,8 @@ use borrow.Author.Needs.{needs}
 use Rattle.plan.proofs.plan_over.Statement.{statement}
 use Rattle.plan.proofs.plan_over.Tie as tie
 
-add-first-met : tie.Need-add-first-met
-add-first-met c = search needs
+add-t13 : tie.Need-add-t13
+add-t13 c = search needs
 
 first-met-requires : tie.Need-first-met-requires
 first-met-requires c κs = search needs
@@ -32,41 +33,47 @@ array-borrow-prefix-plan : tie.Need-array-borrow-prefix-plan
 array-borrow-prefix-plan c = search needs
 
 slice-aggregate-plan-through : tie.Need-slice-aggregate-plan-through
-slice-aggregate-plan-through c = sym (length-take-le {A = ℕ} (c .before .before .first-met .result) (replicate 255 0) (le-trans (c .before .if1 .left)
-    (c .before .before .before .before .before .before .before .pre .0 .depth)))
+slice-aggregate-plan-through c = sym (length-take-le {A = ℕ} (c .before .before .first-met .result) (replicate maxDepth 0) (le-trans (c .before .if1 .left)
+    (c .before .before .before .before .before .before .before .pre .0 .deep)))
 
 plan-through-requires : tie.Need-plan-through-requires
-plan-through-requires c κs = let l = length-take-le {A = ℕ} (c .before .before .before .first-met .result) (replicate 255 0) (le-trans
-    (c .before .before .if1 .left) (c .before .before .before .before .before .before .before .before .pre .0 .depth)) in (
-      room-deep _ l (fewer (c .before .before .before .before .before .before .before .before .pre .0) _
-          (c .before .before .if1 .left)),
-      c .before .before .before .before .before .before .before .before .pre .1,
-      c .before .before .before .before .before .before .before .before .pre .2,
-      le-trans (le-of-eq l) (le-trans (c .before .before .if1 .left) (c .before .before .before .before .before .before .before .before .pre .3)),
+plan-through-requires c κs =
+    let at-if1 = c .before .before in
+    let start = at-if1 .before .before .before .before .before .before in
+    let l = length-take-le {A = ℕ} (c .before .before .before .first-met .result) (replicate maxDepth 0) (le-trans
+    (at-if1 .if1 .left) (start .pre .0 .deep)) in (
+      room-deep _ l (fewer (start .pre .0) _
+          (at-if1 .if1 .left)),
+      start .pre .1,
+      le-trans (le-of-eq l) (le-trans (at-if1 .if1 .left) (start .pre .2)),
     )
 
 same-length : tie.Need-same-length
 same-length c = search needs
 
 returns-2 : tie.Need-returns-2
-returns-2 c = let a = c .before .before .before .before .before .before .before .before .before .before .before .before .args in
+returns-2 c =
+    let at-if1 = c .before .before .before .before .before .before in
+    let at-first-met = at-if1 .before in
+    let start = at-first-met .before .before .before .before .before in
+    let a = start .args in
     equal-rule (a .out .now) _ _
     (ap
     (λ (x : ℕ). plannedVerdict (a .depth)
-    (descend (listed (a .n) (a .needs .now) (a .adds .now)) (a .words .now) x (listOver (a .n) (λ p. keep (bit p (a .goal .0)) (a .set .0))) []))
-    (length-take-le {A = ℕ} (c .before .before .before .before .before .before .before .first-met .result) (replicate 255 0) (le-trans
-    (c .before .before .before .before .before .before .if1 .left)
-    (c .before .before .before .before .before .before .before .before .before .before .before .before .pre .0 .depth)))
+    (descend (listedActions (a .n) (a .needs .now) (a .adds .now)) (a .words .now) x (listOver (a .n) (λ p. keep (bit p (a .goal .0)) (a .set .0))) []))
+    (length-take-le {A = ℕ} (at-first-met .first-met .result) (replicate maxDepth 0) (le-trans
+    (at-if1 .if1 .left)
+    (start .pre .0 .deep)))
     ∙ ap (plannedVerdict (a .depth))
     (at-level (a .n) (a .needs .now) (a .adds .now) (a .depth) (a .set .0) (a .goal .0) (a .words .now) _
-    (c .before .before .before .before .before .before .before .first-met .ensures) (c .before .before .before .before .before .before .if1 .left)))
+    (at-first-met .first-met .ensures) (at-if1 .if1 .left)))
     (c .before .before .before .plan-through .ensures (a .depth))
 
 pub plan-over-spec : {M : Type 1} → statement M
 plan-over-spec =
     tie.close
     (tie.spec
-    add-first-met
+    add-t13
     first-met-requires
     returns
     array-borrow-prefix-plan

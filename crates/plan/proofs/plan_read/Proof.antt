@@ -1,5 +1,5 @@
 -- The memory lent has a place for each vertex.
-use Rattle.graph.proofs.Steps.{part-length}
+use lib.Seq.{length-take-le}
 use native.Mathlib.Omega.{arith}
 use mathlib.Core.Path.{sym}
 use borrow.Author.Needs.{needs}
@@ -13,51 +13,54 @@ array-borrow-prefix-needs : tie.Need-array-borrow-prefix-needs
 array-borrow-prefix-needs c = search needs
 
 slice-aggregate-plan-in : tie.Need-slice-aggregate-plan-in
-slice-aggregate-plan-in c = sym (part-length _ _ (omega
-    (arith, c .before .before .before .before .before .pre .0 .props, c .before .before .before .before .before .pre .0 .actions)))
+slice-aggregate-plan-in c =
+    let start = c .before .before .before .before .before in
+    sym (length-take-le _ _ (omega
+    (arith, start .pre .0 .ranged .props, start .pre .0 .ranged .actions)))
 
 array-borrow-prefix-adds : tie.Need-array-borrow-prefix-adds
 array-borrow-prefix-adds c = search needs
 
 slice-aggregate-plan-in-2 : tie.Need-slice-aggregate-plan-in-2
-slice-aggregate-plan-in-2 c = sym (part-length _ _ (omega
-    (arith, c .before .before .before .before .before .before .pre .0 .props, c .before .before .before .before .before .before .pre .0 .actions)))
+slice-aggregate-plan-in-2 c =
+    let start = c .before .before .before .before .before .before in
+    sym (length-take-le _ _ (omega
+    (arith, start .pre .0 .ranged .props, start .pre .0 .ranged .actions)))
 
 array-borrow-prefix-dels : tie.Need-array-borrow-prefix-dels
 array-borrow-prefix-dels c = search needs
 
 slice-aggregate-plan-in-3 : tie.Need-slice-aggregate-plan-in-3
-slice-aggregate-plan-in-3 c = sym (part-length _ _ (omega (
-  arith,
-  c .before .before .before .before .before .before .before .pre .0 .props,
-  c .before .before .before .before .before .before .before .pre .0
-      .actions,
-)))
+slice-aggregate-plan-in-3 c =
+    let start = c .before .before .before .before .before .before .before in
+    sym (length-take-le _ _ (omega (
+      arith,
+      start .pre .0 .ranged .props,
+      start .pre .0 .ranged .actions,
+    )))
 
 plan-in-requires : tie.Need-plan-in-requires
-plan-in-requires c κs = (
-  c .before .before .before .before .before .before .before .before .pre,
-  (
-    part-length _ _ (omega (
-      arith,
-      c .before .before .before .before .before .before .before .before .pre .0 .props,
-      c .before .before .before .before .before .before .before
-          .before .pre .0 .actions,
-    )),
-    part-length _ _ (omega (
-      arith,
-      c .before .before .before .before .before .before .before .before .pre .0 .props,
-      c .before .before .before .before
-          .before .before .before .before .pre .0 .actions,
-    )),
-    part-length _ _ (omega (
-      arith,
-      c .before .before .before .before .before .before .before .before .pre .0 .props,
-      c .before .before .before .before
-          .before .before .before .before .pre .0 .actions,
-    )),
-  ),
-)
+plan-in-requires c κs =
+    let start = c .before .before .before .before .before .before .before .before in (
+      start .pre,
+      (
+        length-take-le _ _ (omega (
+          arith,
+          start .pre .0 .ranged .props,
+          start .pre .0 .ranged .actions,
+        )),
+        length-take-le _ _ (omega (
+          arith,
+          start .pre .0 .ranged .props,
+          start .pre .0 .ranged .actions,
+        )),
+        length-take-le _ _ (omega (
+          arith,
+          start .pre .0 .ranged .props,
+          start .pre .0 .ranged .actions,
+        )),
+      ),
+    )
 
 same-length : tie.Need-same-length
 same-length c = search needs

@@ -16,9 +16,11 @@ same-length : tie.Need-same-length
 same-length c = search needs
 
 returns : tie.Need-returns
-returns c = λ depth.
-    plan-refused _ _ _ _ (ends-stuck depth _ _ (sym (ap (λ r. plannedAs r (c .before .before .before .before .before .plan-at .last .1 .1 .1 .1 .1 .1 .0))
-    (c .before .got .given .1)) ∙ c .before .before .before .before .before .plan-at .ensures))
+returns c =
+    let at-plan-at = c .before .before .before .before .before in
+    λ depth.
+    plan-refused _ _ _ _ (ends-stuck depth _ _ (sym (ap (λ r. plannedAs r (at-plan-at .plan-at .last .1 .1 .1 .1 .1 .1 .0))
+    (c .before .got .given .1)) ∙ at-plan-at .plan-at .ensures))
 
 enum-told : tie.Need-enum-told
 enum-told c = search needs
@@ -36,13 +38,15 @@ same-length-3 : tie.Need-same-length-3
 same-length-3 c = search needs
 
 returns-2 : tie.Need-returns-2
-returns-2 c = λ depth.
-    plan-given _ (c .before .before .before .before .before .before .before .before .before .before .before .plan-at .last .1 .1 .1 .1 .1 .1 .0) _ _ _
-    (ends-whole depth _ (c .before .before .before .before .before .before .before .before .before .before .before .plan-at .last .1 .1 .1 .1 .1 .1 .0)
+returns-2 c =
+    let at-plan-at = c .before .before .before .before .before .before .before .before .before .before .before in
+    λ depth.
+    plan-given _ (at-plan-at .plan-at .last .1 .1 .1 .1 .1 .1 .0) _ _ _
+    (ends-whole depth _ (at-plan-at .plan-at .last .1 .1 .1 .1 .1 .1 .0)
     (sym (ap (λ r. plannedAs r
-    (c .before .before .before .before .before .before .before .before .before .before .before .plan-at .last .1 .1 .1 .1 .1 .1 .0))
+    (at-plan-at .plan-at .last .1 .1 .1 .1 .1 .1 .0))
     (c .before .before .before .before .before .before .before .enum-told .given .1))
-    ∙ c .before .before .before .before .before .before .before .before .before .before .before .plan-at .ensures))
+    ∙ at-plan-at .plan-at .ensures))
     (c .count .ensures) (c .before .before .before .before .copy .ensures)
 
 pub plan-through-spec : {M : Type 1} → statement M

@@ -2,7 +2,7 @@
 use Rattle.graph.specs.File.{fileVerdict}
 use Rattle.graph.proofs.Verdicts.{told}
 use Rattle.report.proofs.Texts.{wrote-same}
-use Rattle.report.proofs.Finals.{text-taken, text-refused}
+use Rattle.report.proofs.FileTexts.{text-taken, text-refused}
 use borrow.Author.Needs.{needs}
 use Rattle.report.proofs.file_text.Statement.{statement}
 use Rattle.report.proofs.file_text.Tie as tie

@@ -1,5 +1,5 @@
 -- `check_numbers` meets its contract: where the greatest number is known, all are, and else the first that is not is looked for.
-use Rattle.run.proofs.Loops.{all-known}
+use Rattle.run.proofs.Sequences.{all-known}
 use native.Mathlib.Omega.{arith}
 use borrow.Author.Needs.{needs}
 use Rattle.run.proofs.check_numbers.Statement.{statement}

@@ -1,5 +1,5 @@
 -- `find_unknown` meets its contract: every number so far is known, and the first that is not is answered.
-use Rattle.run.proofs.Loops.{Holds, hold-none, hold-more, unknown-found, none-unknown}
+use Rattle.run.proofs.Sequences.{Holds, hold-none, hold-more, unknown-found, none-unknown}
 use Rattle.rules.proofs.Tests.{below-of}
 use Rattle.rules.specs.Test.{below}
 use lib.ListN.{length, getD}

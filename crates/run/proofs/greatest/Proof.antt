@@ -1,5 +1,5 @@
 -- `greatest` meets its contract: the loop has the greatest of the numbers so far.
-use Rattle.run.proofs.Loops.{Most, most-none, most-more, most-done}
+use Rattle.run.proofs.Sequences.{Most, most-none, most-more, most-done}
 use lib.ListN.{length}
 use native.Mathlib.Omega.{arith}
 use Prim.Native.Nat.{_-_}

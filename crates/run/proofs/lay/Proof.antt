@@ -1,6 +1,6 @@
 -- `lay` meets its contract: the loop writes one set after the other.
-use Rattle.graph.proofs.Writes.{Lists, list-none, list-more, list-done}
-use Rattle.graph.specs.File.{startOf}
+use Rattle.words.proofs.Writes.{Lists, list-none, list-more, list-done}
+use Rattle.graph.specs.Format.{startOf}
 use Rattle.rules.specs.Word.{bit}
 use Rattle.rules.specs.Test.{choose}
 use Rattle.run.specs.Course.{came, setsOf}

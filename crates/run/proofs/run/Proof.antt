@@ -1,9 +1,9 @@
 -- `run` meets its contract: a file that is turned away turns the run away, and one that is taken goes on to the other checks.
-use Rattle.run.proofs.Chains.{file-away, file-taken}
-use Rattle.graph.proofs.Takens.{taken-means}
-use Rattle.graph.proofs.Verdicts.{laid-refused, same-rule}
+use Rattle.run.specs.Run.{runRule}
+use Rattle.graph.proofs.Ladder.{taken-means}
+use Rattle.graph.proofs.Verdicts.{told, then-refused, then-accepted, laid-refused, same-rule}
 use Rattle.graph.specs.File.{fileVerdict}
-use mathlib.Core.Path.{sym, ap, _∙_}
+use mathlib.Core.Path.{sym}
 use borrow.Author.Needs.{needs}
 use Rattle.run.proofs.run.Statement.{statement}
 use Rattle.run.proofs.run.Tie as tie
@@ -15,8 +15,7 @@ enum-known-taken : tie.Need-enum-known-taken
 enum-known-taken c = search needs
 
 run-taken-requires : tie.Need-run-taken-requires
-run-taken-requires c κs = let told = c .before .before in
-    taken-means _ _ (sym (told .before .before .check-file .ensures) ∙ ap fileVerdict (told .taken .given .1))
+run-taken-requires c κs = taken-means _ _ (told fileVerdict (c .before .before .before .before .check-file .ensures) (c .before .before .taken .given .1))
 
 enum-known-taken-2 : tie.Need-enum-known-taken-2
 enum-known-taken-2 c = search needs
@@ -25,14 +24,15 @@ same-length : tie.Need-same-length
 same-length c = search needs
 
 returns : tie.Need-returns
-returns c = let told = c .before .before .before .before .before in
-    same-rule (told .before .before .before .before .before .before .args .out .now) _ _
-    (file-taken _ _ _ _ _ (sym (told .before .before .check-file .ensures) ∙ ap fileVerdict (told .taken .given .1)))
+unfolding runRule
+returns c =
+    let at-file = c .before .before .before .before .before in
+    same-rule _ _ _ (sym (then-accepted _ _ _ (told fileVerdict (at-file .before .before .check-file .ensures) (at-file .taken .given .1))))
     (c .before .before .run-taken .ensures)
 
 returns-2 : tie.Need-returns-2
-returns-2 c = laid-refused _ _ _ _
-    (file-away _ _ _ _ (sym (c .before .before .before .check-file .ensures) ∙ ap fileVerdict (c .before .taken2 .given .1)))
+unfolding runRule
+returns-2 c = laid-refused _ _ _ _ (then-refused _ _ _ _ (told fileVerdict (c .before .before .before .check-file .ensures) (c .before .taken2 .given .1)))
 
 pub run-spec : {M : Type 1} → statement M
 run-spec =

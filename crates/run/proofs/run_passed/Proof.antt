@@ -1,14 +1,15 @@
 -- `run_passed` meets its contract: what is left of the run is always the run of the rest of the list from what the steps so far have made of the
 -- states, and nothing is written before the list has ended.
-use Rattle.run.specs.Run.{endRule}
+use Rattle.run.specs.Run.{ranVerdict, endRule}
+use Rattle.graph.proofs.Verdicts.{laid-refused, laid-accepted}
 use Rattle.run.proofs.Courses.{sets-length}
-use Rattle.run.proofs.Goes.{Going, go-none, go-more, go-off, go-done, pre-small, lacked, ended-with}
-use Rattle.graph.specs.File.{actionsOf, startOf}
+use Rattle.run.proofs.Steps.{Going, go-none, go-more, go-off, go-done, pre-fits}
+use Rattle.graph.specs.Format.{actionsOf, startOf}
 use lib.ListN.{length}
 use borrow.Author.Needs.{needs as simple}
 use native.Mathlib.Omega.{arith}
 use Prim.Native.Nat.{_-_}
-use mathlib.Core.Path.{sym, _∙_}
+use mathlib.Core.Path.{sym, ap, _∙_}
 use Rattle.run.proofs.run_passed.Statement.{statement}
 use Rattle.run.proofs.run_passed.Tie as tie
 
@@ -41,15 +42,17 @@ enum-told : tie.Need-enum-told Inv-loop μ-loop
 enum-told c = search simple
 
 returns : tie.Need-returns Inv-loop μ-loop
-unfolding endRule
-returns c = let test = c .before .before .before .before in
+unfolding endRule ranVerdict
+returns c =
+    let at-before = c .before .before .before in
+    let test = at-before .before in
     let s = test .before .before .before .before .before .before .before in
     let p = s .pre in
-    let r = c .before .before .before .byte in
-    lacked _ (s .args .out .now)
-    (go-off (p .0 .states) (p .1) (test .before .before .before .shared-start .ensures) (r .result) (test .before .loop .inv) (test .loop-test .taken)
-    (r .ensures .0) (pre-small _ _ _ (p .0) (omega (arith, r .ensures .0, p .2 (test .before .loop .i) (test .loop-test .taken))))
-    (sym (c .enum-told .given .1) ∙ c .before .before .step .ensures))
+    let r = at-before .byte in
+    laid-refused _ _ _ _ (ap ranVerdict (sym (go-off (p .0 .ranged .states) (p .1) (test .before .before .before .shared-start .ensures) (r .result)
+    (test .before .loop .inv) (test .loop-test .taken)
+    (r .ensures .0) (pre-fits _ _ _ (p .0) (omega (arith, r .ensures .0, p .2 (test .before .loop .i) (test .loop-test .taken))))
+    (sym (c .enum-told .given .1) ∙ c .before .before .step .ensures))))
 
 add-i : tie.Need-add-i Inv-loop μ-loop
 add-i c = omega arith
@@ -58,11 +61,13 @@ loop-less : tie.Need-loop-less Inv-loop μ-loop
 loop-less c = omega arith
 
 loop-again : tie.Need-loop-again Inv-loop μ-loop
-loop-again c = let test = c .before .before .before .before .before in
+loop-again c =
+    let at-before = c .before .before .before .before in
+    let test = at-before .before in
     let p = test .before .before .before .before .before .before .before .pre in
-    let r = c .before .before .before .before .byte in
-    go-more (p .0 .states) (p .1) (test .before .before .before .shared-start .ensures) (r .result) (test .before .loop .inv) (test .loop-test .taken)
-    (r .ensures .0) (pre-small _ _ _ (p .0) (omega (arith, r .ensures .0, p .2 (test .before .loop .i) (test .loop-test .taken))))
+    let r = at-before .byte in
+    go-more (p .0 .ranged .states) (p .1) (test .before .before .before .shared-start .ensures) (r .result) (test .before .loop .inv) (test .loop-test .taken)
+    (r .ensures .0) (pre-fits _ _ _ (p .0) (omega (arith, r .ensures .0, p .2 (test .before .loop .i) (test .loop-test .taken))))
     (sym (c .before .did .given .1) ∙ c .before .before .before .step .ensures)
 
 lay-requires : tie.Need-lay-requires Inv-loop μ-loop
@@ -72,10 +77,10 @@ same-length : tie.Need-same-length Inv-loop μ-loop
 same-length c = search simple
 
 returns-2 : tie.Need-returns-2 Inv-loop μ-loop
-unfolding endRule
-returns-2 c = let a = c .before .before .before .before .before .before .before .before .before .before .before .args in
-    ended-with _ (a .out .now) _
-    (go-done (c .before .before .before .before .before .loop .inv) (omega arith)) (sets-length _ _ _ _) (c .before .before .lay .ensures)
+unfolding endRule ranVerdict
+returns-2 c =
+    laid-accepted _ _ _ _ _ (ap ranVerdict (sym (go-done (c .before .before .before .before .before .loop .inv) (omega arith))))
+    (sym (sets-length _ _ _ _)) (c .before .before .lay .ensures)
 
 pub run-passed-spec : {M : Type 1} → statement M
 run-passed-spec =

@@ -4,9 +4,9 @@ use Prim.Native.Nat.{_-_}
 use native.Mathlib.Omega.{arith}
 use lib.ListN.{length}
 use Rattle.rules.proofs.Layers.{length-listOver}
-use Rattle.graph.specs.Width.{stateWidth}
-use Rattle.extract.specs.Moves.{moving}
-use Rattle.extract.proofs.Loops.{Closes, close-none, close-more, close-done, shift-lt}
+use Rattle.words.specs.Width.{stateWidth}
+use Rattle.extract.specs.Moves.{mostMoves, moving, masksOf}
+use Rattle.extract.proofs.MoveLoops.{Closes, close-none, close-more, close-done, shift-lt}
 use Rattle.extract.proofs.close.close_up.Statement.{statement}
 use Rattle.extract.proofs.close.close_up.Tie as tie
 
@@ -23,9 +23,10 @@ mul-going : tie.Need-mul-going Inv-loop μ-loop
 mul-going c = omega (arith, c .before .before .before .pre .1 .few)
 
 shared-slice-read-going : tie.Need-shared-slice-read-going Inv-loop μ-loop
+unfolding masksOf
 shared-slice-read-going c =
     let s = c .before .before .before .before in
-    omega (arith, s .pre .1 .few, ap length (s .pre .0), length-listOver 6 (moving stateWidth (s .args .set .0)))
+    omega (arith, s .pre .1 .few, ap length (s .pre .0), length-listOver mostMoves (moving stateWidth (s .args .set .0)))
 
 shl-word : tie.Need-shl-word Inv-loop μ-loop
 shl-word c = omega (arith, c .before .before .before .before .pre .1 .few)

@@ -1,7 +1,7 @@
 -- The loop writes one word after the other, each closed up.
-use Rattle.graph.proofs.Writes.{Lists, list-none, list-more, list-done}
+use Rattle.words.proofs.Writes.{Lists, list-none, list-more, list-done}
 use Rattle.extract.specs.Moves.{cutWords}
-use Rattle.graph.specs.Width.{stateWidth}
+use Rattle.words.specs.Width.{stateWidth}
 use Rattle.rules.specs.Extract.{closeUp}
 use lib.ListN.{getD}
 use native.Mathlib.Omega.{arith}
@@ -27,7 +27,9 @@ shared-slice-read-close-up : tie.Need-shared-slice-read-close-up Inv-loop μ-loo
 shared-slice-read-close-up c = omega arith
 
 close-up-requires : tie.Need-close-up-requires Inv-loop μ-loop
-close-up-requires c κs = (c .before .before .before .before .before .before .pre .0, c .before .before .before .before .before .before .pre .1)
+close-up-requires c κs =
+    let start = c .before .before .before .before .before .before in
+    (start .pre .0 .are, start .pre .1)
 
 mul-out : tie.Need-mul-out Inv-loop μ-loop
 mul-out c = omega arith

@@ -2,7 +2,7 @@
 use borrow.Author.Needs.{needs}
 use native.Mathlib.Omega.{arith}
 use Rattle.extract.proofs.Moves.{gaps-lt}
-use Rattle.extract.proofs.Loops.{Gapped, gap-none, gap-more, gap-done, next-under, next-lt}
+use Rattle.extract.proofs.MoveLoops.{Gapped, gap-none, gap-more, gap-done, next-under, next-lt}
 use Rattle.extract.proofs.close.gaps.Statement.{statement}
 use Rattle.extract.proofs.close.gaps.Tie as tie
 

@@ -1,7 +1,7 @@
 -- The loop takes one state of the set after the other, counts those that lie below, and joins where it stands if it goes down.
 use borrow.Author.Needs.{needs}
 use native.Mathlib.Omega.{arith}
-use Rattle.extract.proofs.Loops.{Masked, mask-none, mask-more, mask-done, next-under, next-lt}
+use Rattle.extract.proofs.MoveLoops.{Masked, mask-none, mask-more, mask-done, next-under, next-lt}
 use Rattle.extract.proofs.close.move_mask.Statement.{statement}
 use Rattle.extract.proofs.close.move_mask.Tie as tie
 

@@ -1,7 +1,7 @@
 -- A state that has not this much to go stays; one that has stands at its place.
 use borrow.Author.Needs.{needs}
 use native.Mathlib.Omega.{arith}
-use Rattle.extract.proofs.Loops.{moves-not, moves-now, shift-some, left-le}
+use Rattle.extract.proofs.MoveLoops.{moves-not, moves-now, shift-some, left-le}
 use Rattle.extract.proofs.close.moving_at.Statement.{statement}
 use Rattle.extract.proofs.close.moving_at.Tie as tie
 

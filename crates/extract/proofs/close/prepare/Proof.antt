@@ -1,7 +1,7 @@
 -- The loop writes one mask after the other.
-use Rattle.extract.specs.Moves.{moving}
-use Rattle.graph.proofs.Writes.{Lists, list-none, list-more, list-whole}
-use Rattle.graph.specs.Width.{stateWidth}
+use Rattle.extract.specs.Moves.{mostMoves, moving, masksOf}
+use Rattle.words.proofs.Writes.{Lists, list-none, list-more, list-whole}
+use Rattle.words.specs.Width.{stateWidth}
 use native.Mathlib.Omega.{arith}
 use native.Mathlib.Nat.{zero-add}
 use Prim.Native.Nat.{_-_}
@@ -10,10 +10,10 @@ use Rattle.extract.proofs.close.prepare.Statement.{statement}
 use Rattle.extract.proofs.close.prepare.Tie as tie
 
 abbrev Inv-loop : tie.InvT-loop
-Inv-loop set wide masks₀ i₀ masks i = Lists (moving stateWidth (set .0)) 0 6 masks₀ i masks
+Inv-loop set wide masks₀ i₀ masks i = Lists (moving stateWidth (set .0)) 0 mostMoves masks₀ i masks
 
 abbrev μ-loop : tie.MeasureT-loop
-μ-loop set wide masks₀ i₀ masks i = 6 - i
+μ-loop set wide masks₀ i₀ masks i = mostMoves - i
 
 loop-holds : tie.Need-loop-holds Inv-loop μ-loop
 loop-holds c = list-none (omega arith)
@@ -40,6 +40,7 @@ same-length : tie.Need-same-length Inv-loop μ-loop
 same-length c = c .before .loop .inv .long
 
 returns : tie.Need-returns Inv-loop μ-loop
+unfolding masksOf
 returns c = list-whole (c .before .loop .inv) (omega arith) (c .before .before .before .pre .0)
 
 pub prepare-spec : {M : Type 1} → statement M

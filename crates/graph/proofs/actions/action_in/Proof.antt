@@ -7,10 +7,11 @@ use Rattle.rules.specs.Shared.{vertexLabel}
 use Rattle.rules.specs.Lists.{listOver}
 use Rattle.rules.specs.Layer.{size}
 use Rattle.rules.proofs.Layers.{labels-in, length-listOver}
-use Rattle.graph.specs.Memory.{putAt}
+use Rattle.words.specs.Memory.{putAt}
 use Rattle.graph.specs.Listed.{pairWord, layerOver}
-use Rattle.graph.proofs.Steps.{part-length, layer-put}
-use Rattle.graph.proofs.Cells.{rows-from, rows-stay}
+use Rattle.graph.proofs.LayerPuts.{layer-put}
+use Rattle.graph.proofs.LayerWords.{rows-from, rows-stay}
+use lib.Seq.{length-take-le}
 use borrow.Author.Needs.{needs}
 use Rattle.graph.proofs.actions.action_in.Statement.{statement}
 use Rattle.graph.proofs.actions.action_in.Tie as tie
@@ -22,14 +23,14 @@ slice-reshare-prefix-mutex-table : tie.Need-slice-reshare-prefix-mutex-table
 slice-reshare-prefix-mutex-table c = search needs
 
 slice-aggregate-mutex-table : tie.Need-slice-aggregate-mutex-table
-slice-aggregate-mutex-table c = sym (part-length _ _ (omega arith))
+slice-aggregate-mutex-table c = sym (length-take-le _ _ (omega arith))
 
 mutex-table-requires : tie.Need-mutex-table-requires
 mutex-table-requires c κs = (
   omega arith,
   omega (
     arith,
-    part-length (c .before .before .layer-size .result)
+    length-take-le (c .before .before .layer-size .result)
         (c .before .before .before .before .before .before .before .before .args .words .now) (omega arith),
   ),
   search needs,
@@ -39,15 +40,17 @@ need-table-requires : tie.Need-need-table-requires
 need-table-requires c κs = search needs
 
 action-labels-requires : tie.Need-action-labels-requires
-action-labels-requires c κs = let a = c .before .before .before .before .before .before .before .before .before .before .before .before .before .before
+action-labels-requires c κs =
+    let at-layer-size = c .before .before .before .before .before .before .before .before .before .before .before .before in
+    let a = c .before .before .before .before .before .before .before .before .before .before .before .before .before .before
     .before .before .before .before in (
       search needs,
-      c .before .before .before .before .before .before .before .before .before .before .before .before .layer-size .ensures .0,
+      at-layer-size .layer-size .ensures .0,
       omega (
         arith,
         labels-in (length
             (a .args .needs .now)),
-        c .before .before .before .before .before .before .before .before .before .before .before .before .layer-size .ensures .0,
+        at-layer-size .layer-size .ensures .0,
       ),
       search needs,
       a .pre .0 .need-sets,
@@ -56,22 +59,22 @@ action-labels-requires c κs = let a = c .before .before .before .before .before
     )
 
 action-pairs-requires : tie.Need-action-pairs-requires
-action-pairs-requires c κs = let a = c .before .before .before .before .before .before .before .before .before .before .before .before .before .before
+action-pairs-requires c κs =
+    let at-layer-size = c .before .before .before .before .before .before .before .before .before .before .before .before .before .before .before
+    .before .before in
+    let a = c .before .before .before .before .before .before .before .before .before .before .before .before .before .before
     .before .before .before .before .before .before .before .before .before in
-    let at = c .before .before .before .before .before .before .before .before .before .before .before .before .before .before .before .before .before
-    .layer-size .result in
+    let at = at-layer-size .layer-size .result in
     let label : ℕ → ℕ = λ v. vertexLabel (a .args .n) (a .args .all) (take at (a .args .words .now)) (getD (a .args .needs .now) v 0) in (
       a .pre .0,
-      c .before .before .before .before .before .before .before .before .before .before .before .before .before .before .before .before .before
-          .layer-size .ensures .0,
+      at-layer-size .layer-size .ensures .0,
       rows-stay (a .args .n) at (a .args .needs .now) _ (a .args .words .now) _ (listOver (length (a .args .needs .now)) label)
           (omega (
             arith,
             labels-in (length (a .args .needs .now)),
             length-listOver (length
                 (a .args .needs .now)) label,
-            c .before .before .before .before .before .before .before .before .before .before .before .before .before .before .before
-                .before .before .layer-size .ensures .0,
+            at-layer-size .layer-size .ensures .0,
           ))
           (c .before .before .before .before .action-labels .ensures)
           (rows-from (a .args .n) (take at (a .args .words .now)) (a .args .needs .now) _ _
@@ -91,21 +94,20 @@ same-length-3 c = search needs
 
 returns : tie.Need-returns
 unfolding layerOver pairWord
-returns c = let a = c .before .before .before .before .before .before .before .before .before .before .before .before .before .before .before .before
+returns c =
+    let at-layer-size = c .before .before .before .before .before .before .before .before .before .before .before .before .before .before .before
+    .before .before .before .before .before in
+    let a = c .before .before .before .before .before .before .before .before .before .before .before .before .before .before .before .before
     .before .before .before .before .before .before .before .before .before .before .args in
-    let at : c .before .before .before .before .before .before .before .before .before .before .before .before .before .before .before .before .before
-    .before .before .before .layer-size .result ≡ size
-    (a .n) = c .before .before .before .before .before .before .before .before .before .before .before .before .before .before .before .before .before
-    .before .before .before .layer-size .ensures .0 in
-    layer-put (pairWord (a .n) (a .needs .now) (a .foes .now)) (length (a .needs .now))
-    (c .before .before .before .before .before .before .before .before .before .before .before .before .before .before .before .before .before .before
-    .before .before .layer-size .result)
+    let at : at-layer-size .layer-size .result ≡ size
+    (a .n) = at-layer-size .layer-size .ensures .0 in
+    layer-put (pairWord (a .n) (a .needs .now) (a .interfering .now)) (length (a .needs .now))
+    (at-layer-size .layer-size .result)
     (λ v. vertexLabel (a .n) (a .all) (take
-    (c .before .before .before .before .before .before .before .before .before .before .before .before .before .before .before .before .before .before
-    .before .before .layer-size .result) (a .words .now)) (getD (a .needs .now) v 0))
+    (at-layer-size .layer-size .result) (a .words .now)) (getD (a .needs .now) v 0))
     (a .words .now) _ _ (omega arith) (c .before .before .before .before .before .before .before .action-labels .ensures)
     (c .before .before .action-pairs .ensures)
-    ∙ ap (λ (x : ℕ). putAt x (layerOver (a .n) (a .all) (a .needs .now) (a .foes .now) (take x (a .words .now))) (a .words .now)) at
+    ∙ ap (λ (x : ℕ). putAt x (layerOver (a .n) (a .all) (a .needs .now) (a .interfering .now) (take x (a .words .now))) (a .words .now)) at
 
 pub action-in-spec : {M : Type 1} → statement M
 action-in-spec =

@@ -10,12 +10,13 @@ use Rattle.rules.proofs.Layers.{labels-in}
 use Rattle.rules.specs.Word.{without}
 use Rattle.rules.specs.Over.{joinOf, meetOf}
 use Rattle.rules.specs.Shared.{vertexLabel}
-use Rattle.graph.specs.Rows.{needRows}
-use Rattle.graph.proofs.Places.{small}
-use Rattle.graph.proofs.Steps.{part-length}
-use Rattle.graph.proofs.Writes.{Lists, list-none, list-more, list-done, list-front}
-use Rattle.graph.proofs.Joins.{row-fits}
-use Rattle.graph.proofs.Cells.{mid-length, rows-length, label-here}
+use Rattle.graph.specs.Listed.{needRows}
+use Rattle.words.proofs.Places.{small}
+use lib.Seq.{length-take-le}
+use Rattle.words.proofs.Writes.{Lists, list-none, list-more, list-done, list-front}
+use Rattle.words.proofs.MemberLoops.{row-fits}
+use Rattle.words.proofs.Cells.{mid-length}
+use Rattle.graph.proofs.LayerWords.{rows-length, label-here}
 use Rattle.graph.proofs.actions.action_labels.Statement.{statement}
 use Rattle.graph.proofs.actions.action_labels.Tie as tie
 
@@ -38,7 +39,7 @@ slice-reshare-prefix-vertex-label : tie.Need-slice-reshare-prefix-vertex-label I
 slice-reshare-prefix-vertex-label c = omega (arith, labels-in (c .before .before .before .before .before .args .n), c .before .loop .inv .long)
 
 slice-aggregate-vertex-label : tie.Need-slice-aggregate-vertex-label Inv-loop μ-loop
-slice-aggregate-vertex-label c = sym (part-length _ _ (omega (
+slice-aggregate-vertex-label c = sym (length-take-le _ _ (omega (
   arith,
   labels-in
       (c .before .before .before .before .before .before .args .n),
@@ -59,21 +60,23 @@ part-vertex-label-start : tie.Need-part-vertex-label-start Inv-loop μ-loop
 part-vertex-label-start c = omega arith
 
 part-vertex-label-end : tie.Need-part-vertex-label-end Inv-loop μ-loop
-part-vertex-label-end c = omega (
-  arith,
-  row-fits (c .before .before .loop .v) (length (c .before .before .before .before .before .before .args .needs .now))
-      (c .before .before .before .before .before .before .args .n) (length (c .before .before .before .before .before .before .args .rows .now)) (omega arith)
-      (omega (
-        arith,
-        rows-length (c .before .before .before .before .before .before .args .n) (c .before .before .before .before .before .before .args .at)
-            (c .before .before .before .before .before .before .args .words .now) (c .before .before .before .before .before .before .args .needs .now)
-            (c .before .before .before .before .before .before .args .rows .now) (omega (
-              arith,
-              labels-in
-                  (c .before .before .before .before .before .before .args .n),
-            )) (omega arith) (c .before .before .before .before .before .before .pre .5),
-      )),
-)
+part-vertex-label-end c =
+    let start = c .before .before .before .before .before .before in
+    omega (
+      arith,
+      row-fits (c .before .before .loop .v) (length (start .args .needs .now))
+          (start .args .n) (length (start .args .rows .now)) (omega arith)
+          (omega (
+            arith,
+            rows-length (start .args .n) (start .args .at)
+                (start .args .words .now) (start .args .needs .now)
+                (start .args .rows .now) (omega (
+                  arith,
+                  labels-in
+                      (start .args .n),
+                )) (omega arith) (start .pre .5),
+          )),
+    )
 
 mul-wide : tie.Need-mul-wide Inv-loop μ-loop
 mul-wide c = search simple
@@ -85,35 +88,38 @@ wide-requires : tie.Need-wide-requires Inv-loop μ-loop
 wide-requires c κs = tt
 
 vertex-label-requires : tie.Need-vertex-label-requires Inv-loop μ-loop
-vertex-label-requires c κs = let s = c .before .before .before .before .before .before .before .before .before in
-    let front = part-length (s .args .n) (c .before .before .before .before .before .loop .words) (omega (
+vertex-label-requires c κs =
+    let at-loop = c .before .before .before .before .before in
+    let start = at-loop .before .before .before .before in
+    let s = c .before .before .before .before .before .before .before .before .before in
+    let front = length-take-le (s .args .n) (at-loop .loop .words) (omega (
       arith,
       labels-in
           (s .args .n),
-      c .before .before .before .before .before .loop .inv .long,
+      at-loop .loop .inv .long,
     )) in
-    let row = mid-length (c .before .before .before .before .before .loop .v * s .args .n) (s .args .n) (s .args .rows .now) (row-fits
-    (c .before .before .before .before .before .loop .v) (length
-    (c .before .before .before .before .before .before .before .before .before .args .needs .now))
-    (c .before .before .before .before .before .before .before .before .before .args .n) (length
-    (c .before .before .before .before .before .before .before .before .before .args .rows .now)) (omega arith)
+    let row = mid-length (at-loop .loop .v * s .args .n) (s .args .n) (s .args .rows .now) (row-fits
+    (at-loop .loop .v) (length
+    (start .args .needs .now))
+    (start .args .n) (length
+    (start .args .rows .now)) (omega arith)
     (omega (
       arith,
-      rows-length (c .before .before .before .before .before .before .before .before .before .args .n)
-          (c .before .before .before .before .before .before .before .before .before .args .at)
-          (c .before .before .before .before .before .before .before .before .before .args .words .now)
-          (c .before .before .before .before .before .before .before .before .before .args .needs .now)
-          (c .before .before .before .before .before .before .before .before .before .args .rows .now) (omega (
+      rows-length (start .args .n)
+          (start .args .at)
+          (start .args .words .now)
+          (start .args .needs .now)
+          (start .args .rows .now) (omega (
             arith,
             labels-in
-                (c .before .before .before .before .before .before .before .before .before .args .n),
+                (start .args .n),
           )) (omega arith)
-          (c .before .before .before .before .before .before .before .before .before .pre .5),
+          (start .pre .5),
     ))) in (
       omega (arith, front),
       row ∙ sym front,
       subst (λ (m : ℕ). c .wide .result < 2 ^ m) (sym front) (subst (λ (x : ℕ). x < 2 ^ s .args .n) (sym (c .wide .ensures)) (s .pre .4
-          (c .before .before .before .before .before .loop .v) (search simple))),
+          (at-loop .loop .v) (search simple))),
     )
 
 add-words : tie.Need-add-words Inv-loop μ-loop
@@ -132,19 +138,21 @@ loop-less : tie.Need-loop-less Inv-loop μ-loop
 loop-less c = omega arith
 
 loop-again : tie.Need-loop-again Inv-loop μ-loop
-loop-again c = let s = c .before .before .before .before .before .before .before .before .before .before in
-    let w = c .before .before .before .before .before .before .loop .words in
-    let v = c .before .before .before .before .before .before .loop .v in
+loop-again c =
+    let at-loop = c .before .before .before .before .before .before in
+    let s = c .before .before .before .before .before .before .before .before .before .before in
+    let w = at-loop .loop .words in
+    let v = at-loop .loop .v in
     let n = s .args .n in
-    let front = list-front (s .args .at) (c .before .before .before .before .before .before .loop .inv) (le-refl _) in
-    list-more (c .before .before .before .before .before .before .loop .inv) (search simple) refl
+    let front = list-front (s .args .at) (at-loop .loop .inv) (le-refl _) in
+    list-more (at-loop .loop .inv) (search simple) refl
     (c .vertex-label .ensures
     ∙ ap (λ (x : ℕ). without (meetOf (length (take n w)) x (λ i. getD (take n w) i 0) (s .args .all))
     (joinOf (length (take (v * n + n - v * n) (drop (v * n) (s .args .rows .now)))) x (λ i. getD (take (v * n + n - v * n) (drop (v * n)
     (s .args .rows .now))) i 0)))
     (c .before .wide .ensures)
     ∙ label-here n (s .args .at) w (s .args .needs .now) (s .args .rows .now) (omega (arith, labels-in n)) (omega
-    (arith, c .before .before .before .before .before .before .loop .inv .long))
+    (arith, at-loop .loop .inv .long))
     (s .pre .5 ∙ ap (λ (l : List ℕ). needRows n l (s .args .needs .now)) (sym front)) v (s .args .all) (search simple)
     ∙ ap (λ (l : List ℕ). vertexLabel n (s .args .all) l (getD (s .args .needs .now) v 0)) front)
 

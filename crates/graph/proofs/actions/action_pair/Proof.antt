@@ -6,9 +6,10 @@ use lib.ListN.{length, getD, take, drop}
 use Rattle.rules.specs.Word.{common}
 use Rattle.rules.specs.Over.{joinOf}
 use Rattle.rules.proofs.Layers.{labels-in}
-use Rattle.graph.proofs.Places.{small}
-use Rattle.graph.proofs.Joins.{row-fits}
-use Rattle.graph.proofs.Cells.{mid-length, rows-length, pair-none, pair-foe, pair-row}
+use Rattle.words.proofs.Places.{small}
+use Rattle.words.proofs.MemberLoops.{row-fits}
+use Rattle.words.proofs.Cells.{mid-length}
+use Rattle.graph.proofs.LayerWords.{rows-length, pair-none, pair-foe, pair-row}
 use borrow.Author.Needs.{needs}
 use Rattle.graph.proofs.actions.action_pair.Statement.{statement}
 use Rattle.graph.proofs.actions.action_pair.Tie as tie
@@ -32,21 +33,23 @@ shared-slice-read-both-2 : tie.Need-shared-slice-read-both-2
 shared-slice-read-both-2 c = search needs
 
 returns : tie.Need-returns
-returns c = pair-none (c .before .before .before .before .before .before .before .args .n)
-    (c .before .before .before .before .before .before .before .args .at) (c .before .before .before .before .before .before .before .args .words .now)
-    (c .before .before .before .before .before .before .before .args .needs .now)
-    (c .before .before .before .before .before .before .before .args .rows .now) (omega (
+returns c =
+    let start = c .before .before .before .before .before .before .before in
+    pair-none (start .args .n)
+    (start .args .at) (start .args .words .now)
+    (start .args .needs .now)
+    (start .args .rows .now) (omega (
       arith,
       labels-in
-          (c .before .before .before .before .before .before .before .args .n),
-    )) (omega arith) (c .before .before .before .before .before .before .before .pre .3)
-    (c .before .before .before .before .before .before .before .args .foes .now) (common (getD
-    (c .before .before .before .before .before .before .before .args .words .now)
-    (c .before .before .before .before .before .before .before .args .at + c .before .before .before .before .before .before .before .args .v) 0) (getD
-    (c .before .before .before .before .before .before .before .args .words .now)
-    (c .before .before .before .before .before .before .before .args .at + c .before .before .before .before .before .before .before .args .w) 0))
-    (c .before .before .before .before .before .before .before .args .v) (c .before .before .before .before .before .before .before .args .w)
-    (c .before .before .before .before .before .before .before .pre .4) (c .if1 .taken)
+          (start .args .n),
+    )) (omega arith) (start .pre .3)
+    (start .args .interfering .now) (common (getD
+    (start .args .words .now)
+    (start .args .at + start .args .v) 0) (getD
+    (start .args .words .now)
+    (start .args .at + start .args .w) 0))
+    (start .args .v) (start .args .w)
+    (start .pre .4) (c .if1 .taken)
 
 mul-join-at : tie.Need-mul-join-at
 mul-join-at c = search needs
@@ -58,53 +61,55 @@ has-requires : tie.Need-has-requires
 has-requires c κs = search needs
 
 returns-2 : tie.Need-returns-2
-returns-2 c = pair-foe (c .before .before .before .before .before .before .before .before .before .before .args .n)
-    (c .before .before .before .before .before .before .before .before .before .before .args .at)
-    (c .before .before .before .before .before .before .before .before .before .before .args .words .now)
-    (c .before .before .before .before .before .before .before .before .before .before .args .needs .now)
-    (c .before .before .before .before .before .before .before .before .before .before .args .rows .now) (omega (
+returns-2 c =
+    let start = c .before .before .before .before .before .before .before .before .before .before in
+    pair-foe (start .args .n)
+    (start .args .at)
+    (start .args .words .now)
+    (start .args .needs .now)
+    (start .args .rows .now) (omega (
       arith,
       labels-in
-          (c .before .before .before .before .before .before .before .before .before .before .args .n),
+          (start .args .n),
     )) (omega arith)
-    (c .before .before .before .before .before .before .before .before .before .before .pre .3)
-    (c .before .before .before .before .before .before .before .before .before .before .args .foes .now) (common (getD
-    (c .before .before .before .before .before .before .before .before .before .before .args .words .now)
-    (c .before .before .before .before .before .before .before .before .before .before .args .at + c .before .before .before .before .before .before .before
-    .before .before .before .args .v) 0) (getD (c .before .before .before .before .before .before .before .before .before .before .args .words .now)
-    (c .before .before .before .before .before .before .before .before .before .before .args .at + c .before .before .before .before .before .before .before
-    .before .before .before .args .w) 0)) (c .before .before .before .before .before .before .before .before .before .before .args .v)
-    (c .before .before .before .before .before .before .before .before .before .before .args .w)
-    (c .before .before .before .before .before .before .before .before .before .before .pre .4) (sym (c .before .has .ensures) ∙ c .if2 .taken)
+    (start .pre .3)
+    (start .args .interfering .now) (common (getD
+    (start .args .words .now)
+    (start .args .at + start .args .v) 0) (getD (start .args .words .now)
+    (start .args .at + start .args .w) 0)) (start .args .v)
+    (start .args .w)
+    (start .pre .4) (sym (c .before .has .ensures) ∙ c .if2 .taken)
 
 mul-from : tie.Need-mul-from
-mul-from c = omega (
-  arith,
-  small {a = c .before .before .before .before .before .before .before .before .before .before .args .v} {b = c .before .before
-      .before .before .before .before .before .before .before .before .args .n} (omega
-      (arith, c .before .before .before .before .before .before .before .before .before .before .pre .0 .room)) (omega
-      (arith, c .before .before .before .before .before .before .before .before .before .before .pre .0 .few)),
-)
+mul-from c =
+    let start = c .before .before .before .before .before .before .before .before .before .before in
+    omega (
+      arith,
+      small {a = start .args .v} {b = start .args .n} (omega
+          (arith, start .pre .0 .room)) (omega
+          (arith, start .pre .0 .few)),
+    )
 
 add-end : tie.Need-add-end
-add-end c = omega (
-  arith,
-  small {a = c .before .before .before .before .before .before .before .before .before .before .args .v} {b = c .before .before
-      .before .before .before .before .before .before .before .before .args .n} (omega
-      (arith, c .before .before .before .before .before .before .before .before .before .before .pre .0 .room)) (omega
-      (arith, c .before .before .before .before .before .before .before .before .before .before .pre .0 .few)),
-  c .before .before .before .before .before
-      .before .before .before .before .before .pre .0 .few,
-)
+add-end c =
+    let start = c .before .before .before .before .before .before .before .before .before .before in
+    omega (
+      arith,
+      small {a = start .args .v} {b = start .args .n} (omega
+          (arith, start .pre .0 .room)) (omega
+          (arith, start .pre .0 .few)),
+      start .pre .0 .few,
+    )
 
 mul-join-at-2 : tie.Need-mul-join-at-2
-mul-join-at-2 c = omega (
-  arith,
-  small {a = c .before .before .before .before .before .before .before .before .before .before .args .v} {b = c .before .before .before .before
-      .before .before .before .before .before .before .args .n} (omega
-      (arith, c .before .before .before .before .before .before .before .before .before .before .pre .0 .room)) (omega
-      (arith, c .before .before .before .before .before .before .before .before .before .before .pre .0 .few)),
-)
+mul-join-at-2 c =
+    let start = c .before .before .before .before .before .before .before .before .before .before in
+    omega (
+      arith,
+      small {a = start .args .v} {b = start .args .n} (omega
+          (arith, start .pre .0 .room)) (omega
+          (arith, start .pre .0 .few)),
+    )
 
 sub-join-at : tie.Need-sub-join-at
 sub-join-at c = search needs
@@ -113,27 +118,29 @@ part-join-at-start : tie.Need-part-join-at-start
 part-join-at-start c = search needs
 
 part-join-at-end : tie.Need-part-join-at-end
-part-join-at-end c = omega (
-  arith,
-  row-fits (c .before .before .before .before .before .before .before .before .before .before .args .v) (length
-      (c .before .before .before .before .before .before .before .before .before .before .args .needs .now))
-      (c .before .before .before .before .before .before .before .before .before .before .args .n) (length
-      (c .before .before .before .before .before .before .before .before .before .before .args .rows .now))
-      (c .before .before .before .before .before .before .before .before .before .before .pre .4)
-      (omega (
-        arith,
-        rows-length (c .before .before .before .before .before .before .before .before .before .before .args .n)
-            (c .before .before .before .before .before .before .before .before .before .before .args .at)
-            (c .before .before .before .before .before .before .before .before .before .before .args .words .now)
-            (c .before .before .before .before .before .before .before .before .before .before .args .needs .now)
-            (c .before .before .before .before .before .before .before .before .before .before .args .rows .now) (omega (
-              arith,
-              labels-in
-                  (c .before .before .before .before .before .before .before .before .before .before .args .n),
-            )) (omega arith)
-            (c .before .before .before .before .before .before .before .before .before .before .pre .3),
-      )),
-)
+part-join-at-end c =
+    let start = c .before .before .before .before .before .before .before .before .before .before in
+    omega (
+      arith,
+      row-fits (start .args .v) (length
+          (start .args .needs .now))
+          (start .args .n) (length
+          (start .args .rows .now))
+          (start .pre .4)
+          (omega (
+            arith,
+            rows-length (start .args .n)
+                (start .args .at)
+                (start .args .words .now)
+                (start .args .needs .now)
+                (start .args .rows .now) (omega (
+                  arith,
+                  labels-in
+                      (start .args .n),
+                )) (omega arith)
+                (start .pre .3),
+          )),
+    )
 
 mul-wide : tie.Need-mul-wide
 mul-wide c = search needs
@@ -145,25 +152,27 @@ wide-requires : tie.Need-wide-requires
 wide-requires c κs = search needs
 
 join-at-requires : tie.Need-join-at-requires
-join-at-requires c κs = let s = c .before .before .before .before .before .before .before .before .before .before .before .before .before in
+join-at-requires c κs =
+    let start = c .before .before .before .before .before .before .before .before .before .before .before .before .before in
+    let s = c .before .before .before .before .before .before .before .before .before .before .before .before .before in
     let row = mid-length (s .args .v * s .args .n) (s .args .n) (s .args .rows .now) (row-fits
-    (c .before .before .before .before .before .before .before .before .before .before .before .before .before .args .v) (length
-    (c .before .before .before .before .before .before .before .before .before .before .before .before .before .args .needs .now))
-    (c .before .before .before .before .before .before .before .before .before .before .before .before .before .args .n) (length
-    (c .before .before .before .before .before .before .before .before .before .before .before .before .before .args .rows .now))
-    (c .before .before .before .before .before .before .before .before .before .before .before .before .before .pre .4)
+    (start .args .v) (length
+    (start .args .needs .now))
+    (start .args .n) (length
+    (start .args .rows .now))
+    (start .pre .4)
     (omega (
       arith,
-      rows-length (c .before .before .before .before .before .before .before .before .before .before .before .before .before .args .n)
-          (c .before .before .before .before .before .before .before .before .before .before .before .before .before .args .at)
-          (c .before .before .before .before .before .before .before .before .before .before .before .before .before .args .words .now)
-          (c .before .before .before .before .before .before .before .before .before .before .before .before .before .args .needs .now)
-          (c .before .before .before .before .before .before .before .before .before .before .before .before .before .args .rows .now) (omega (
+      rows-length (start .args .n)
+          (start .args .at)
+          (start .args .words .now)
+          (start .args .needs .now)
+          (start .args .rows .now) (omega (
             arith,
             labels-in
-                (c .before .before .before .before .before .before .before .before .before .before .before .before .before .args .n),
+                (start .args .n),
           )) (omega arith)
-          (c .before .before .before .before .before .before .before .before .before .before .before .before .before .pre .3),
+          (start .pre .3),
     ))) in (
       omega (arith, row, s .pre .0 .few),
       subst (λ (m : ℕ). c .wide .result < 2 ^ m) (sym row) (subst (λ (x : ℕ). x < 2 ^ s .args .n) (sym (c .wide .ensures)) (s .pre .0 .need-sets (s .args .w)
@@ -171,7 +180,9 @@ join-at-requires c κs = let s = c .before .before .before .before .before .befo
     )
 
 returns-3 : tie.Need-returns-3
-returns-3 c = let s = c .before .before .before .before .before .before .before .before .before .before .before .before .before .before in
+returns-3 c =
+    let start = c .before .before .before .before .before .before .before .before .before .before .before .before .before .before in
+    let s = c .before .before .before .before .before .before .before .before .before .before .before .before .before .before in
     let n = s .args .n in
     let from = s .args .v * n in
     ap (common (common (getD (s .args .words .now) (s .args .at + s .args .v) 0) (getD (s .args .words .now) (s .args .at + s .args .w) 0)))
@@ -179,23 +190,21 @@ returns-3 c = let s = c .before .before .before .before .before .before .before 
     ∙ ap (λ (x : ℕ). joinOf (length (take (from + n - from) (drop from (s .args .rows .now)))) x (λ i. getD (take (from + n - from) (drop from
     (s .args .rows .now))) i 0))
     (c .before .wide .ensures))
-    ∙ pair-row (c .before .before .before .before .before .before .before .before .before .before .before .before .before .before .args .n)
-    (c .before .before .before .before .before .before .before .before .before .before .before .before .before .before .args .at)
-    (c .before .before .before .before .before .before .before .before .before .before .before .before .before .before .args .words .now)
-    (c .before .before .before .before .before .before .before .before .before .before .before .before .before .before .args .needs .now)
-    (c .before .before .before .before .before .before .before .before .before .before .before .before .before .before .args .rows .now) (omega
-    (arith, labels-in (c .before .before .before .before .before .before .before .before .before .before .before .before .before .before .args .n)))
-    (omega arith) (c .before .before .before .before .before .before .before .before .before .before .before .before .before .before .pre .3)
-    (c .before .before .before .before .before .before .before .before .before .before .before .before .before .before .args .foes .now) (common (getD
-    (c .before .before .before .before .before .before .before .before .before .before .before .before .before .before .args .words .now)
-    (c .before .before .before .before .before .before .before .before .before .before .before .before .before .before .args .at + c .before .before .before
-    .before .before .before .before .before .before .before .before .before .before .before .args .v) 0) (getD
-    (c .before .before .before .before .before .before .before .before .before .before .before .before .before .before .args .words .now)
-    (c .before .before .before .before .before .before .before .before .before .before .before .before .before .before .args .at + c .before .before .before
-    .before .before .before .before .before .before .before .before .before .before .before .args .w) 0))
-    (c .before .before .before .before .before .before .before .before .before .before .before .before .before .before .args .v)
-    (c .before .before .before .before .before .before .before .before .before .before .before .before .before .before .args .w)
-    (c .before .before .before .before .before .before .before .before .before .before .before .before .before .before .pre .4) (sym
+    ∙ pair-row (start .args .n)
+    (start .args .at)
+    (start .args .words .now)
+    (start .args .needs .now)
+    (start .args .rows .now) (omega
+    (arith, labels-in (start .args .n)))
+    (omega arith) (start .pre .3)
+    (start .args .interfering .now) (common (getD
+    (start .args .words .now)
+    (start .args .at + start .args .v) 0) (getD
+    (start .args .words .now)
+    (start .args .at + start .args .w) 0))
+    (start .args .v)
+    (start .args .w)
+    (start .pre .4) (sym
     (c .before .before .before .before .before .has .ensures) ∙ c .before .before .before .before .if2 .left)
 
 pub action-pair-spec : {M : Type 1} → statement M

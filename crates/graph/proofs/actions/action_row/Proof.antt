@@ -7,18 +7,18 @@ use native.Mathlib.Nat.{le-refl}
 use lib.ListN.{length}
 use borrow.Author.Needs.{needs as simple}
 use Rattle.rules.specs.Layer.{rowOf}
-use Rattle.graph.proofs.Steps.{pair-front}
-use Rattle.graph.proofs.Writes.{Lists, list-none, list-more, list-done, list-front}
+use Rattle.graph.proofs.LayerPuts.{pair-front}
+use Rattle.words.proofs.Writes.{Lists, list-none, list-more, list-done, list-front}
 use Rattle.graph.specs.Listed.{over, pairWord}
-use Rattle.graph.specs.Rows.{needRows}
+use Rattle.graph.specs.Listed.{needRows}
 use Rattle.graph.proofs.actions.action_row.Statement.{statement}
 use Rattle.graph.proofs.actions.action_row.Tie as tie
 
 abbrev Inv-loop : tie.InvT-loop
-Inv-loop words₀ n at to needs foes rows v m k₀ words k = Lists (λ k. over (pairWord n needs foes) at words₀ v (v + 1 + k)) to m words₀ k words
+Inv-loop words₀ n at to needs interfering rows v m k₀ words k = Lists (λ k. over (pairWord n needs interfering) at words₀ v (v + 1 + k)) to m words₀ k words
 
 abbrev μ-loop : tie.MeasureT-loop
-μ-loop words₀ n at to needs foes rows v m k₀ words k = m - k
+μ-loop words₀ n at to needs interfering rows v m k₀ words k = m - k
 
 sub-m : tie.Need-sub-m Inv-loop μ-loop
 sub-m c = search simple
@@ -36,15 +36,18 @@ add-action-pair-2 : tie.Need-add-action-pair-2 Inv-loop μ-loop
 add-action-pair-2 c = search simple
 
 action-pair-requires : tie.Need-action-pair-requires Inv-loop μ-loop
-action-pair-requires c κs = let a = c .before .before .before .before .before .before .before .args in (
-  search simple,
-  search simple,
-  omega (arith, c .before .before .loop .inv .long),
-  c .before .before .before .before .before .before .before .pre .3
-      ∙ ap (λ (l : List ℕ). needRows (a .n) l (a .needs .now)) (sym (list-front (a .at) (c .before .before .loop .inv) (omega arith))),
-  search simple,
-  omega arith,
-)
+action-pair-requires c κs =
+    let at-loop = c .before .before in
+    let start = at-loop .before .before .before .before .before in
+    let a = start .args in (
+      search simple,
+      search simple,
+      omega (arith, at-loop .loop .inv .long),
+      start .pre .3
+          ∙ ap (λ (l : List ℕ). needRows (a .n) l (a .needs .now)) (sym (list-front (a .at) (at-loop .loop .inv) (omega arith))),
+      search simple,
+      omega arith,
+    )
 
 add-words : tie.Need-add-words Inv-loop μ-loop
 add-words c = omega arith
@@ -62,11 +65,13 @@ loop-less : tie.Need-loop-less Inv-loop μ-loop
 loop-less c = omega arith
 
 loop-again : tie.Need-loop-again Inv-loop μ-loop
-loop-again c = let a = c .before .before .before .before .before .before .before .before .args in
-    list-more (c .before .before .before .loop .inv) (search simple) refl
-    (pair-front (pairWord (a .n) (a .needs .now) (a .foes .now)) (length (a .needs .now)) (a .at) (a .to) (a .words .now)
-    (c .before .before .before .loop .words) (a .v) (a .v + 1 + c .before .before .before .loop .k) _
-    (list-front _ (c .before .before .before .loop .inv) (le-refl _)) (omega arith) (omega arith) (omega arith) (c .action-pair .ensures))
+loop-again c =
+    let at-loop = c .before .before .before in
+    let a = c .before .before .before .before .before .before .before .before .args in
+    list-more (at-loop .loop .inv) (search simple) refl
+    (pair-front (pairWord (a .n) (a .needs .now) (a .interfering .now)) (length (a .needs .now)) (a .at) (a .to) (a .words .now)
+    (at-loop .loop .words) (a .v) (a .v + 1 + at-loop .loop .k) _
+    (list-front _ (at-loop .loop .inv) (le-refl _)) (omega arith) (omega arith) (omega arith) (c .action-pair .ensures))
 
 same-length : tie.Need-same-length Inv-loop μ-loop
 same-length c = c .before .loop .inv .long

@@ -3,57 +3,70 @@ use borrow.Author.Needs.{needs}
 use mathlib.Core.Path.{sym}
 use native.Mathlib.Omega.{arith}
 use native.Mathlib.Nat.{mul-le-mul}
-use Rattle.graph.proofs.Steps.{part-length}
+use lib.Seq.{length-take-le}
 use borrow.Author.Needs.{needs}
 use Rattle.graph.proofs.actions.action_wide.Statement.{statement}
 use Rattle.graph.proofs.actions.action_wide.Tie as tie
 
 mul-m : tie.Need-mul-m
-mul-m c = omega (arith, mul-le-mul (c .before .before .before .pre .0 .few) (c .before .before .before .pre .0 .few))
+mul-m c =
+    let start = c .before .before .before in
+    omega (arith, mul-le-mul (start .pre .0 .few) (start .pre .0 .few))
 
 mul-r : tie.Need-mul-r
-mul-r c = omega (arith, mul-le-mul (c .before .before .before .pre .0 .room) (c .before .before .before .pre .0 .few))
+mul-r c =
+    let start = c .before .before .before in
+    omega (arith, mul-le-mul (start .pre .0 .room) (start .pre .0 .few))
 
 array-borrow-prefix-mutex : tie.Need-array-borrow-prefix-mutex
-array-borrow-prefix-mutex c = omega (arith, mul-le-mul (c .before .before .before .before .pre .0 .few) (c .before .before .before .before .pre .0 .few))
+array-borrow-prefix-mutex c =
+    let start = c .before .before .before .before in
+    omega (arith, mul-le-mul (start .pre .0 .few) (start .pre .0 .few))
 
 slice-aggregate-action-in : tie.Need-slice-aggregate-action-in
-slice-aggregate-action-in c = sym (part-length _ _ (omega (
-  arith,
-  mul-le-mul (c .before .before .before .before .before .pre .0 .few)
-      (c .before .before .before .before .before .pre .0 .few),
-)))
+slice-aggregate-action-in c =
+    let start = c .before .before .before .before .before in
+    sym (length-take-le _ _ (omega (
+      arith,
+      mul-le-mul (start .pre .0 .few)
+          (start .pre .0 .few),
+    )))
 
 array-borrow-prefix-rows : tie.Need-array-borrow-prefix-rows
-array-borrow-prefix-rows c = omega (
-  arith,
-  mul-le-mul (c .before .before .before .before .before .pre .0 .room)
-      (c .before .before .before .before .before .pre .0 .few),
-)
+array-borrow-prefix-rows c =
+    let start = c .before .before .before .before .before in
+    omega (
+      arith,
+      mul-le-mul (start .pre .0 .room)
+          (start .pre .0 .few),
+    )
 
 slice-aggregate-action-in-2 : tie.Need-slice-aggregate-action-in-2
-slice-aggregate-action-in-2 c = sym (part-length _ _ (omega (
-  arith,
-  mul-le-mul (c .before .before .before .before .before .before .pre .0 .room)
-      (c .before .before .before .before .before .before .pre .0 .few),
-)))
+slice-aggregate-action-in-2 c =
+    let start = c .before .before .before .before .before .before in
+    sym (length-take-le _ _ (omega (
+      arith,
+      mul-le-mul (start .pre .0 .room)
+          (start .pre .0 .few),
+    )))
 
 action-in-requires : tie.Need-action-in-requires
-action-in-requires c κs = (
-  search needs,
-  search needs,
-  part-length _ _ (omega (
-    arith,
-    mul-le-mul
-        (c .before .before .before .before .before .before .pre .0 .few) (c .before .before .before .before .before .before .pre .0 .few),
-  )),
-  part-length _ _
-      (omega (
+action-in-requires c κs =
+    let start = c .before .before .before .before .before .before in (
+      search needs,
+      search needs,
+      length-take-le _ _ (omega (
         arith,
-        mul-le-mul (c .before .before .before .before .before .before .pre .0 .room)
-            (c .before .before .before .before .before .before .pre .0 .few),
+        mul-le-mul
+            (start .pre .0 .few) (start .pre .0 .few),
       )),
-)
+      length-take-le _ _
+          (omega (
+            arith,
+            mul-le-mul (start .pre .0 .room)
+                (start .pre .0 .few),
+          )),
+    )
 
 same-length : tie.Need-same-length
 same-length c = search needs

@@ -1,15 +1,15 @@
 -- The lists that were read, turned and compared make the file's graph.
 use mathlib.Core.List.{List}
-use mathlib.Core.Path.{sym, ap, _∙_}
+use mathlib.Core.Path.{_≡_, sym, ap, _∙_}
 use Prim.Native.Nat.{ℕ, _+_}
 use native.Mathlib.Nat.{le-trans, le-of-eq}
 use native.Mathlib.Omega.{arith}
 use lib.ListN.{length}
 use Rattle.rules.proofs.Layers.{length-listOver}
-use Rattle.rules.specs.Domain.{needsOf, addsOf, deletesOf}
-use Rattle.graph.specs.File.{actionsOf, startOf}
-use Rattle.graph.specs.Memory.{putAt}
-use Rattle.graph.proofs.Writes.{put-whole}
+use Rattle.rules.specs.Domain.{Actions, needsOf, addsOf, deletesOf, domain}
+use Rattle.graph.specs.Format.{actionsOf, startOf}
+use Rattle.words.specs.Memory.{putAt}
+use Rattle.words.specs.Rows.{columnsOf}
 use Rattle.graph.proofs.Listings.{listed-graph, listed-count, listed-sizes, adds-small}
 use borrow.Author.Needs.{needs}
 use Rattle.graph.proofs.build.build_in.Statement.{statement}
@@ -21,42 +21,72 @@ read-vertices-requires c κs = search needs
 read-starts-requires : tie.Need-read-starts-requires
 read-starts-requires c κs = search needs
 
-start-labels-requires : tie.Need-start-labels-requires
-start-labels-requires c κs = search needs
+columns-requires : tie.Need-columns-requires
+columns-requires c κs =
+    let start = c .before .before .before .before .before .before .before .before .before .before .before .before .before .before .before .before
+    .before .before .before .before .before .before .before .before in
+    let t = start .pre .0 .0 .ranged in
+    let l = start .pre .1 in (
+      omega (arith, t .props, l .adders-long),
+      omega (
+        arith,
+        t .props,
+        t .actions,
+        ap length (c .before .before .before .before .before .before .before .before .before .before .before .before .read-vertices .ensures .1),
+        length-listOver (start .args .c .actions + start .args .c .props)
+            (addsOf (actionsOf (start .args .file .now) (start .args .c))),
+      ),
+      l .no-adders,
+    )
 
-foe-sets-requires : tie.Need-foe-sets-requires
-foe-sets-requires c κs = let s = c .before .before .before .before .before .before .before .before .before .before .before .before .before .before .before
-    .before .before .before .before .before .before .before .before .before .before .before .before .before .before .before .before in
-    let a = s .args in
-    let m = a .c .actions + a .c .props in
-    let A = actionsOf (a .file .now) (a .c) in
+-- how long the lists are that were read
+module _ (c : tie.After-read-vertices) where
+  abbrev at-start : tie.Start
+  at-start = c .before .before .before .before .before .before .before .before .before .before .before .before
+
+  abbrev vertices : ℕ
+  vertices = at-start .args .c .actions + at-start .args .c .props
+
+  abbrev the-actions : Actions
+  the-actions = actionsOf (at-start .args .file .now) (at-start .args .c)
+
+  needs-are : length (c .read-vertices .last .1 .1 .0) ≡ vertices
+  needs-are = ap length (c .read-vertices .ensures .0) ∙ length-listOver vertices (needsOf the-actions)
+
+  adds-are : length (c .read-vertices .last .1 .1 .1 .0) ≡ vertices
+  adds-are = ap length (c .read-vertices .ensures .1) ∙ length-listOver vertices (addsOf the-actions)
+
+  dels-are : length (c .read-vertices .last .1 .1 .1 .1 .0) ≡ vertices
+  dels-are = ap length (c .read-vertices .ensures .2) ∙ length-listOver vertices (deletesOf the-actions)
+
+interferer-sets-requires : tie.Need-interferer-sets-requires
+interferer-sets-requires c κs =
     let r = c .before .before .before .before .before .before .before .before .before .before .before .before .before .before .before .before .before
-    .before .before .read-vertices .ensures in
-    let ln = ap length (r .0) ∙ length-listOver m (needsOf A) in
-    let la = ap length (r .1) ∙ length-listOver m (addsOf A) in
-    let ld = ap length (r .2) ∙ length-listOver m (deletesOf A) in
-    (omega (arith, ln, s .pre .0 .0 .props, s .pre .0 .0 .actions), la ∙ sym ln, ld ∙ sym ln, s .pre .1 .5 ∙ sym ln)
+    .before .before in
+    let s = at-start r in
+    let t = s .pre .0 .0 .ranged in (
+      omega (arith, needs-are r, t .props, t .actions),
+      adds-are r ∙ sym (needs-are r),
+      dels-are r ∙ sym (needs-are r),
+      s .pre .1 .interfering-long ∙ sym (needs-are r),
+    )
 
 layers-requires : tie.Need-layers-requires
-unfolding actionsOf
-layers-requires c κs = let s = c .before .before .before .before .before .before .before .before .before .before .before .before .before .before .before
-    .before .before .before .before .before .before .before .before .before .before .before .before .before .before .before .before .before .before .before
-    .before .before .before .before .before in
-    let a = s .args in
-    let m = a .c .actions + a .c .props in
-    let A = actionsOf (a .file .now) (a .c) in
+unfolding actionsOf domain
+layers-requires c κs =
     let r = c .before .before .before .before .before .before .before .before .before .before .before .before .before .before .before .before .before
-    .before .before .before .before .before .before .before .before .before .before .read-vertices .ensures in
-    let ln = ap length (r .0) ∙ length-listOver m (needsOf A) in
-    let adders = c .before .before .before .before .before .before .before .before .before .before .before .before .before .before .start-labels .ensures
-    ∙ put-whole _ _ (length-listOver (a .c .props) _ ∙ sym (s .pre .1 .4)) in
-    let ls = ap length (c .before .before .before .before .before .before .before .before .before .before .before .before .before .before .before .before
-    .before .before .before .read-starts .ensures) ∙ length-listOver (a .c .states) (startOf (a .file .now) (a .c)) in (
-      listed-sizes (a .file .now) (a .c) _ _ _ _ _ (s .pre .0 .0) (r .0) (r .1) adders
-          (c .before .before .before .before .before .before .before .foe-sets .ensures),
-      omega (arith, ls, s .pre .0 .0 .states),
+    .before .before .before .before .before .before .before .before .before .before in
+    let s = at-start r in
+    let a = s .args in
+    let adders = c .before .before .before .before .before .before .before .before .before .before .before .before .before .before .columns .ensures
+    ∙ ap (λ (x : ℕ). columnsOf x (r .read-vertices .last .1 .1 .1 .0)) (s .pre .1 .adders-long) in
+    let ls = ap length (c .before .before .before .before .before .before .before .before .before .before .before .before .before .before .before
+    .before .before .before .before .read-starts .ensures) ∙ length-listOver (a .c .states) (startOf (a .file .now) (a .c)) in (
+      listed-sizes (a .file .now) (a .c) _ _ _ _ _ (s .pre .0 .0) (r .read-vertices .ensures .0) (r .read-vertices .ensures .1) adders
+          (c .before .before .before .before .before .before .before .interferer-sets .ensures),
+      omega (arith, ls, s .pre .0 .0 .ranged .states),
       search needs,
-      le-trans (le-of-eq (listed-count A _ _ _ (a .depth) ln)) (s .pre .0 .2),
+      le-trans (le-of-eq (listed-count (the-actions r) _ _ _ (a .depth) (needs-are r))) (s .pre .0 .2),
     )
 
 same-length : tie.Need-same-length
@@ -81,21 +111,18 @@ same-length-7 : tie.Need-same-length-7
 same-length-7 c = search needs
 
 returns : tie.Need-returns
-unfolding actionsOf
-returns c = let s = c .before .before .before .before .before .before .before .before .before .before .before .before .before .before .before .before
-    .before .before .before .before .before .before .before .before .before .before .before .before .before .before .before .before .before .before .before
-    .before .before .before .before .before .before .before in
-    let a = s .args in
-    let m = a .c .actions + a .c .props in
-    let A = actionsOf (a .file .now) (a .c) in
+unfolding actionsOf columnsOf
+returns c =
     let r = c .before .before .before .before .before .before .before .before .before .before .before .before .before .before .before .before .before
-    .before .before .before .before .before .before .before .before .before .before .before .before .before .read-vertices .ensures in
-    let ln = ap length (r .0) ∙ length-listOver m (needsOf A) in
-    let adders = c .before .before .before .before .before .before .before .before .before .before .before .before .before .before .before .before .before
-    .start-labels .ensures ∙ put-whole _ _ (length-listOver (a .c .props) _ ∙ sym (s .pre .1 .4)) in
+    .before .before .before .before .before .before .before .before .before .before .before .before .before in
+    let s = at-start r in
+    let a = s .args in
+    let adders = c .before .before .before .before .before .before .before .before .before .before .before .before .before .before .before .before
+    .before .columns .ensures ∙ ap (λ (x : ℕ). columnsOf x (r .read-vertices .last .1 .1 .1 .0)) (s .pre .1 .adders-long) in
     c .before .before .layers .ensures ∙ ap (λ (l : List ℕ). putAt 0 l (a .words .now))
-    (listed-graph A _ _ _ _ _ _ (a .c .states) (startOf (a .file .now) (a .c)) (a .depth) (r .0) (r .1) (r .2) adders
-    (c .before .before .before .before .before .before .before .before .before .before .foe-sets .ensures)
+    (listed-graph (the-actions r) _ _ _ _ _ _ (a .c .states) (startOf (a .file .now) (a .c)) (a .depth)
+    (r .read-vertices .ensures .0) (r .read-vertices .ensures .1) (r .read-vertices .ensures .2) adders
+    (c .before .before .before .before .before .before .before .before .before .before .interferer-sets .ensures)
     (c .before .before .before .before .before .before .before .before .before .before .before .before .before .before .before .before .before .before
     .before .before .before .before .read-starts .ensures) (λ v h. adds-small (a .file .now) (a .c) (s .pre .0 .0) v h))
 
@@ -105,8 +132,8 @@ build-in-spec =
     (tie.spec
     read-vertices-requires
     read-starts-requires
-    start-labels-requires
-    foe-sets-requires
+    columns-requires
+    interferer-sets-requires
     layers-requires
     same-length
     same-length-2

@@ -1,7 +1,11 @@
 -- It lends its arrays, cut to size.
-use mathlib.Core.Path.{sym}
+use mathlib.Core.Path.{sym, ap, _∙_}
+use Prim.Native.Nat.{ℕ}
 use native.Mathlib.Omega.{arith}
-use Rattle.graph.proofs.Steps.{part-length}
+use lib.ListN.{replicate}
+use lib.Seq.{length-take-le}
+use Rattle.rules.specs.Lists.{listOver}
+use Rattle.words.proofs.Zeros.{zeros}
 use borrow.Author.Needs.{needs}
 use Rattle.graph.proofs.build.build_words.Statement.{statement}
 use Rattle.graph.proofs.build.build_words.Tie as tie
@@ -13,50 +17,53 @@ array-borrow-prefix-needs : tie.Need-array-borrow-prefix-needs
 array-borrow-prefix-needs c = search needs
 
 slice-aggregate-build-in : tie.Need-slice-aggregate-build-in
-slice-aggregate-build-in c = sym (part-length _ _ (omega arith))
+slice-aggregate-build-in c = sym (length-take-le _ _ (omega arith))
 
 array-borrow-prefix-adds : tie.Need-array-borrow-prefix-adds
 array-borrow-prefix-adds c = search needs
 
 slice-aggregate-build-in-2 : tie.Need-slice-aggregate-build-in-2
-slice-aggregate-build-in-2 c = sym (part-length _ _ (omega arith))
+slice-aggregate-build-in-2 c = sym (length-take-le _ _ (omega arith))
 
 array-borrow-prefix-dels : tie.Need-array-borrow-prefix-dels
 array-borrow-prefix-dels c = search needs
 
 slice-aggregate-build-in-3 : tie.Need-slice-aggregate-build-in-3
-slice-aggregate-build-in-3 c = sym (part-length _ _ (omega arith))
+slice-aggregate-build-in-3 c = sym (length-take-le _ _ (omega arith))
 
 array-borrow-prefix-starts : tie.Need-array-borrow-prefix-starts
 array-borrow-prefix-starts c = search needs
 
 slice-aggregate-build-in-4 : tie.Need-slice-aggregate-build-in-4
-slice-aggregate-build-in-4 c = sym (part-length _ _ (omega arith))
+slice-aggregate-build-in-4 c = sym (length-take-le _ _ (omega arith))
 
 array-borrow-prefix-adders : tie.Need-array-borrow-prefix-adders
 array-borrow-prefix-adders c = search needs
 
 slice-aggregate-build-in-5 : tie.Need-slice-aggregate-build-in-5
-slice-aggregate-build-in-5 c = sym (part-length _ _ (omega arith))
+slice-aggregate-build-in-5 c = sym (length-take-le _ _ (omega arith))
 
-array-borrow-prefix-foes : tie.Need-array-borrow-prefix-foes
-array-borrow-prefix-foes c = search needs
+array-borrow-prefix-interfering : tie.Need-array-borrow-prefix-interfering
+array-borrow-prefix-interfering c = search needs
 
 slice-aggregate-build-in-6 : tie.Need-slice-aggregate-build-in-6
-slice-aggregate-build-in-6 c = sym (part-length _ _ (omega arith))
+slice-aggregate-build-in-6 c = sym (length-take-le _ _ (omega arith))
 
 build-in-requires : tie.Need-build-in-requires
-build-in-requires c κs = (
-  c .before .before .before .before .before .before .before .before .before .before .pre,
-  (
-    part-length _ _ (omega arith),
-    part-length _ _ (omega arith),
-    part-length _ _ (omega arith),
-    part-length _ _ (omega arith),
-    part-length _ _ (omega arith),
-    part-length _ _ (omega arith),
-  ),
-)
+build-in-requires c κs =
+    let start = c .before .before .before .before .before .before .before .before .before .before in
+    let few = length-take-le {A = ℕ} (start .args .c .props) (replicate 32 0) (start .pre .0 .ranged .props) in (
+      start .pre,
+      record {
+        needs-long = length-take-le _ _ (omega arith);
+        adds-long = length-take-le _ _ (omega arith);
+        dels-long = length-take-le _ _ (omega arith);
+        starts-long = length-take-le _ _ (omega arith);
+        adders-long = few;
+        interfering-long = length-take-le _ _ (omega arith);
+        no-adders = zeros (start .args .c .props) 32 (start .pre .0 .ranged .props) ∙ ap (λ (x : ℕ). listOver x (λ p. 0)) (sym few);
+      },
+    )
 
 same-length : tie.Need-same-length
 same-length c = search needs
@@ -79,7 +86,7 @@ build-words-spec =
     slice-aggregate-build-in-4
     array-borrow-prefix-adders
     slice-aggregate-build-in-5
-    array-borrow-prefix-foes
+    array-borrow-prefix-interfering
     slice-aggregate-build-in-6
     build-in-requires
     same-length

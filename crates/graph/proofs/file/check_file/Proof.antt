@@ -1,68 +1,180 @@
--- `file::check_file` meets its contract: each return is one stage of the rule.
-use mathlib.Core.Path.{_∙_, sym}
-use native.Mathlib.Omega.{arith}
-use borrow.Author.Tests.{not-true, not-false}
+-- `file::check_file` meets its contract: each link turns the file away with its own cause, in order; when all are passed, it is taken.
+use mathlib.Core.Path.{_≡_, sym, ap, _∙_}
+use mathlib.Core.List.{List}
+use Prim.Native.Nat.{ℕ}
 use borrow.Author.Needs.{needs}
-use Rattle.graph.proofs.Rules.{short, no-letters, other-version, headed}
+use Rattle.graph.specs.Format.{countsIn}
+use Rattle.graph.specs.File.{headRule, versionRule, countsRule, lengthRule, setsRule}
+use Rattle.graph.specs.Checks.{checkVerdict}
+use Rattle.graph.specs.Verdict.{accepted}
+use Rattle.graph.proofs.Verdicts.{told}
+use Rattle.graph.proofs.Ladder.{head-means, counts-mean, length-means, linked-taken, by-head, by-version, by-counts, by-length, by-sets}
 use Rattle.graph.proofs.file.check_file.Statement.{statement}
 use Rattle.graph.proofs.file.check_file.Tie as tie
 
-returns : tie.Need-returns
-returns c = short _ (c .if1 .taken)
+-- what each link that was passed says
+headed : (c : tie.After-enum-told) → headRule (c .before .before .before .before .args .file .now) ≡ accepted tt
+headed c = told checkVerdict (c .before .before .check-head .ensures) (c .enum-told .given .1)
 
-letters-requires : tie.Need-letters-requires
-letters-requires c κs = search needs
+abbrev at-head : tie.After-enum-told2 → tie.After-enum-told
+at-head c = c .before .before .before
+
+versioned : (c : tie.After-enum-told2) → versionRule (at-head c .before .before .before .before .args .file .now) ≡ accepted tt
+versioned c = told checkVerdict (c .before .before .check-version .ensures) (c .enum-told2 .given .1)
+
+abbrev at-counts : tie.After-enum-told3 → tie.After-counts
+at-counts c = c .before .before .before
+
+abbrev at-version : tie.After-enum-told3 → tie.After-enum-told2
+at-version c = at-counts c .before
+
+abbrev file : tie.After-enum-told3 → List ℕ
+file c = at-head (at-version c) .before .before .before .before .args .file .now
+
+are : (c : tie.After-enum-told3) → at-counts c .counts .result ≡ countsIn (file c)
+are c = at-counts c .counts .ensures
+
+ranged : (c : tie.After-enum-told3) → countsRule (countsIn (file c)) ≡ accepted tt
+ranged c =
+    ap countsRule (sym (are c)) ∙ told checkVerdict (c .before .before .check-counts .ensures) (c .enum-told3 .given .1)
+
+abbrev at-ranged : tie.After-enum-told4 → tie.After-enum-told3
+at-ranged c = c .before .before .before
+
+long : (c : tie.After-enum-told4) → lengthRule (file (at-ranged c)) (countsIn (file (at-ranged c))) ≡ accepted tt
+long c =
+    ap (lengthRule (file (at-ranged c))) (sym (are (at-ranged c)))
+    ∙ told checkVerdict (c .before .before .check-length .ensures) (c .enum-told4 .given .1)
+
+abbrev at-long : tie.After-enum-told5 → tie.After-enum-told4
+at-long c = c .before .before .before
+
+inside : (c : tie.After-enum-told5) → setsRule (file (at-ranged (at-long c))) (countsIn (file (at-ranged (at-long c)))) ≡ accepted tt
+inside c =
+    ap (setsRule (file (at-ranged (at-long c)))) (sym (are (at-ranged (at-long c))))
+    ∙ told checkVerdict (c .before .before .check-sets .ensures) (c .enum-told5 .given .1)
+
+check-head-requires : tie.Need-check-head-requires
+check-head-requires c κs = search needs
+
+enum-known-head : tie.Need-enum-known-head
+enum-known-head c = search needs
+
+returns : tie.Need-returns
+returns c = sym (by-head _ _ _ (told checkVerdict (c .before .before .before .check-head .ensures) (c .before .head .given .1)))
+
+enum-told : tie.Need-enum-told
+enum-told c = search needs
+
+check-version-requires : tie.Need-check-version-requires
+check-version-requires c κs = head-means _ (headed c) .0
+
+enum-known-version : tie.Need-enum-known-version
+enum-known-version c = search needs
 
 returns-2 : tie.Need-returns-2
-returns-2 c = no-letters _ (search needs) (sym (c .before .letters .ensures) ∙ not-true _ (c .if2 .taken))
+returns-2 c =
+    let at-before = c .before .before .before in
+    sym (by-version _ _ _ (headed (at-before .before))
+    (told checkVerdict (at-before .check-version .ensures) (c .before .version .given .1)))
 
-byte-requires : tie.Need-byte-requires
-byte-requires c κs = search needs
+enum-told-2 : tie.Need-enum-told-2
+enum-told-2 c = search needs
 
-byte-requires-2 : tie.Need-byte-requires-2
-byte-requires-2 c κs = search needs
-
-mul-version : tie.Need-mul-version
-mul-version c = search needs
-
-add-version : tie.Need-add-version
-add-version c = search needs
-
-returns-3 : tie.Need-returns-3
-returns-3 c = other-version _ (search needs) (sym (c .before .before .before .before .letters .ensures) ∙ not-false _ (c .before .before .before .if2 .left))
-    (λ e. c .if3 .taken (omega arith))
-
-byte-requires-3 : tie.Need-byte-requires-3
-byte-requires-3 c κs = search needs
-
-byte-requires-4 : tie.Need-byte-requires-4
-byte-requires-4 c κs = search needs
-
-byte-requires-5 : tie.Need-byte-requires-5
-byte-requires-5 c κs = search needs
+counts-requires : tie.Need-counts-requires
+counts-requires c κs = head-means _ (headed (at-head c)) .0
 
 check-counts-requires : tie.Need-check-counts-requires
 check-counts-requires c κs = search needs
 
+enum-known-ranged : tie.Need-enum-known-ranged
+enum-known-ranged c = search needs
+
+returns-3 : tie.Need-returns-3
+returns-3 c =
+    let at-before = c .before .before .before .before in
+    let q : tie.After-enum-told2 = at-before .before in
+    sym (by-counts _ _ _ (headed (at-head q)) (versioned q)
+    (ap countsRule (sym (at-before .counts .ensures))
+    ∙ told checkVerdict (c .before .before .before .check-counts .ensures) (c .before .ranged .given .1)))
+
+enum-told-3 : tie.Need-enum-told-3
+enum-told-3 c = search needs
+
+check-length-requires : tie.Need-check-length-requires
+check-length-requires c κs = counts-mean _ (told checkVerdict (c .before .before .check-counts .ensures) (c .enum-told3 .given .1))
+
+enum-known-long : tie.Need-enum-known-long
+enum-known-long c = search needs
+
 returns-4 : tie.Need-returns-4
-returns-4 c = c .check-counts .ensures ∙ headed _ _ (search needs) (search needs) (search needs) (search needs)
-    (sym (c .before .before .before .before .before .before .before .before .letters .ensures) ∙ not-false _
-    (c .before .before .before .before .before .before .before .if2 .left)) (search needs)
+returns-4 c =
+    let at-before = c .before .before .before in
+    let r : tie.After-enum-told3 = at-before .before in
+    sym (by-length _ _ _ (headed (at-head (at-version r))) (versioned (at-version r)) (ranged r)
+    (ap (lengthRule (file r)) (sym (are r))
+    ∙ told checkVerdict (at-before .check-length .ensures) (c .before .long .given .1)))
+
+enum-told-4 : tie.Need-enum-told-4
+enum-told-4 c = search needs
+
+check-sets-requires : tie.Need-check-sets-requires
+check-sets-requires c κs =
+    let r : tie.After-enum-told3 = at-ranged c in (
+      counts-mean _ (told checkVerdict (r .before .before .check-counts .ensures) (r .enum-told3 .given .1)),
+      length-means _ _ (told checkVerdict (c .before .before .check-length .ensures) (c .enum-told4 .given .1)),
+    )
+
+enum-known-sets : tie.Need-enum-known-sets
+enum-known-sets c = search needs
+
+returns-5 : tie.Need-returns-5
+returns-5 c =
+    let at-before = c .before .before .before in
+    let l : tie.After-enum-told4 = at-before .before in
+    let r : tie.After-enum-told3 = at-ranged l in
+    sym (by-sets _ _ _ (headed (at-head (at-version r))) (versioned (at-version r)) (ranged r) (long l)
+    (ap (setsRule (file r)) (sym (are r))
+    ∙ told checkVerdict (at-before .check-sets .ensures) (c .before .sets .given .1)))
+
+enum-told-5 : tie.Need-enum-told-5
+enum-told-5 c = search needs
+
+returns-6 : tie.Need-returns-6
+returns-6 c =
+    let r : tie.After-enum-told3 = at-ranged (at-long c) in
+    sym (linked-taken _ _ (record {
+      head = headed (at-head (at-version r));
+      version = versioned (at-version r);
+      counts = ranged r;
+      length = long (at-long c);
+      sets = inside c;
+      are = are r;
+    }))
 
 pub check-file-spec : {M : Type 1} → statement M
 check-file-spec =
     tie.close
     (tie.spec
+    check-head-requires
+    enum-known-head
     returns
-    letters-requires
+    enum-told
+    check-version-requires
+    enum-known-version
     returns-2
-    byte-requires
-    byte-requires-2
-    mul-version
-    add-version
-    returns-3
-    byte-requires-3
-    byte-requires-4
-    byte-requires-5
+    enum-told-2
+    counts-requires
     check-counts-requires
-    returns-4)
+    enum-known-ranged
+    returns-3
+    enum-told-3
+    check-length-requires
+    enum-known-long
+    returns-4
+    enum-told-4
+    check-sets-requires
+    enum-known-sets
+    returns-5
+    enum-told-5
+    returns-6)

@@ -1,32 +1,23 @@
--- `file::check_length` meets its contract: the length is the right one, or it is refused.
-use mathlib.Core.Path.{_∙_}
+-- `file::check_length` meets its contract.
+use mathlib.Core.Path.{sym, ap, _∙_}
+use Prim.Native.Nat.{ℕ}
+use Rattle.graph.specs.Verdict.{refused}
+use Rattle.graph.proofs.Links.{wrong-length, right-length}
 use borrow.Author.Needs.{needs}
-use Rattle.graph.proofs.Rules.{wrong-length, right-length}
 use Rattle.graph.proofs.file.check_length.Statement.{statement}
 use Rattle.graph.proofs.file.check_length.Tie as tie
+use Rattle.graph.proofs.file.check_length.Reads as reads
+use Rattle.graph.proofs.file.check_length.Lts as lts
+use Rattle.graph.proofs.format.Counts.right_length.Reads as right-length-reads
 
-mul-right : tie.Need-mul-right
-mul-right c = search needs
-
-add-right : tie.Need-add-right
-add-right c = search needs
-
-mul-right-2 : tie.Need-mul-right-2
-mul-right-2 c = search needs
-
-add-right-2 : tie.Need-add-right-2
-add-right-2 c = search needs
+right-length-requires : tie.Need-right-length-requires
+right-length-requires c κs = search needs
 
 returns : tie.Need-returns
-returns c = wrong-length _ _ (c .if1 .taken)
-
-check-sets-requires : tie.Need-check-sets-requires
-check-sets-requires c κs = search needs
+returns c = ap (λ (x : ℕ). refused 4 x) (c .before .right-length .ensures) ∙ wrong-length _ _ (λ e. c .if1 .taken (e ∙ sym (c .before .right-length .ensures)))
 
 returns-2 : tie.Need-returns-2
-returns-2 c = c .check-sets .ensures ∙ right-length _ _ (search needs)
+returns-2 c = right-length _ _ (c .if1 .left ∙ c .before .right-length .ensures)
 
 pub check-length-spec : {M : Type 1} → statement M
-check-length-spec =
-    tie.close
-    (tie.spec mul-right add-right mul-right-2 add-right-2 returns check-sets-requires returns-2)
+check-length-spec = tie.close (tie.spec right-length-requires returns returns-2)

@@ -1,16 +1,23 @@
 -- `file::check_sets` meets its contract: sets that together have no bit P or above pass, and else the first that has one is looked for.
-use Rattle.graph.proofs.Files.{joined-pass}
+use Prim.Native.Nat.{ℕ, _+_, _*_, _^_, _<_}
+use mathlib.Core.Path.{subst}
 use native.Mathlib.Omega.{arith}
 use lib.Pow.{pow-pos}
+use Rattle.rules.specs.Over.{joinOver}
+use Rattle.graph.specs.Format.{headBytes, setBytes, setAt}
+use Rattle.graph.proofs.Files.{joined-pass}
 use borrow.Author.Needs.{needs}
 use Rattle.graph.proofs.file.check_sets.Statement.{statement}
 use Rattle.graph.proofs.file.check_sets.Tie as tie
+use Rattle.graph.proofs.file.check_sets.Reads as reads
+use Rattle.graph.proofs.file.check_sets.Lts as lts
+use Rattle.graph.proofs.file.find_set.Reads as find-set-reads
+use Rattle.graph.proofs.file.joined_sets.Reads as joined-sets-reads
+use Rattle.graph.proofs.format.Counts.set_count.Reads as set-count-reads
+use Rattle.words.proofs.sets.Props.first.Reads as first-reads
 
-mul-joined-sets : tie.Need-mul-joined-sets
-mul-joined-sets c = search needs
-
-add-joined-sets : tie.Need-add-joined-sets
-add-joined-sets c = search needs
+set-count-requires : tie.Need-set-count-requires
+set-count-requires c κs = search needs
 
 joined-sets-requires : tie.Need-joined-sets-requires
 joined-sets-requires c κs = search needs
@@ -19,9 +26,12 @@ first-requires : tie.Need-first-requires
 first-requires c κs = search needs
 
 returns : tie.Need-returns
-returns c = let a = c .before .before .before .before .before .before .before .args in
-    joined-pass (a .file .now) (a .c) _
-    (omega (arith, c .before .before .before .joined-sets .ensures, c .before .before .first .ensures, pow-pos (a .c .props), c .if1 .taken))
+returns c =
+    let start = c .before .before .before .before .before .before in
+    let file = start .args .file .now in
+    joined-pass file (start .args .c) (subst (λ (n : ℕ). joinOver n (λ i. setAt file (headBytes + setBytes * i)) < 2 ^ start .args .c .props)
+    (c .before .before .before .before .set-count .ensures)
+    (omega (arith, c .before .before .before .joined-sets .ensures, c .before .before .first .ensures, pow-pos (start .args .c .props), c .if1 .taken)))
 
 find-set-requires : tie.Need-find-set-requires
 find-set-requires c κs = search needs
@@ -33,8 +43,7 @@ pub check-sets-spec : {M : Type 1} → statement M
 check-sets-spec =
     tie.close
     (tie.spec
-    mul-joined-sets
-    add-joined-sets
+    set-count-requires
     joined-sets-requires
     first-requires
     returns

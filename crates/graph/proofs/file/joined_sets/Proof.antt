@@ -2,13 +2,13 @@
 use mathlib.Core.Path.{refl}
 use Prim.Native.Nat.{_+_, _-_, _*_}
 use native.Mathlib.Omega.{arith}
-use Rattle.graph.specs.File.{setAt}
-use Rattle.graph.proofs.Folds.{Joins, join-none, join-more, join-done}
+use Rattle.graph.specs.Format.{headBytes, setBytes, setAt}
+use Rattle.words.proofs.Folds.{Joins, join-none, join-more, join-done}
 use Rattle.graph.proofs.file.joined_sets.Statement.{statement}
 use Rattle.graph.proofs.file.joined_sets.Tie as tie
 
 abbrev Inv-loop : tie.InvT-loop
-Inv-loop file count joined₀ i₀ joined i = Joins (λ k. setAt file (8 + 4 * k)) count i joined
+Inv-loop file count joined₀ i₀ joined i = Joins (λ k. setAt file (headBytes + setBytes * k)) count i joined
 
 abbrev μ-loop : tie.MeasureT-loop
 μ-loop file count joined₀ i₀ joined i = count - i

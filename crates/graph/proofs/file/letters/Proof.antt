@@ -1,7 +1,7 @@
 -- `file::letters` meets its contract: the letters are compared one by one.
 use native.Mathlib.Omega.{arith}
 use borrow.Author.Needs.{needs}
-use Rattle.graph.proofs.Rules.{first-not, second-not, third-not, all-letters}
+use Rattle.graph.proofs.Links.{first-not, second-not, third-not, all-letters}
 use Rattle.graph.proofs.file.letters.Statement.{statement}
 use Rattle.graph.proofs.file.letters.Tie as tie
 

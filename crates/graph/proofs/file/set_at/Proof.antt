@@ -1,7 +1,7 @@
 -- `file::set_at` meets its contract: four bytes, lowest first.
 use native.Mathlib.Omega.{arith}
 use borrow.Author.Needs.{needs}
-use Rattle.graph.specs.File.{setAt}
+use Rattle.graph.specs.Format.{setAt}
 use Rattle.graph.proofs.file.set_at.Statement.{statement}
 use Rattle.graph.proofs.file.set_at.Tie as tie
 

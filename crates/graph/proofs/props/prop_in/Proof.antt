@@ -3,13 +3,14 @@ use mathlib.Core.Path.{_≡_, sym, ap, _∙_}
 use Prim.Native.Nat.{ℕ}
 use native.Mathlib.Omega.{arith}
 use lib.ListN.{length, take}
+use lib.Seq.{length-take-le}
 use borrow.Author.Needs.{needs}
 use Rattle.rules.proofs.Layers.{labels-in}
 use Rattle.rules.specs.Shared.{nextLabel}
 use Rattle.rules.specs.Layer.{size}
-use Rattle.graph.proofs.Steps.{part-length, layer-put}
-use Rattle.graph.proofs.Nexts.{free-stays}
-use Rattle.graph.specs.Memory.{putAt}
+use Rattle.graph.proofs.LayerPuts.{layer-put}
+use Rattle.graph.proofs.LayerWords.{free-stays}
+use Rattle.words.specs.Memory.{putAt}
 use Rattle.graph.specs.Listed.{addedBy, nextWord, layerAfter}
 use Rattle.graph.proofs.props.prop_in.Statement.{statement}
 use Rattle.graph.proofs.props.prop_in.Tie as tie
@@ -21,12 +22,12 @@ slice-reshare-prefix-free-table : tie.Need-slice-reshare-prefix-free-table
 slice-reshare-prefix-free-table c = search needs
 
 slice-aggregate-free-table : tie.Need-slice-aggregate-free-table
-slice-aggregate-free-table c = sym (part-length _ _ (omega arith))
+slice-aggregate-free-table c = sym (length-take-le _ _ (omega arith))
 
 free-table-requires : tie.Need-free-table-requires
 free-table-requires c κs = let s = c .before .before .before .before .before .before .before in
     let at = c .before .before .layer-size .result in
-    (search needs, omega (arith, part-length at (s .args .words .now) (omega arith)), search needs)
+    (search needs, omega (arith, length-take-le at (s .args .words .now) (omega arith)), search needs)
 
 prop-labels-requires : tie.Need-prop-labels-requires
 prop-labels-requires c κs = let s = c .before .before .before .before .before .before .before .before .before .before .before in
@@ -61,12 +62,13 @@ same-length-3 c = search needs
 
 returns : tie.Need-returns
 unfolding layerAfter
-returns c = let a = c .before .before .before .before .before .before .before .before .before .before .before .before .before .before .before .before .before
+returns c =
+    let at-layer-size = c .before .before .before .before .before .before .before .before .before .before .before .before .before .before .before
+    .before .before in
+    let a = c .before .before .before .before .before .before .before .before .before .before .before .before .before .before .before .before .before
     .before .before .before .before .before .args in
-    let r = c .before .before .before .before .before .before .before .before .before .before .before .before .before .before .before .before .before
-    .layer-size .result in
-    let at : r ≡ size (a .m) = c .before .before .before .before .before .before .before .before .before .before .before .before .before .before .before
-    .before .before .layer-size .ensures .0 in
+    let r = at-layer-size .layer-size .result in
+    let at : r ≡ size (a .m) = at-layer-size .layer-size .ensures .0 in
     layer-put (nextWord (a .m) (a .adders .now)) (length (a .adders .now)) r (nextLabel (a .m) (addedBy (a .adders .now)) (take r (a .words .now)))
     (a .words .now) _ _ (omega arith) (c .before .before .before .before .before .before .before .before .before .before .prop-labels .ensures)
     (c .before .before .before .before .prop-pairs .ensures)

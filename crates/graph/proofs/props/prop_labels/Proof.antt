@@ -8,9 +8,9 @@ use lib.ListN.{length, getD, take}
 use borrow.Author.Needs.{needs as simple}
 use Rattle.rules.specs.Shared.{nextLabel}
 use Rattle.graph.specs.Listed.{addedBy}
-use Rattle.graph.proofs.Steps.{part-length}
-use Rattle.graph.proofs.Writes.{Lists, list-none, list-more, list-done, list-front}
-use Rattle.graph.proofs.Nexts.{label-next}
+use lib.Seq.{length-take-le}
+use Rattle.words.proofs.Writes.{Lists, list-none, list-more, list-done, list-front}
+use Rattle.graph.proofs.LayerWords.{label-next}
 use Rattle.graph.proofs.props.prop_labels.Statement.{statement}
 use Rattle.graph.proofs.props.prop_labels.Tie as tie
 
@@ -27,7 +27,7 @@ slice-reshare-prefix-join-at : tie.Need-slice-reshare-prefix-join-at Inv-loop μ
 slice-reshare-prefix-join-at c = omega (arith, c .before .loop .inv .long)
 
 slice-aggregate-join-at : tie.Need-slice-aggregate-join-at Inv-loop μ-loop
-slice-aggregate-join-at c = sym (part-length _ _ (omega (arith, c .before .before .loop .inv .long)))
+slice-aggregate-join-at c = sym (length-take-le _ _ (omega (arith, c .before .before .loop .inv .long)))
 
 mul-join-at : tie.Need-mul-join-at Inv-loop μ-loop
 mul-join-at c = omega arith
@@ -36,11 +36,13 @@ shared-slice-read-join-at : tie.Need-shared-slice-read-join-at Inv-loop μ-loop
 shared-slice-read-join-at c = omega arith
 
 join-at-requires : tie.Need-join-at-requires Inv-loop μ-loop
-join-at-requires c κs = let s = c .before .before .before .before .before .before in
-    let front = part-length (s .args .m) (c .before .before .before .loop .words) (omega (arith, c .before .before .before .loop .inv .long)) in (
+join-at-requires c κs =
+    let at-loop = c .before .before .before in
+    let s = c .before .before .before .before .before .before in
+    let front = length-take-le (s .args .m) (at-loop .loop .words) (omega (arith, at-loop .loop .inv .long)) in (
       omega (arith, front),
-      subst (λ (n : ℕ). getD (s .args .adders .now) (c .before .before .before .loop .p) 0 < 2 ^ n) (sym front)
-          (s .pre .4 (c .before .before .before .loop .p) (search simple)),
+      subst (λ (n : ℕ). getD (s .args .adders .now) (at-loop .loop .p) 0 < 2 ^ n) (sym front)
+          (s .pre .4 (at-loop .loop .p) (search simple)),
     )
 
 add-words : tie.Need-add-words Inv-loop μ-loop
@@ -59,12 +61,14 @@ loop-less : tie.Need-loop-less Inv-loop μ-loop
 loop-less c = omega arith
 
 loop-again : tie.Need-loop-again Inv-loop μ-loop
-loop-again c = let a = c .before .before .before .before .before .before .before .args in
-    let i = c .before .before .before .before .loop .inv in
-    let p = c .before .before .before .before .loop .p in
+loop-again c =
+    let at-loop = c .before .before .before .before in
+    let a = c .before .before .before .before .before .before .before .args in
+    let i = at-loop .loop .inv in
+    let p = at-loop .loop .p in
     list-more i (search simple) refl
     (c .join-at .ensures
-    ∙ label-next (a .m) (a .at) (c .before .before .before .before .loop .words) (a .adders .now) p (search simple) (omega (arith, i .long)) (search simple)
+    ∙ label-next (a .m) (a .at) (at-loop .loop .words) (a .adders .now) p (search simple) (omega (arith, i .long)) (search simple)
     ∙ ap (λ (l : List ℕ). nextLabel (a .m) (addedBy (a .adders .now)) l p) (list-front (a .at) i (le-refl _)))
 
 same-length : tie.Need-same-length Inv-loop μ-loop

@@ -5,7 +5,7 @@ use native.Mathlib.Omega.{arith}
 use lib.ListN.{length, getD, take}
 use Rattle.rules.specs.Word.{common, without}
 use Rattle.rules.proofs.Layers.{length-listOver}
-use Rattle.graph.proofs.Nexts.{next-none, next-cut}
+use Rattle.graph.proofs.LayerWords.{next-none, next-cut}
 use borrow.Author.Needs.{needs}
 use Rattle.graph.proofs.props.prop_pair.Statement.{statement}
 use Rattle.graph.proofs.props.prop_pair.Tie as tie

@@ -7,9 +7,9 @@ use lib.ListN.{length, getD, take}
 use borrow.Author.Needs.{needs as simple}
 use Rattle.rules.proofs.Layers.{size-pairs}
 use Rattle.rules.specs.Layer.{rowOf}
-use Rattle.graph.proofs.Writes.{Runs, run-none, run-done, run-front}
-use Rattle.graph.proofs.Cells.{table-length}
-use Rattle.graph.proofs.Nexts.{freeOf, free-joined, joined-long, pairs-room, pairs-more}
+use Rattle.words.proofs.Writes.{Runs, run-none, run-done, run-front}
+use Rattle.words.proofs.Cells.{table-length}
+use Rattle.graph.proofs.LayerWords.{freeOf, free-joined, joined-long, pairs-room, pairs-more}
 use Rattle.graph.specs.Listed.{over, nextWord}
 use Rattle.graph.proofs.props.prop_pairs.Statement.{statement}
 use Rattle.graph.proofs.props.prop_pairs.Tie as tie
@@ -25,7 +25,9 @@ add-to : tie.Need-add-to Inv-loop μ-loop
 add-to c = omega (arith, size-pairs (length (c .before .before .before .before .args .adders .now)))
 
 loop-holds : tie.Need-loop-holds Inv-loop μ-loop
-loop-holds c = (run-none (omega (arith, size-pairs (length (c .before .before .before .before .args .adders .now)))), c .before .before .before .before .pre .6)
+loop-holds c =
+    let start = c .before .before .before .before in
+    (run-none (omega (arith, size-pairs (length (start .args .adders .now)))), start .pre .6)
 
 mul-joined-row : tie.Need-mul-joined-row Inv-loop μ-loop
 mul-joined-row c = omega arith
@@ -34,28 +36,32 @@ shared-slice-read-joined-row : tie.Need-shared-slice-read-joined-row Inv-loop μ
 shared-slice-read-joined-row c = omega arith
 
 joined-row-requires : tie.Need-joined-row-requires Inv-loop μ-loop
-joined-row-requires c κs = let s = c .before .before .before .before .before .before .before .before in
-    let e = c .before .before .before .loop .inv .1 in (
+joined-row-requires c κs =
+    let at-loop = c .before .before .before in
+    let s = c .before .before .before .before .before .before .before .before in
+    let e = at-loop .loop .inv .1 in (
       search simple,
       omega (arith, e),
-      s .pre .4 (c .before .before .before .loop .p) (search simple),
+      s .pre .4 (at-loop .loop .p) (search simple),
       omega (arith, ap (λ (x : ℕ). s .args .m * x) e, ap length (s .pre .5) ∙ table-length (s .args .m) (s .args .m) _),
     )
 
 prop-row-requires : tie.Need-prop-row-requires Inv-loop μ-loop
-prop-row-requires c κs = let s = c .before .before .before .before .before .before .before .before .before .before .before .before .before in
+prop-row-requires c κs =
+    let at-loop = c .before .before .before .before .before .before .before .before in
+    let s = c .before .before .before .before .before .before .before .before .before .before .before .before .before in
     let a = s .args in
     let n = length (a .adders .now) in
-    let i = c .before .before .before .before .before .before .before .before .loop .inv .0 in
-    let set = getD (a .adders .now) (c .before .before .before .before .before .before .before .before .loop .p) 0 in (
+    let i = at-loop .loop .inv .0 in
+    let set = getD (a .adders .now) (at-loop .loop .p) 0 in (
       search simple,
       search simple,
       omega (arith, i .here),
       omega (arith, pairs-room (nextWord (a .m) (a .adders .now)) n (a .at) _ _ _ _ i (s .pre .3) (search simple), i .long),
       s .pre .4,
       search simple,
-      free-joined (a .m) set (take (a .at) (a .words .now)) (a .free .now) (c .before .before .before .before .before .before .before .before .loop .with)
-          (s .pre .5) (c .before .before .before .before .before .before .before .before .loop .inv .1) (c .before .before .before .before .joined-row .ensures)
+      free-joined (a .m) set (take (a .at) (a .words .now)) (a .free .now) (at-loop .loop .with)
+          (s .pre .5) (at-loop .loop .inv .1) (c .before .before .before .before .joined-row .ensures)
           ∙ ap (λ (l : List ℕ). freeOf (a .m) l set) (sym (run-front (a .at) i (omega arith))),
     )
 
@@ -81,14 +87,15 @@ loop-less : tie.Need-loop-less Inv-loop μ-loop
 loop-less c = omega arith
 
 loop-again : tie.Need-loop-again Inv-loop μ-loop
-loop-again c = let s = c .before .before .before .before .before .before .before .before .before .before .before .before .before .before .before .before in
+loop-again c =
+    let at-loop = c .before .before .before .before .before .before .before .before .before .before .before in
+    let s = c .before .before .before .before .before .before .before .before .before .before .before .before .before .before .before .before in
     let a = s .args in (
-      pairs-more (nextWord (a .m) (a .adders .now)) (length (a .adders .now)) (a .at) _ _ _ _ (c .before .before .before .before .before .before .before
-          .before .before .before .before .loop .inv .0) (s .pre .3) (search simple)
+      pairs-more (nextWord (a .m) (a .adders .now)) (length (a .adders .now)) (a .at) _ _ _ _ (at-loop .loop .inv .0) (s .pre .3) (search simple)
           (c .before .before .prop-row .ensures),
-      joined-long (a .m) (getD (a .adders .now) (c .before .before .before .before .before .before .before .before .before .before .before .loop .p) 0)
-          (a .free .now) (c .before .before .before .before .before .before .before .before .before .before .before .loop .with)
-          (c .before .before .before .before .before .before .before .before .before .before .before .loop .inv .1)
+      joined-long (a .m) (getD (a .adders .now) (at-loop .loop .p) 0)
+          (a .free .now) (at-loop .loop .with)
+          (at-loop .loop .inv .1)
           (c .before .before .before .before .before .before .before .joined-row .ensures),
     )
 

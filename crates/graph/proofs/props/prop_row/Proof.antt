@@ -7,9 +7,9 @@ use native.Mathlib.Nat.{le-refl}
 use lib.ListN.{length, getD}
 use borrow.Author.Needs.{needs as simple}
 use Rattle.rules.specs.Layer.{rowOf}
-use Rattle.graph.proofs.Steps.{pair-front}
-use Rattle.graph.proofs.Writes.{Lists, list-none, list-more, list-done, list-front}
-use Rattle.graph.proofs.Nexts.{freeOf}
+use Rattle.graph.proofs.LayerPuts.{pair-front}
+use Rattle.words.proofs.Writes.{Lists, list-none, list-more, list-done, list-front}
+use Rattle.graph.proofs.LayerWords.{freeOf}
 use Rattle.graph.specs.Listed.{over, nextWord}
 use Rattle.graph.proofs.props.prop_row.Statement.{statement}
 use Rattle.graph.proofs.props.prop_row.Tie as tie
@@ -63,11 +63,13 @@ loop-less : tie.Need-loop-less Inv-loop μ-loop
 loop-less c = omega arith
 
 loop-again : tie.Need-loop-again Inv-loop μ-loop
-loop-again c = let a = c .before .before .before .before .before .before .before .args in
-    let i = c .before .before .before .loop .inv in
+loop-again c =
+    let at-loop = c .before .before .before in
+    let a = c .before .before .before .before .before .before .before .args in
+    let i = at-loop .loop .inv in
     list-more i (search simple) refl
-    (pair-front (nextWord (a .m) (a .adders .now)) (length (a .adders .now)) (a .at) (a .to) (a .words .now) (c .before .before .before .loop .words) (a .p)
-    (a .p + 1 + c .before .before .before .loop .k) _ (list-front _ i (le-refl _)) (omega arith) (omega arith) (omega arith) (c .prop-pair .ensures))
+    (pair-front (nextWord (a .m) (a .adders .now)) (length (a .adders .now)) (a .at) (a .to) (a .words .now) (at-loop .loop .words) (a .p)
+    (a .p + 1 + at-loop .loop .k) _ (list-front _ i (le-refl _)) (omega arith) (omega arith) (omega arith) (c .prop-pair .ensures))
 
 same-length : tie.Need-same-length Inv-loop μ-loop
 same-length c = c .before .loop .inv .long

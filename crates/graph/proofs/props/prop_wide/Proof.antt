@@ -2,8 +2,8 @@
 use mathlib.Core.Path.{sym}
 use native.Mathlib.Omega.{arith}
 use borrow.Author.Needs.{needs}
-use Rattle.graph.proofs.Steps.{part-length}
-use Rattle.graph.proofs.Nexts.{square-wide}
+use lib.Seq.{length-take-le}
+use Rattle.graph.proofs.LayerWords.{square-wide}
 use Rattle.graph.proofs.props.prop_wide.Statement.{statement}
 use Rattle.graph.proofs.props.prop_wide.Tie as tie
 
@@ -14,13 +14,13 @@ array-borrow-prefix-free : tie.Need-array-borrow-prefix-free
 array-borrow-prefix-free c = omega (arith, square-wide (c .before .before .before .pre .1))
 
 slice-aggregate-prop-in : tie.Need-slice-aggregate-prop-in
-slice-aggregate-prop-in c = sym (part-length _ _ (omega (arith, square-wide (c .before .before .before .before .pre .1))))
+slice-aggregate-prop-in c = sym (length-take-le _ _ (omega (arith, square-wide (c .before .before .before .before .pre .1))))
 
 array-borrow-prefix-with : tie.Need-array-borrow-prefix-with
 array-borrow-prefix-with c = search needs
 
 slice-aggregate-prop-in-2 : tie.Need-slice-aggregate-prop-in-2
-slice-aggregate-prop-in-2 c = sym (part-length _ _ (omega arith))
+slice-aggregate-prop-in-2 c = sym (length-take-le _ _ (omega arith))
 
 prop-in-requires : tie.Need-prop-in-requires
 prop-in-requires c κs = let s = c .before .before .before .before .before in (
@@ -28,8 +28,8 @@ prop-in-requires c κs = let s = c .before .before .before .before .before in (
   omega arith,
   search needs,
   s .pre .3,
-  part-length _ _ (omega (arith, square-wide (s .pre .1))),
-  part-length _ _ (omega arith),
+  length-take-le _ _ (omega (arith, square-wide (s .pre .1))),
+  length-take-le _ _ (omega arith),
 )
 
 same-length : tie.Need-same-length

@@ -2,7 +2,7 @@
 use borrow.Author.Needs.{needs}
 use Rattle.rules.specs.Domain.{addsOf}
 use Rattle.graph.proofs.Reading.{below-chosen, above-chosen}
-use Rattle.graph.specs.File.{actionsOf}
+use Rattle.graph.specs.Format.{actionsOf}
 use Rattle.graph.proofs.read.added_by.Statement.{statement}
 use Rattle.graph.proofs.read.added_by.Tie as tie
 

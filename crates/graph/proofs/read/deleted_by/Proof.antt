@@ -3,7 +3,7 @@ use mathlib.Core.Path.{refl}
 use borrow.Author.Needs.{needs}
 use Rattle.rules.specs.Domain.{deletesOf}
 use Rattle.graph.proofs.Reading.{below-chosen, above-chosen}
-use Rattle.graph.specs.File.{actionsOf}
+use Rattle.graph.specs.Format.{actionsOf}
 use Rattle.graph.proofs.read.deleted_by.Statement.{statement}
 use Rattle.graph.proofs.read.deleted_by.Tie as tie
 

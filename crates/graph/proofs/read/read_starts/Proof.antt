@@ -4,8 +4,8 @@ use Prim.Native.Nat.{_-_}
 use native.Mathlib.Omega.{arith}
 use native.Mathlib.Nat.{zero-add}
 use borrow.Author.Needs.{needs as simple}
-use Rattle.graph.specs.File.{startOf}
-use Rattle.graph.proofs.Writes.{Lists, list-none, list-more, list-whole}
+use Rattle.graph.specs.Format.{startOf}
+use Rattle.words.proofs.Writes.{Lists, list-none, list-more, list-whole}
 use Rattle.graph.proofs.read.read_starts.Statement.{statement}
 use Rattle.graph.proofs.read.read_starts.Tie as tie
 

@@ -5,8 +5,8 @@ use native.Mathlib.Omega.{arith}
 use native.Mathlib.Nat.{zero-add}
 use borrow.Author.Needs.{needs as simple}
 use Rattle.rules.specs.Domain.{needsOf, addsOf, deletesOf}
-use Rattle.graph.specs.File.{actionsOf}
-use Rattle.graph.proofs.Writes.{Lists, list-none, list-more, list-whole}
+use Rattle.graph.specs.Format.{actionsOf}
+use Rattle.words.proofs.Writes.{Lists, list-none, list-more, list-whole}
 use Rattle.graph.proofs.read.read_vertices.Statement.{statement}
 use Rattle.graph.proofs.read.read_vertices.Tie as tie
 

@@ -1,9 +1,9 @@
--- `view::set` meets its contract: a walk of its MIR by hand. The view is taken apart, and `set_in` is called on the number and the fields.
+-- `view::set` meets its contract: a walk of its MIR by hand. The view is taken apart, and `set_in` is called on the offset and the fields.
 -- The view is Copy: what it owns is had twice, and one copy is kept whole for the exit. What the fields own together is what `set_in` asks,
--- beside the number.
+-- beside the offset.
 -- Assumes nothing.
 use mathlib.Core.Path.{_≡_, refl}
-use Prim.Native.Nat.{ℕ, _+_, _*_, _<_, _^_}
+use Prim.Native.Nat.{ℕ, _+_, _≤_, _<_, _^_}
 use mathlib.Core.List.{[], _∷_}
 use lib.Dec.{T as Holds}
 use lib.ListN.{length}
@@ -45,7 +45,7 @@ use denote.Triple.Table.{entered, cited}
 use denote.Triple.Walked.{says, needs, Stays, stay-none, walkOf, goes-none, Walks, ends-at, walked, walk-meets}
 use denote.Exit.{yes}
 use denote.Triple.Clauses.{ensured, lasts}
-use Rattle.graph.specs.File.{setAt}
+use Rattle.graph.specs.Format.{setAt, setBytes}
 use Rattle.graph.specs.declared.view.View.{View}
 use Rattle.graph.proofs.view.View as T
 use Rattle.graph.proofs.view.View.Laws as T′
@@ -68,9 +68,9 @@ D κs = T.the-type (namedLft 1 0 tt κs)
 abbrev L : (κs : Lfts 1) → LL.Laws (D κs)
 L κs = T′.the-laws (namedLft 1 0 tt κs)
 
--- what `set_in` asks of the file, the counts and the number
+-- what `set_in` asks of the file and the offset
 abbrev Asks : View → ℕ → Type 0
-Asks d i = (i < 3 * d .actions + d .states) × (length (now (d .bytes)) ≡ 8 + 12 * d .actions + 4 * d .states)
+Asks d i = i + setBytes ≤ length (now (d .bytes))
 
 abbrev stayed : Stays (set.ended .signature .params) (set.ended .kept)
 stayed = (stay-none B yes, (stay-none (λ _. usize) yes, tt))
@@ -86,7 +86,7 @@ module _ {M : Type 1} (𝓤 : URA M) (H : Heap 𝓤) (A : Atoms 𝓤) (W : Given
   mach = T′.lowered d
 
   abbrev found : ℕ
-  found = setAt (now (d .bytes)) (8 + 4 * i)
+  found = setAt (now (d .bytes)) i
 
   abbrev at : Vals set.signature (κ, tt)
   at = (mach ∷ [], (vint w64 i ∷ [], tt))

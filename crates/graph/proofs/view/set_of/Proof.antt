@@ -2,7 +2,7 @@
 -- In a local of a body MIR erases the lifetime of the struct's type, so the view is shown to have its type at `erased`.
 -- Assumes nothing.
 use mathlib.Core.Path.{_≡_, refl, ap, _∙_}
-use Prim.Native.Nat.{ℕ, _+_, _*_, _<_, _^_}
+use Prim.Native.Nat.{ℕ, _+_, _≤_, _<_, _^_}
 use mathlib.Core.List.{List, [], _∷_}
 use native.Mathlib.Omega.{arith}
 use lib.ListN.{length}
@@ -39,7 +39,7 @@ use denote.Triple.Table.{entered, cited}
 use denote.Triple.Walked.{says, needs, Stays, stay-none, stay-none-slice, walkOf, goes-none, goes-none-slice, Walks, ends-at, walked, walk-meets}
 use denote.Exit.{yes}
 use denote.Triple.Clauses.{ensured, lasts}
-use Rattle.graph.specs.File.{setAt}
+use Rattle.graph.specs.Format.{setAt, setBytes}
 use Rattle.graph.specs.declared.view.View.{View}
 use Rattle.graph.proofs.view.View as T
 use Rattle.graph.proofs.view.View.Laws as T′
@@ -60,9 +60,9 @@ use Rattle.graph.proofs.view.set_of.Code as code
 abbrev B : Lfts 1 → RattleType
 B κs = T.the-row (namedLft 1 0 tt κs)
 
--- what is asked of the file, two of its counts and the number
-abbrev Asks : RefT (List ℕ) → ℕ → ℕ → ℕ → Type 0
-Asks s a n i = (i < 3 * a + n) × (length (now s) ≡ 8 + 12 * a + 4 * n)
+-- what is asked of the file and the offset
+abbrev Asks : RefT (List ℕ) → ℕ → Type 0
+Asks s i = i + setBytes ≤ length (now s)
 
 abbrev stayed : Stays (of.ended .signature .params) (of.ended .kept)
 stayed = (
@@ -86,13 +86,13 @@ module _ {M : Type 1} (𝓤 : URA M) (H : Heap 𝓤) (A : Atoms 𝓤) (mem : Mem
 
 module _ {M : Type 1} (𝓤 : URA M) (H : Heap 𝓤) (A : Atoms 𝓤) (W : Given 𝓤 H A) (mem : Memory → SProp 𝓤) (run : Routine → Fun 𝓤)
     (κ : Lft) (q : Share) (s : RefT (List ℕ)) (p a n i : ℕ) (op : p < 2 ^ 64) (oa : a < 2 ^ 64) (on : n < 2 ^ 64) (oi : i < 2 ^ 64)
-    (asks : Asks s a n i) where
+    (asks : Asks s i) where
   -- the machine value that s has
   abbrev v : Val
   v = sliceVal (s .ptr) (length (s .now))
 
   abbrev found : RefT (List ℕ) → ℕ
-  found x = setAt (now x) (8 + 4 * i)
+  found x = setAt (now x) i
 
   -- the view's type as a local of a body has it
   abbrev αᵉ : NamedLft
@@ -142,15 +142,15 @@ module _ {M : Type 1} (𝓤 : URA M) (H : Heap 𝓤) (A : Atoms 𝓤) (W : Given
   new-said r = exE 𝓤 _ (λ ws. snd∗ 𝓤 (sem 𝓤 H A (lasts new.ended (κ, tt) (s, (p, (a, (n, tt)))) ws)) (fact 𝓤 (Made r)))
 
   -- the call of `set`, at the view r with the machine value u: r holds what was passed, so what is asked of the one holds of the other
-  made-asks : (r : View) → Made r → Asks (r .bytes) (r .actions) (r .states) i
+  made-asks : (r : View) → Made r → Asks (r .bytes) i
   made-asks r e =
       let l : length (now (r .bytes)) ≡ length (now s) = ap (λ (x : RefT (List ℕ)). length (now x)) (e .0) in
-      (omega (arith, asks, e .2, e .3), omega (arith, asks, l, e .2, e .3))
+      omega (arith, asks, l)
 
   abbrev to-set : View → Val → Set 𝓤 H A mem run .Ghost
   to-set r u = (((κ, tt), (q, tt), tt, (r, (i, tt)), (u ∷ [], (vint w64 i ∷ [], tt))), tt)
 
-  goes-set : (r : View) (u : Val) → Asks (r .bytes) (r .actions) (r .states) i
+  goes-set : (r : View) (u : Val) → Asks (r .bytes) i
       → ent 𝓤 (⋆ 𝓤 H A (‵ (B (κ, tt) .own r (u ∷ [])) ∷ (‵ (flft κ q) ⊛ ‵ ftrue) ∷ [])) (Set 𝓤 H A mem run .pre (to-set r u))
   goes-set r u asked =
       qed W (‵ (B (κ, tt) .own r (u ∷ [])) ∷ (‵ (flft κ q) ⊛ ‵ ftrue) ∷ []) ∵

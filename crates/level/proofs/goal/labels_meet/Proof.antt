@@ -9,7 +9,8 @@ use lib.Count.{trailingZeros}
 use lib.ListN.{getD}
 use Rattle.rules.specs.Layer.{labelIn}
 use Rattle.rules.specs.Word.{within}
-use Rattle.graph.proofs.Joins.{lowest-lt}
+use Rattle.words.specs.Width.{wordWidth}
+use Rattle.words.proofs.MemberLoops.{lowest-lt}
 use Rattle.level.specs.Meets.{labelMeets}
 use Rattle.level.proofs.Goals.{Left, left-all, left-less, left-not, left-none}
 use Rattle.level.proofs.goal.labels_meet.Statement.{statement}
@@ -30,7 +31,7 @@ inside c =
 -- its label is tested
 tested : (c : tie.After-within Inv-loop μ-loop) (b : Bool) → c .within .result ≡ b
     → let a = c .before .before .before .before .before .before .before .args in
-    labelMeets (a .layer .now) (a .set .0) (trailingZeros 64 (c .before .before .before .before .loop .left)) ≡ b
+    labelMeets (a .layer .now) (a .set .0) (trailingZeros wordWidth (c .before .before .before .before .loop .left)) ≡ b
 unfolding labelIn
 tested c b e =
     let a = c .before .before .before .before .before .before .before .args in

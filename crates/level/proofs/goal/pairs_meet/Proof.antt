@@ -6,6 +6,7 @@ use borrow.Author.Tests.{not-true, not-false}
 use borrow.Author.Needs.{needs}
 use native.Mathlib.Omega.{arith}
 use lib.Count.{trailingZeros}
+use Rattle.words.specs.Width.{wordWidth}
 use Rattle.level.specs.Meets.{allOf, pairMeets}
 use Rattle.level.proofs.Goals.{LeftTwo, two-all, two-inside, two-above, two-less, two-not, two-none, pairs-mutual}
 use Rattle.level.proofs.goal.pairs_meet.Statement.{statement}
@@ -20,7 +21,7 @@ abbrev μ-loop : tie.MeasureT-loop
 -- the next goal is tested with those above it
 tested : (c : tie.After-row-meets Inv-loop μ-loop) (b : Bool) → c .row-meets .result ≡ b
     → let a = c .before .before .before .before .before .before .before .args in
-    let p = trailingZeros 64 (c .before .before .before .before .loop .left) in
+    let p = trailingZeros wordWidth (c .before .before .before .before .loop .left) in
     allOf (a .n) (c .before .others .result) (pairMeets (a .n) (a .layer .now) (a .set .0) p) ≡ b
 tested c b e =
     let a = c .before .before .before .before .before .before .before .args in

@@ -8,8 +8,9 @@ use lib.Count.{trailingZeros}
 use Rattle.rules.specs.Layer.{mutexIn}
 use Rattle.rules.specs.Test.{fails}
 use Rattle.rules.specs.Word.{meets}
-use Rattle.graph.proofs.Joins.{lowest-lt}
-use Rattle.graph.proofs.Places.{mutex-up, size-small}
+use Rattle.words.specs.Width.{wordWidth}
+use Rattle.words.proofs.MemberLoops.{lowest-lt}
+use Rattle.words.proofs.Places.{mutex-up, size-small}
 use Rattle.level.specs.Meets.{pairMeets}
 use Rattle.level.proofs.Goals.{Left, left-all, left-above, left-less, left-not, left-none}
 use Rattle.level.proofs.goal.row_meets.Statement.{statement}
@@ -35,11 +36,12 @@ higher c =
 -- its mutex word with p is tested
 tested : (c : tie.After-meets Inv-loop μ-loop) (b : Bool) → c .meets .result ≡ b
     → let a = c .before .before .before .before .before .before .before .args in
-    pairMeets (a .n) (a .layer .now) (a .set .0) (a .p) (trailingZeros 64 (c .before .before .before .before .before .loop .left)) ≡ fails b
+    pairMeets (a .n) (a .layer .now) (a .set .0) (a .p) (trailingZeros wordWidth (c .before .before .before .before .before .loop .left)) ≡ fails b
 unfolding pairMeets
 tested c b e =
+    let at-before = c .before .before in
     let a = c .before .before .before .before .before .before .before .args in
-    let word = mutex-up (a .n) (a .layer .now) (a .p) _ _ (higher (c .before .before .before)) (c .before .before .pair-at .ensures .0) in
+    let word = mutex-up (a .n) (a .layer .now) (a .p) _ _ (higher (at-before .before)) (at-before .pair-at .ensures .0) in
     ap fails
     (ap (λ (q : ℕ). meets (a .set .0) (mutexIn (a .n) (a .layer .now) (a .p) q)) (sym (c .before .before .before .lowest .ensures))
     ∙ sym (c .meets .ensures ∙ ap (meets (a .set .0)) word)

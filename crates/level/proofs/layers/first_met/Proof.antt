@@ -7,12 +7,11 @@ use native.Mathlib.Nat.{lt-of-le-of-lt}
 use Rattle.rules.specs.Level.{firstMet}
 use Rattle.rules.specs.Word.{common, first}
 use Rattle.rules.proofs.Words.{first-lt}
-use Rattle.level.specs.Rule.{sized}
 use Rattle.level.proofs.Goals.{first-held}
 use Rattle.level.proofs.layers.first_met.Statement.{statement}
 use Rattle.level.proofs.layers.first_met.Tie as tie
 
-held : (c : tie.After-common) → c .common .result .0 ≡ common (c .before .before .before .args .goal .0) (first (c .before .before .before .args .n))
+held : (c : tie.After-common) → c .common .result .0 ≡ common (c .before .before .before .args .goal .0) (first (c .before .before .before .args .s .props))
 held c = c .common .ensures ∙ ap (common (c .before .before .before .args .goal .0)) (c .before .first .ensures)
 
 first-requires : tie.Need-first-requires
@@ -23,15 +22,16 @@ common-requires c κs = search needs
 
 first-met-of-requires : tie.Need-first-met-of-requires
 first-met-of-requires c κs =
-    let a = c .before .before .before .args in
-    (c .before .before .before .pre, subst (λ (x : ℕ). x < 2 ^ a .n) (sym (held c)) (lt-of-le-of-lt (and-le-r (a .goal .0) (first (a .n))) (first-lt (a .n))))
+    let start = c .before .before .before in
+    let a = start .args in
+    (start .pre, subst (λ (x : ℕ). x < 2 ^ a .s .props) (sym (held c)) (lt-of-le-of-lt (and-le-r (a .goal .0) (first (a .s .props))) (first-lt (a .s .props))))
 
 returns : tie.Need-returns
 returns c =
     let a = c .before .before .before .before .args in
     c .first-met-of .ensures
-    ∙ ap (λ (x : ℕ). firstMet (sized (a .n) (a .v)) (a .depth) (a .set .0) x (a .words .now)) (held (c .before))
-    ∙ first-held (a .n) (a .goal .0) (a .v) (a .depth) (a .set .0) (a .words .now)
+    ∙ ap (λ (x : ℕ). firstMet (a .s) (a .depth) (a .set .0) x (a .words .now)) (held (c .before))
+    ∙ first-held (a .s) (a .depth) (a .set .0) (a .goal .0) (a .words .now)
 
 pub first-met-spec : {M : Type 1} → statement M
 first-met-spec = tie.close (tie.spec first-requires common-requires first-met-of-requires returns)

@@ -3,17 +3,16 @@ use mathlib.Core.Path.{sym, _∙_}
 use Prim.Native.Nat.{_+_, _-_}
 use native.Mathlib.Omega.{arith}
 use Rattle.rules.specs.Level.{layerRests, firstRest}
-use Rattle.level.specs.Rule.{sized}
 use Rattle.level.proofs.Parts.{fewer}
 use Rattle.level.proofs.Searches.{Sought, sought-none, sought-more, sought-found, sought-done}
 use Rattle.level.proofs.layers.first_rest.Statement.{statement}
 use Rattle.level.proofs.layers.first_rest.Tie as tie
 
 abbrev Inv-loop : tie.InvT-loop
-Inv-loop words n v depth first₀ first = Sought (layerRests (sized n v) words) depth first
+Inv-loop words s depth first₀ first = Sought (layerRests s words) depth first
 
 abbrev μ-loop : tie.MeasureT-loop
-μ-loop words n v depth first₀ first = depth - first
+μ-loop words s depth first₀ first = depth - first
 
 loop-holds : tie.Need-loop-holds Inv-loop μ-loop
 loop-holds c = sought-none

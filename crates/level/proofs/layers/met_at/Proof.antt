@@ -5,15 +5,14 @@ use native.Mathlib.Omega.{arith}
 use borrow.Author.Needs.{needs}
 use lib.ListN.{length}
 use Rattle.rules.specs.Layer.{size, stride}
-use Rattle.graph.proofs.Writes.{tail-length}
-use Rattle.level.specs.Rule.{sized}
+use Rattle.words.proofs.Writes.{tail-length}
 use Rattle.level.proofs.Parts.{layer-fits, met-part}
 use Rattle.level.proofs.layers.met_at.Statement.{statement}
 use Rattle.level.proofs.layers.met_at.Tie as tie
 
 -- the layer lies within the words
 fits : (c : tie.After-layer-start)
-    → let a = c .before .before .args in a .t * stride (sized (a .n) (a .v)) + size (a .n) ≤ length (a .words .now)
+    → let a = c .before .before .args in a .t * stride (a .s) + size (a .s .props) ≤ length (a .words .now)
 fits c = layer-fits (c .before .before .pre .0) _ (omega arith)
 
 layer-start-requires : tie.Need-layer-start-requires
@@ -39,7 +38,7 @@ goal-met-requires c κs =
 returns : tie.Need-returns
 returns c =
     let a = c .before .before .before .before .args in
-    c .goal-met .ensures ∙ met-part (a .n) (a .v) (a .t) _ (a .words .now) (c .before .before .layer-start .ensures) (a .set .0) (a .goal .0)
+    c .goal-met .ensures ∙ met-part (a .s) (a .t) _ (a .words .now) (c .before .before .layer-start .ensures .0) (a .set .0) (a .goal .0)
 
 pub met-at-spec : {M : Type 1} → statement M
 met-at-spec =

@@ -5,8 +5,7 @@ use native.Mathlib.Omega.{arith}
 use borrow.Author.Needs.{needs}
 use lib.ListN.{length}
 use Rattle.rules.specs.Layer.{size, stride}
-use Rattle.graph.proofs.Writes.{tail-length}
-use Rattle.level.specs.Rule.{sized}
+use Rattle.words.proofs.Writes.{tail-length}
 use Rattle.level.proofs.Parts.{layer-fits, rests-part}
 use Rattle.level.proofs.layers.rests_at.Statement.{statement}
 use Rattle.level.proofs.layers.rests_at.Tie as tie
@@ -14,12 +13,14 @@ use Rattle.level.proofs.layers.rests_at.Tie as tie
 -- both layers lie within the words
 
 one : (c : tie.After-layer-size)
-    → let a = c .before .before .before .before .args in a .t * stride (sized (a .n) (a .v)) + size (a .n) ≤ length (a .words .now)
+    → let a = c .before .before .before .before .args in a .t * stride (a .s) + size (a .s .props) ≤ length (a .words .now)
 one c = layer-fits (c .before .before .before .before .pre) _ (omega arith)
 
 other : (c : tie.After-layer-size)
-    → let a = c .before .before .before .before .args in (a .t + 1) * stride (sized (a .n) (a .v)) + size (a .n) ≤ length (a .words .now)
-other c = layer-fits (c .before .before .before .before .pre) (c .before .before .before .before .args .t + 1) (omega arith)
+    → let a = c .before .before .before .before .args in (a .t + 1) * stride (a .s) + size (a .s .props) ≤ length (a .words .now)
+other c =
+    let start = c .before .before .before .before in
+    layer-fits (start .pre) (start .args .t + 1) (omega arith)
 
 layer-start-requires : tie.Need-layer-start-requires
 layer-start-requires c κs = search needs
@@ -71,8 +72,8 @@ returns : tie.Need-returns
 returns c =
     let a = c .before .before .before .before .before .before .before .args in
     c .same-words .ensures
-    ∙ rests-part (a .n) (a .v) (a .t) _ _ _ (a .words .now) (c .before .before .before .before .before .layer-start .ensures)
-    (c .before .before .before .before .layer-start2 .ensures) (c .before .before .before .layer-size .ensures .0)
+    ∙ rests-part (a .s) (a .t) _ _ _ (a .words .now) (c .before .before .before .before .before .layer-start .ensures .0)
+    (c .before .before .before .before .layer-start2 .ensures .0) (c .before .before .before .layer-size .ensures .0)
 
 pub rests-at-spec : {M : Type 1} → statement M
 rests-at-spec =

@@ -3,18 +3,18 @@ use Prim.Native.Nat.{_+_, _-_}
 use borrow.Author.Needs.{needs}
 use lib.ListN.{getD}
 use Rattle.rules.specs.Test.{same}
-use Rattle.level.proofs.Searches.{Alike, alike-none, alike-more, alike-done}
+use Rattle.level.proofs.Searches.{Compared, compared-none, compared-more, compared-done}
 use Rattle.level.proofs.layers.same_block.Statement.{statement}
 use Rattle.level.proofs.layers.same_block.Tie as tie
 
 abbrev Inv-loop : tie.InvT-loop
-Inv-loop one other at block differ₀ i₀ differ i = Alike (λ k. getD one (at + k) 0) (λ k. getD other (at + k) 0) block i differ
+Inv-loop one other at block differ₀ i₀ differ i = Compared (λ k. getD one (at + k) 0) (λ k. getD other (at + k) 0) block i differ
 
 abbrev μ-loop : tie.MeasureT-loop
 μ-loop one other at block differ₀ i₀ differ i = block - i
 
 loop-holds : tie.Need-loop-holds Inv-loop μ-loop
-loop-holds c = alike-none
+loop-holds c = compared-none
 
 add-differ : tie.Need-add-differ Inv-loop μ-loop
 add-differ c = search needs
@@ -41,11 +41,11 @@ loop-less : tie.Need-loop-less Inv-loop μ-loop
 loop-less c = search needs
 
 loop-again : tie.Need-loop-again Inv-loop μ-loop
-loop-again c = alike-more (c .before .before .before .loop .inv) (search needs)
+loop-again c = compared-more (c .before .before .before .loop .inv) (search needs)
 
 returns : tie.Need-returns Inv-loop μ-loop
 unfolding same
-returns c = alike-done (c .before .loop .inv) (search needs)
+returns c = compared-done (c .before .loop .inv) (search needs)
 
 pub same-block-spec : {M : Type 1} → statement M
 same-block-spec =

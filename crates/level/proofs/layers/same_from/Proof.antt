@@ -4,19 +4,21 @@ use Prim.Native.Nat.{_-_}
 use borrow.Author.Tests.{not-true, not-false}
 use borrow.Author.Needs.{needs}
 use native.Mathlib.Omega.{arith}
-use Rattle.level.specs.Meets.{alike}
-use Rattle.level.proofs.Searches.{Held, held-from, held-block, held-blocked, held-so}
+use Rattle.level.specs.Meets.{sameWord}
+use Rattle.level.proofs.Searches.{blockWords, Held, held-from, held-block, held-blocked, held-so}
 use Rattle.level.proofs.layers.same_from.Statement.{statement}
 use Rattle.level.proofs.layers.same_from.Tie as tie
 
 abbrev Inv-loop : tie.InvT-loop
-Inv-loop one other from count at₀ at = Held (alike one other) count at
+Inv-loop one other from count at₀ at = Held (sameWord one other) count at
 
 abbrev μ-loop : tie.MeasureT-loop
 μ-loop one other from count at₀ at = count - at
 
 loop-holds : tie.Need-loop-holds Inv-loop μ-loop
-loop-holds c = held-from (alike (c .before .before .args .one .now) (c .before .before .args .other .now)) _ _ (search needs) (c .before .before .pre .4)
+loop-holds c =
+    let start = c .before .before in
+    held-from (sameWord (start .args .one .now) (start .args .other .now)) _ _ (search needs) (start .pre .0 .equal)
 
 add-loop : tie.Need-add-loop Inv-loop μ-loop
 add-loop c = omega (arith, c .loop .inv .within)
@@ -25,7 +27,7 @@ same-block-requires : tie.Need-same-block-requires Inv-loop μ-loop
 same-block-requires c κs = omega arith
 
 returns : tie.Need-returns Inv-loop μ-loop
-returns c = held-blocked 32 (c .before .before .before .loop .inv) (omega arith) (sym (c .before .same-block .ensures) ∙ not-true _ (c .if1 .taken))
+returns c = held-blocked blockWords (c .before .before .before .loop .inv) (omega arith) (sym (c .before .same-block .ensures) ∙ not-true _ (c .if1 .taken))
 
 add-at : tie.Need-add-at Inv-loop μ-loop
 add-at c = omega arith
@@ -34,10 +36,11 @@ loop-less : tie.Need-loop-less Inv-loop μ-loop
 loop-less c = omega arith
 
 loop-again : tie.Need-loop-again Inv-loop μ-loop
-loop-again c = held-block 32 (c .before .before .before .loop .inv) (omega arith) (sym (c .before .same-block .ensures) ∙ not-false _ (c .if1 .left))
+loop-again c = held-block blockWords (c .before .before .before .loop .inv) (omega arith) (sym (c .before .same-block .ensures) ∙ not-false _ (c .if1 .left))
 
 same-last-requires : tie.Need-same-last-requires Inv-loop μ-loop
-same-last-requires c κs = (c .before .loop .inv .within, search needs, search needs, held-so (c .before .loop .inv))
+same-last-requires c κs =
+    let h = c .before .loop .inv in record { within = h .within; one-long = search needs; other-long = search needs; equal = held-so h }
 
 returns-2 : tie.Need-returns-2 Inv-loop μ-loop
 returns-2 c = c .same-last .ensures

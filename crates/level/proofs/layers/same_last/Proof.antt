@@ -2,19 +2,19 @@
 use Prim.Native.Nat.{_-_}
 use borrow.Author.Needs.{needs as simple}
 use Rattle.rules.proofs.Tests.{same-of, same-not}
-use Rattle.level.specs.Meets.{alike}
+use Rattle.level.specs.Meets.{sameWord}
 use Rattle.level.proofs.Searches.{Held, held-from, held-more, held-done, held-not}
 use Rattle.level.proofs.layers.same_last.Statement.{statement}
 use Rattle.level.proofs.layers.same_last.Tie as tie
 
 abbrev Inv-loop : tie.InvT-loop
-Inv-loop one other from count i₀ i = Held (alike one other) count i
+Inv-loop one other from count i₀ i = Held (sameWord one other) count i
 
 abbrev μ-loop : tie.MeasureT-loop
 μ-loop one other from count i₀ i = count - i
 
 loop-holds : tie.Need-loop-holds Inv-loop μ-loop
-loop-holds c = held-from (alike (c .args .one .now) (c .args .other .now)) _ _ (search simple) (c .pre .3)
+loop-holds c = held-from (sameWord (c .args .one .now) (c .args .other .now)) _ _ (search simple) (c .pre .equal)
 
 mul-if1 : tie.Need-mul-if1 Inv-loop μ-loop
 mul-if1 c = search simple

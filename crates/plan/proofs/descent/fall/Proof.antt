@@ -1,6 +1,6 @@
 -- The part lent is the action layer of the definition.
-use Rattle.plan.proofs.Falls.{fall-fits, fall-part}
-use Rattle.plan.specs.Search.{listed}
+use Rattle.plan.proofs.Descents.{fall-fits, fall-part}
+use Rattle.plan.specs.Search.{listedActions}
 use Rattle.rules.specs.Plan.{cover}
 use lib.ListN.{length, length-take, length-drop}
 use native.Mathlib.Omega.{arith}
@@ -21,10 +21,10 @@ layer-size-requires : tie.Need-layer-size-requires
 layer-size-requires c κs = search needs
 
 add-end : tie.Need-add-end
-add-end c = omega (arith, c .before .actions-start .ensures)
+add-end c = search needs
 
 mul-step-down : tie.Need-mul-step-down
-mul-step-down c = omega (arith, c .before .before .actions-start .ensures)
+mul-step-down c = search needs
 
 sub-step-down : tie.Need-sub-step-down
 sub-step-down c = search needs
@@ -33,32 +33,34 @@ part-step-down-start : tie.Need-part-step-down-start
 part-step-down-start c = search needs
 
 part-step-down-end : tie.Need-part-step-down-end
-part-step-down-end c = fall-fits (c .before .before .before .before .before .before .before .before .args .t) _ _
-    (c .before .before .before .before .before .before .before .before .pre .0)
-    (c .before .before .actions-start .ensures .0) (c .before .layer-size .ensures .0)
+part-step-down-end c =
+    let start = c .before .before .before .before .before .before .before .before in
+    fall-fits (start .args .t) _ _ (start .pre .0) (c .before .before .actions-start .ensures .0) (c .before .layer-size .ensures .0)
 
 step-down-requires : tie.Need-step-down-requires
-step-down-requires c κs = let s = c .before .before .layer-size .ensures in (
-  c .before .before .before .before .before .before .before .before .before .pre .0 .few,
-  c .before .before .before .before .before .before .before .before .before .pre .1,
-  c .before .before .before .before .before .before .before .before .before .pre .2,
-  simp (length-take, length-drop) (omega (
-    arith,
-    s,
-    fall-fits (c .before .before .before .before .before .before .before .before .before .args .t) _ _
-        (c .before .before .before .before .before .before .before .before .before .pre .0) (c .before .before .before .actions-start .ensures .0)
-        (c .before .before .layer-size .ensures .0),
-  )),
-  c .before .before .before .before .before .before .before .before .before .pre .3,
-)
+step-down-requires c κs =
+    let at-layer-size = c .before .before in
+    let start = c .before .before .before .before .before .before .before .before .before in (
+      record {
+        props = start .pre .0 .small .props;
+        lists = start .pre .1;
+        labelled = simp (length-take, length-drop) (omega (
+          arith,
+          at-layer-size .layer-size .ensures,
+          fall-fits (start .args .t) _ _ (start .pre .0) (c .before .before .before .actions-start .ensures .0) (at-layer-size .layer-size .ensures .0),
+        ));
+      },
+      start .pre .2,
+    )
 
 same-length : tie.Need-same-length
 same-length c = search needs
 
 returns : tie.Need-returns
-returns c = let a = c .before .before .before .before .before .before .before .before .before .before .before .before .args in
+returns c =
+    let a = c .before .before .before .before .before .before .before .before .before .before .before .before .args in
     c .before .before .step-down .ensures
-    ∙ ap (λ (l : List ℕ). cover (listed (length (a .needed .now)) (a .needs .now) (a .adds .now)) l (a .needed .now))
+    ∙ ap (λ (l : List ℕ). cover (listedActions (length (a .needed .now)) (a .needs .now) (a .adds .now)) l (a .needed .now))
     (fall-part (length (a .needed .now)) (a .needs .now) (a .adds .now) (a .words .now) (a .t) _ _
     (c .before .before .before .before .before .before .actions-start .ensures .0) (c .before .before .before .before .before .layer-size .ensures .0))
 

@@ -1,5 +1,6 @@
 -- The loop writes one need after the other.
-use Rattle.graph.proofs.Writes.{Lists, list-none, list-more, list-whole}
+use Rattle.words.proofs.Writes.{Lists, list-none, list-more, list-whole}
+use Rattle.words.specs.Width.{propWidth}
 use Rattle.rules.specs.Over.{keep}
 use Rattle.rules.specs.Word.{bit}
 use borrow.Author.Needs.{needs}
@@ -12,7 +13,7 @@ use Rattle.plan.proofs.descent.goals.Statement.{statement}
 use Rattle.plan.proofs.descent.goals.Tie as tie
 
 abbrev Inv-loop : tie.InvT-loop
-Inv-loop needed₀ goal set p₀ p-end needed p = (length needed₀ ≤ 32) × Lists (λ q. keep (bit q (goal .0)) (set .0)) 0 (length needed₀) needed₀ p needed
+Inv-loop needed₀ goal set p₀ p-end needed p = (length needed₀ ≤ propWidth) × Lists (λ q. keep (bit q (goal .0)) (set .0)) 0 (length needed₀) needed₀ p needed
 
 abbrev μ-loop : tie.MeasureT-loop
 μ-loop needed₀ goal set p₀ p-end needed p = length needed₀ - p

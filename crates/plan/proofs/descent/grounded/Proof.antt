@@ -48,11 +48,12 @@ loop-less c = omega arith
 
 loop-again : tie.Need-loop-again Inv-loop μ-loop
 unfolding labelIn
-loop-again c = (
-  c .before .before .before .before .before .loop .inv .0,
-  held-more (c .before .before .before .before .before .loop .inv .1)
-      (c .before .before .before .before .loop-test .taken) (sym (c .before .within .ensures) ∙ not-false _ (c .if1 .left)),
-)
+loop-again c =
+    let at-loop = c .before .before .before .before .before in (
+      at-loop .loop .inv .0,
+      held-more (at-loop .loop .inv .1)
+          (c .before .before .before .before .loop-test .taken) (sym (c .before .within .ensures) ∙ not-false _ (c .if1 .left)),
+    )
 
 returns-2 : tie.Need-returns-2 Inv-loop μ-loop
 returns-2 c = held-done (c .before .loop .inv .1) (c .loop-test .left)

@@ -1,7 +1,8 @@
 -- The memory lent is as wide as a layer.
-use Rattle.plan.proofs.Falls.{room-at}
-use Rattle.plan.proofs.Listings.{zeros}
-use Rattle.plan.specs.Search.{listed}
+use Rattle.plan.proofs.Descents.{room-at}
+use Rattle.words.proofs.Zeros.{zeros}
+use Rattle.words.specs.Width.{propWidth}
+use Rattle.plan.specs.Search.{listedActions}
 use Rattle.rules.specs.Plan.{descend}
 use Rattle.rules.specs.Lists.{listOver}
 use Rattle.rules.specs.Over.{keep}
@@ -20,33 +21,35 @@ array-borrow-prefix-needed : tie.Need-array-borrow-prefix-needed
 array-borrow-prefix-needed c = search needs
 
 slice-aggregate-goal-down : tie.Need-slice-aggregate-goal-down
-slice-aggregate-goal-down c = sym (length-take-le _ _ (omega (arith, c .before .before .before .before .before .pre .0 .few)))
+slice-aggregate-goal-down c = sym (length-take-le _ _ (omega (arith, c .before .before .before .before .before .pre .0 .small .props)))
 
 array-borrow-prefix-adders : tie.Need-array-borrow-prefix-adders
 array-borrow-prefix-adders c = search needs
 
 slice-aggregate-goal-down-2 : tie.Need-slice-aggregate-goal-down-2
-slice-aggregate-goal-down-2 c = sym (length-take-le _ _ (omega (arith, c .before .before .before .before .before .before .pre .0 .few)))
+slice-aggregate-goal-down-2 c = sym (length-take-le _ _ (omega (arith, c .before .before .before .before .before .before .pre .0 .small .props)))
 
 goal-down-requires : tie.Need-goal-down-requires
 goal-down-requires c κs = let s = c .before .before .before .before .before .before .before in
-    let long = length-take-le {A = ℕ} (s .args .n) (replicate 32 0) (s .pre .0 .few) in (
-      room-at _ long (s .pre .0),
+    let long = length-take-le {A = ℕ} (s .args .n) (replicate propWidth 0) (s .pre .0 .small .props) in (
+      room-at (s .args .needs .now) long (s .pre .0),
       s .pre .1,
-      s .pre .2,
       long ∙ sym long,
-      zeros (s .args .n) 32 (s .pre .0 .few) ∙ ap (λ (x : ℕ). listOver x (λ p. 0)) (sym long),
+      zeros (s .args .n) propWidth (s .pre .0 .small .props) ∙ ap (λ (x : ℕ). listOver x (λ p. 0)) (sym long),
     )
 
 same-length : tie.Need-same-length
 same-length c = search needs
 
 returns : tie.Need-returns
-returns c = let a = c .before .before .before .before .before .before .before .before .before .before .before .before .args in
+returns c =
+    let start = c .before .before .before .before .before .before .before .before .before .before .before .before in
+    let a = start .args in
     c .before .before .before .before .goal-down .ensures
-    ∙ ap (λ (x : ℕ). descend (listed x (a .needs .now) (a .adds .now)) (a .words .now) (length (a .plan .now)) (listOver x (λ p. keep (bit p (a .goal .0))
+    ∙ ap (λ (x : ℕ). descend (listedActions x (a .needs .now) (a .adds .now)) (a .words .now) (length (a .plan .now)) (listOver x (λ p. keep (bit p
+    (a .goal .0))
     (a .set .0))) [])
-    (length-take-le (a .n) (replicate 32 0) (c .before .before .before .before .before .before .before .before .before .before .before .before .pre .0 .few))
+    (length-take-le (a .n) (replicate propWidth 0) (start .pre .0 .small .props))
 
 pub plan-at-spec : {M : Type 1} → statement M
 plan-at-spec =

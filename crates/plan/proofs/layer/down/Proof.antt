@@ -12,7 +12,7 @@ support-requires c κs = c .before .before .before .before .before .before .befo
 
 replace-requires : tie.Need-replace-requires
 replace-requires c κs = sym (c .before .before .before .before .support .kept .1 .1 .1 .1 .1 .0
-    ∙ c .before .before .before .before .before .before .before .before .before .before .before .before .before .pre .0 .room)
+    ∙ c .before .before .before .before .before .before .before .before .before .before .before .before .before .pre .1)
 
 same-length : tie.Need-same-length
 same-length c = search needs
@@ -21,8 +21,10 @@ same-length-2 : tie.Need-same-length-2
 same-length-2 c = search needs
 
 returns : tie.Need-returns
-returns c = ap (λ (l : List ℕ). coveredAs (c .before .before .before .before .before .before .before .support .result) l)
-    (c .before .before .replace .ensures) ∙ c .before .before .before .before .before .before .before .support .ensures
+returns c =
+    let at-support = c .before .before .before .before .before .before .before in
+    ap (λ (l : List ℕ). coveredAs (at-support .support .result) l)
+    (c .before .before .replace .ensures) ∙ at-support .support .ensures
 
 pub down-spec : {M : Type 1} → statement M
 down-spec =

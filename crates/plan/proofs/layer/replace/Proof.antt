@@ -1,6 +1,6 @@
 -- The loop writes one word after the other, up to the end.
 use Rattle.plan.proofs.Listings.{list-is}
-use Rattle.graph.proofs.Writes.{Lists, list-none, list-more, list-whole}
+use Rattle.words.proofs.Writes.{Lists, list-none, list-more, list-whole}
 use borrow.Author.Needs.{needs}
 use lib.ListN.{length, getD}
 use Prim.Native.Nat.{_-_}

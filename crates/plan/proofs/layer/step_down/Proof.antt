@@ -1,6 +1,7 @@
 -- The memory below begins with nothing needed.
 use Rattle.plan.proofs.Searches.{cover-start}
-use Rattle.plan.proofs.Listings.{zeros}
+use Rattle.words.proofs.Zeros.{zeros}
+use Rattle.words.specs.Width.{propWidth}
 use lib.Seq.{length-take-le}
 use borrow.Author.Needs.{needs}
 use native.Mathlib.Omega.{arith}
@@ -15,23 +16,19 @@ slice-aggregate-down : tie.Need-slice-aggregate-down
 slice-aggregate-down c = sym (length-take-le _ _ (omega (arith, c .before .before .before .before .before .before .before .pre)))
 
 down-requires : tie.Need-down-requires
-down-requires c κs = (
-  record {
-    props = c .before .before .before .before .before .before .before .pre .0;
-    room = length-take-le _ _ (omega (arith, c .before .before .before .before .before .before .before .pre));
-    actions = c .before .before .before .before .before .before .before .pre .1;
-    alike = c .before .before .before .before .before .before .before .pre .2;
-    labelled = c .before .before .before .before .before .before .before .pre .3;
-  },
-  c .before .before .before .before .before .before .before .pre .4,
-)
+down-requires c κs =
+    let start = c .before .before .before .before .before .before .before in (
+      start .pre .0,
+      length-take-le _ _ (omega (arith, start .pre)),
+      start .pre .1,
+    )
 
 same-length : tie.Need-same-length
 same-length c = search needs
 
 returns : tie.Need-returns
-returns c = c .before .before .before .down .ensures ∙ cover-start _ _ _ _ _ _ (zeros _ 32
-    (c .before .before .before .before .before .before .before .before .before .before .before .pre .0))
+returns c = c .before .before .before .down .ensures ∙ cover-start _ _ _ _ _ _ (zeros _ propWidth
+    (c .before .before .before .before .before .before .before .before .before .before .before .pre .0 .props))
 
 pub step-down-spec : {M : Type 1} → statement M
 step-down-spec =

@@ -2,6 +2,7 @@
 use Rattle.rules.proofs.Words.{shift-single}
 use Rattle.rules.proofs.Tests.{same-of, same-not, below-of, below-not}
 use Rattle.rules.specs.Test.{choose, _and_, fails}
+use Rattle.words.specs.Width.{propWidth}
 use native.Mathlib.Omega.{arith}
 use borrow.Author.Needs.{needs}
 use Rattle.plan.proofs.vertex.mark.Statement.{statement}
@@ -15,7 +16,7 @@ shl-result c = search needs
 
 returns : tie.Need-returns
 unfolding choose _and_ fails
-returns c = simp (below-of _ _ (c .before .if1 .taken), same-not _ _ (c .if2 .taken), shift-single 32 (c .before .before .args .v) (omega arith))
+returns c = simp (below-of _ _ (c .before .if1 .taken), same-not _ _ (c .if2 .taken), shift-single propWidth (c .before .before .args .v) (omega arith))
 
 returns-2 : tie.Need-returns-2
 unfolding choose _and_ fails

@@ -1,5 +1,6 @@
 -- Behind place k stand the actions from number k on.
 use native.Mathlib.Omega.{arith}
+use Rattle.words.specs.Width.{wordWidth}
 use lib.Count.{trailing-le}
 use Prim.Native.Nat.{_/_, _^_}
 use borrow.Author.Needs.{needs}
@@ -16,7 +17,7 @@ lowest-requires : tie.Need-lowest-requires
 lowest-requires c κs = search needs
 
 add-result-2 : tie.Need-add-result-2
-add-result-2 c = omega (arith, c .lowest .ensures, trailing-le 64 (c .before .args .adders / 2 ^ c .before .args .k))
+add-result-2 c = omega (arith, c .lowest .ensures, trailing-le wordWidth (c .before .args .adders / 2 ^ c .before .args .k))
 
 returns : tie.Need-returns
 returns c = search needs

@@ -3,7 +3,6 @@ use mathlib.Core.Path.{ap}
 use Prim.Native.Nat.{ℕ}
 use Rattle.rules.specs.Word.{single}
 use Rattle.rules.specs.Level.{levelOf}
-use Rattle.level.specs.Rule.{sized}
 use Rattle.report.specs.Text.{lineText, allText}
 use Rattle.report.proofs.Texts.{wrote-then, wrote-same}
 use borrow.Author.Needs.{needs}
@@ -26,11 +25,11 @@ same-length : tie.Need-same-length
 same-length c = search needs
 
 returns : tie.Need-returns
-unfolding allText sized
+unfolding allText
 returns c = let s = c .before .before .before .before .before .before .before .before .before .before .before .before in
     wrote-then (c .before .before .before .before .before .before .before .put .ensures)
     (wrote-same (c .before .before .put-line .ensures)
-    (ap (λ (x : ℕ). lineText (s .args .n) (λ p. levelOf (sized (s .args .n) (s .args .v)) (s .args .depth) x (single p) (s .args .words .now)))
+    (ap (λ (x : ℕ). lineText (s .args .shape .props) (λ p. levelOf (s .args .shape) (s .args .depth) x (single p) (s .args .words .now)))
     (c .before .before .before .before .first .ensures)))
 
 pub put-all-spec : {M : Type 1} → statement M

@@ -3,7 +3,7 @@ use mathlib.Core.Path.{ap}
 use Prim.Native.Nat.{ℕ, _+_, _*_, _≤_}
 use native.Mathlib.Omega.{arith}
 use native.Mathlib.Nat.{mul-le-mul}
-use Rattle.level.specs.Rule.{sized}
+use Rattle.words.specs.Width.{propWidth}
 use Rattle.report.specs.Text.{headText, stateText, graphText}
 use Rattle.report.proofs.Texts.{runs-length, wrote-length, wrote-then, wrote-same}
 use Rattle.report.proofs.Marks.{rest-from, state-short, head-short}
@@ -12,7 +12,7 @@ use Rattle.report.proofs.lines.put_graph.Statement.{statement}
 use Rattle.report.proofs.lines.put_graph.Tie as tie
 
 -- a state's line is at most 132 bytes
-line-most : (n : ℕ) → n ≤ 32 → 4 + 4 * n ≤ 132
+line-most : (n : ℕ) → n ≤ propWidth → 4 + 4 * n ≤ 132
 line-most n h = omega arith
 
 first-rest-requires : tie.Need-first-rest-requires
@@ -31,13 +31,12 @@ put-states-requires c κs = let s = c .before .before .before .before .before .b
         arith,
         one .ends,
         wrote-length one,
-        head-short (s .args .depth) (c .before .before .before .before .before .first-rest .result) (omega (arith, s .pre .0 .depth)),
-        mul-le-mul (s .pre .1) (line-most (s .args .n) (s .pre .0 .few)),
+        head-short (s .args .depth) (c .before .before .before .before .before .first-rest .result) (omega (arith, s .pre .0 .deep)),
+        mul-le-mul (s .pre .1) (line-most (s .args .shape .props) (s .pre .0 .small .props)),
       ),
     )
 
 put-all-requires : tie.Need-put-all-requires
-unfolding sized
 put-all-requires c κs = let s = c .before .before .before .before .before .before .before .before .before .before .before .before in
     let one = c .before .before .before .before .before .before .before .put-head .ensures in
     let two = c .before .before .before .put-states .ensures in (
@@ -51,11 +50,11 @@ put-all-requires c κs = let s = c .before .before .before .before .before .befo
         two .ends,
         wrote-length two,
         head-short (s .args .depth) (c .before .before .before .before .before .before .before .before .before .first-rest .result) (omega
-            (arith, s .pre .0 .depth)),
-        runs-length (stateText (sized (s .args .n) (s .args .v)) (s .args .depth) (s .args .words .now)) (4 + 4 * s .args .n) (s .args .states)
-            (λ i h. state-short (sized (s .args .n) (s .args .v)) (s .args .depth) (s .args .words .now) (s .pre .0 .depth) i (omega (arith, s .pre .1))),
-        mul-le-mul (s .pre .1) (line-most (s .args .n) (s .pre .0 .few)),
-        s .pre .0 .few,
+            (arith, s .pre .0 .deep)),
+        runs-length (stateText (s .args .shape) (s .args .depth) (s .args .words .now)) (4 + 4 * s .args .shape .props) (s .args .states)
+            (λ i h. state-short (s .args .shape) (s .args .depth) (s .args .words .now) (s .pre .0 .deep) i (omega (arith, s .pre .1))),
+        mul-le-mul (s .pre .1) (line-most (s .args .shape .props) (s .pre .0 .small .props)),
+        s .pre .0 .small .props,
       ),
     )
 
@@ -67,7 +66,7 @@ unfolding graphText
 returns c = let s = c .before .before .before .before .before .before .before .before .before .before .before .before .before .before .before in
     wrote-then
     (wrote-same (c .before .before .before .before .before .before .before .before .before .before .put-head .ensures) (ap (headText (s .args .depth))
-    (rest-from _ (s .args .depth) (sized (s .args .n) (s .args .v)) (s .args .words .now)
+    (rest-from _ (s .args .depth) (s .args .shape) (s .args .words .now)
     (c .before .before .before .before .before .before .before .before .before .before .before .before .first-rest .ensures))))
     (wrote-then (c .before .before .before .before .before .before .put-states .ensures) (c .before .before .put-all .ensures))
 

@@ -61,19 +61,19 @@ slice-aggregate-put-3 : tie.Need-slice-aggregate-put-3
 slice-aggregate-put-3 c = search needs
 
 put-requires-3 : tie.Need-put-requires-3
-put-requires-3 c κs = let one = c .before .before .before .before .before .before .before .before .before .before .before .before .before .before .before
+put-requires-3 c κs =
+    let start = c .before .before .before .before .before .before .before .before .before .before .before .before .before .before .before .before
+    .before .before .before .before .before in
+    let one = c .before .before .before .before .before .before .before .before .before .before .before .before .before .before .before
     .before .before .put .ensures in
     let two = c .before .before .before .before .before .before .before .before .before .before .before .before .before .put-decimal .ensures in
     let three = c .before .before .before .before .before .before .before .before .put2 .ensures in
     let four = c .before .before .before .before .put-rest .ensures in
     omega (
       arith,
-      decimal-length 3 (c .before .before .before .before .before .before .before .before .before .before .before .before .before .before .before .before
-          .before .before .before .before .before .args .depth) (omega arith) (omega arith),
-      rest-short (c .before .before .before .before .before .before .before .before .before .before .before .before .before .before .before .before .before
-          .before .before .before .before .args .rest)
-          (c .before .before .before .before .before .before .before .before .before .before .before .before .before .before .before .before .before .before
-          .before .before .before .args .depth) (omega arith),
+      decimal-length 3 (start .args .depth) (omega arith) (omega arith),
+      rest-short (start .args .rest)
+          (start .args .depth) (omega arith),
       one .ends,
       wrote-length one,
       two .ends,

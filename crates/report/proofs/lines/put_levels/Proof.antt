@@ -1,30 +1,29 @@
 -- The loop writes one level behind the other.
 use borrow.Author.Needs.{needs}
 use mathlib.Core.Path.{ap, _∙_}
-use mathlib.Core.List.{_∷_}
 use Prim.Native.Nat.{ℕ, _-_}
 use native.Mathlib.Omega.{arith}
 use Rattle.rules.specs.Word.{single}
 use Rattle.rules.specs.Level.{Level, firstMet, levelOf}
-use Rattle.graph.proofs.Writes.{Runs, run-none}
-use Rattle.level.specs.Rule.{sized}
-use Rattle.report.specs.Text.{levelText, cellsText}
+use Rattle.words.proofs.Writes.{Runs, run-none}
+use Rattle.report.specs.Text.{cellText, cellsText}
 use Rattle.report.proofs.Texts.{more-room, more-text, all-text, wrote-same}
 use Rattle.report.proofs.Marks.{level-from, met-le, cell-short}
 use Rattle.report.proofs.lines.put_levels.Statement.{statement}
 use Rattle.report.proofs.lines.put_levels.Tie as tie
 
 abbrev Inv-loop : tie.InvT-loop
-Inv-loop words n v depth rest set out₀ at to₀ p₀ out to p = Runs (λ p. 32 ∷ levelText (levelOf (sized n v) depth (set .0) (single p) words)) at n out₀ p to out
+Inv-loop words shape depth rest set out₀ at to₀ end p₀ out to p = Runs (λ p. cellText (levelOf shape depth (set .0) (single p) words)) at
+    (shape .props) out₀ p to out
 
 abbrev μ-loop : tie.MeasureT-loop
-μ-loop words n v depth rest set out₀ at to₀ p₀ out to p = n - p
+μ-loop words shape depth rest set out₀ at to₀ end p₀ out to p = shape .props - p
 
 loop-holds : tie.Need-loop-holds Inv-loop μ-loop
 loop-holds c = run-none (omega arith)
 
 single-requires : tie.Need-single-requires Inv-loop μ-loop
-single-requires c κs = omega (arith, c .before .before .before .before .pre .0 .few)
+single-requires c κs = omega (arith, c .before .before .before .before .pre .0 .small .props)
 
 first-met-requires : tie.Need-first-met-requires Inv-loop μ-loop
 first-met-requires c κs = c .before .before .before .before .before .pre .0
@@ -34,12 +33,12 @@ put-level-requires c κs = let s = c .before .before .before .before .before .be
   omega (
     arith,
     c .before .first-met .ensures,
-    met-le (sized (s .args .n) (s .args .v)) (s .args .depth) (s .args .set .0) (s .args .words .now)
+    met-le (s .args .shape) (s .args .depth) (s .args .set .0) (s .args .words .now)
         (c .before .before .single .result .0),
-    s .pre .0 .depth,
+    s .pre .0 .deep,
   ),
-  omega (arith, s .pre .0 .depth),
-  more-room (c .before .before .before .before .loop .inv) 4 (search needs) (λ p h. cell-short _ _ _ _ (s .pre .0 .depth) _) (omega arith),
+  omega (arith, s .pre .0 .deep),
+  more-room (c .before .before .before .before .loop .inv) 4 (search needs) (λ p h. cell-short _ _ _ _ (s .pre .0 .deep) _) (omega arith),
 )
 
 add-p : tie.Need-add-p Inv-loop μ-loop
@@ -49,13 +48,15 @@ loop-less : tie.Need-loop-less Inv-loop μ-loop
 loop-less c = omega arith
 
 loop-again : tie.Need-loop-again Inv-loop μ-loop
-loop-again c = let s = c .before .before .before .before .before .before .before .before .before .before in
-    more-text (c .before .before .before .before .before .before .before .loop .inv) (search needs)
+loop-again c =
+    let at-loop = c .before .before .before .before .before .before .before in
+    let s = c .before .before .before .before .before .before .before .before .before .before in
+    more-text (at-loop .loop .inv) (search needs)
     (wrote-same (c .before .before .put-level .ensures)
-    (ap (λ (l : Level). 32 ∷ levelText l)
-    (level-from (sized (s .args .n) (s .args .v)) (s .args .depth) (s .args .set .0) (s .args .words .now) (single
-    (c .before .before .before .before .before .before .before .loop .p)) _ _
-    (c .before .before .before .before .first-met .ensures ∙ ap (λ (g : ℕ). firstMet (sized (s .args .n) (s .args .v)) (s .args .depth) (s .args .set .0) g
+    (ap (λ (l : Level). cellText l)
+    (level-from (s .args .shape) (s .args .depth) (s .args .set .0) (s .args .words .now) (single
+    (at-loop .loop .p)) _ _
+    (c .before .before .before .before .first-met .ensures ∙ ap (λ (g : ℕ). firstMet (s .args .shape) (s .args .depth) (s .args .set .0) g
     (s .args .words .now)) (c .before .before .before .before .before .single .ensures))
     (s .pre .1))))
 

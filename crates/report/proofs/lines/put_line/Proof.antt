@@ -1,6 +1,5 @@
 -- Three texts, one behind the other.
 use native.Mathlib.Omega.{arith}
-use Rattle.level.specs.Rule.{sized}
 use Rattle.report.specs.Text.{lineText}
 use Rattle.report.proofs.Texts.{wrote-length, wrote-then}
 use Rattle.report.proofs.Marks.{cells-short}
@@ -21,7 +20,6 @@ slice-aggregate-put-2 : tie.Need-slice-aggregate-put-2
 slice-aggregate-put-2 c = search needs
 
 put-requires-2 : tie.Need-put-requires-2
-unfolding sized
 put-requires-2 c κs = let s = c .before .before .before .before .before .before .before .before .before .before .before .before .before in
     let one = c .before .before .before .before .before .before .before .before .put .ensures in
     let two = c .before .before .before .before .put-levels .ensures in
@@ -31,7 +29,7 @@ put-requires-2 c κs = let s = c .before .before .before .before .before .before
       wrote-length one,
       two .ends,
       wrote-length two,
-      cells-short (sized (s .args .n) (s .args .v)) (s .args .depth) (s .args .words .now) (s .pre .0 .depth) (s .args .set .0),
+      cells-short (s .args .shape) (s .args .depth) (s .args .words .now) (s .pre .0 .deep) (s .args .set .0),
     )
 
 same-length : tie.Need-same-length

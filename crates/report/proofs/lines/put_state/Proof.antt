@@ -4,7 +4,6 @@ use Prim.Native.Nat.{ℕ}
 use native.Mathlib.Omega.{arith}
 use Rattle.rules.specs.Word.{single}
 use Rattle.rules.specs.Level.{levelOf}
-use Rattle.level.specs.Rule.{sized}
 use Rattle.report.specs.Text.{lineText, stateText}
 use Rattle.report.proofs.Texts.{decimal-length, wrote-length, wrote-then, wrote-same}
 use borrow.Author.Needs.{needs}
@@ -26,11 +25,11 @@ same-length : tie.Need-same-length
 same-length c = search needs
 
 returns : tie.Need-returns
-unfolding stateText sized
+unfolding stateText
 returns c = let s = c .before .before .before .before .before .before .before .before .before .before .before in
     wrote-then (c .before .before .before .before .before .before .before .put-decimal .ensures)
     (wrote-same (c .before .before .put-line .ensures)
-    (ap (λ (x : ℕ). lineText (s .args .n) (λ p. levelOf (sized (s .args .n) (s .args .v)) (s .args .depth) x (single p) (s .args .words .now)))
+    (ap (λ (x : ℕ). lineText (s .args .shape .props) (λ p. levelOf (s .args .shape) (s .args .depth) x (single p) (s .args .words .now)))
     (c .before .before .before .before .single .ensures)))
 
 pub put-state-spec : {M : Type 1} → statement M

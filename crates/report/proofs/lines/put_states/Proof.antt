@@ -2,8 +2,7 @@
 use borrow.Author.Needs.{needs}
 use Prim.Native.Nat.{_+_, _-_, _*_}
 use native.Mathlib.Omega.{arith}
-use Rattle.graph.proofs.Writes.{Runs, run-none}
-use Rattle.level.specs.Rule.{sized}
+use Rattle.words.proofs.Writes.{Runs, run-none}
 use Rattle.report.specs.Text.{stateText}
 use Rattle.report.proofs.Texts.{more-room, more-text, all-text}
 use Rattle.report.proofs.Marks.{state-short}
@@ -11,22 +10,21 @@ use Rattle.report.proofs.lines.put_states.Statement.{statement}
 use Rattle.report.proofs.lines.put_states.Tie as tie
 
 abbrev Inv-loop : tie.InvT-loop
-Inv-loop words n v depth rest states out₀ at to₀ s₀ out to s = Runs (stateText (sized n v) depth words) at states out₀ s to out
+Inv-loop words shape depth rest states out₀ at to₀ s₀ out to s = Runs (stateText shape depth words) at states out₀ s to out
 
 abbrev μ-loop : tie.MeasureT-loop
-μ-loop words n v depth rest states out₀ at to₀ s₀ out to s = states - s
+μ-loop words shape depth rest states out₀ at to₀ s₀ out to s = states - s
 
 loop-holds : tie.Need-loop-holds Inv-loop μ-loop
 loop-holds c = run-none (omega arith)
 
 put-state-requires : tie.Need-put-state-requires Inv-loop μ-loop
-unfolding sized
 put-state-requires c κs = let a = c .before .before .before .before .before in (
   search needs,
   search needs,
   omega arith,
-  more-room (c .before .before .loop .inv) (4 + 4 * a .args .n) (search needs)
-      (λ s h. state-short (sized (a .args .n) (a .args .v)) (a .args .depth) (a .args .words .now) (a .pre .0 .depth) s (omega arith)) (search needs),
+  more-room (c .before .before .loop .inv) (4 + 4 * a .args .shape .props) (search needs)
+      (λ s h. state-short (a .args .shape) (a .args .depth) (a .args .words .now) (a .pre .0 .deep) s (omega arith)) (search needs),
 )
 
 add-s : tie.Need-add-s Inv-loop μ-loop

@@ -5,8 +5,8 @@ use Prim.Native.Nat.{ℕ, _-_}
 use native.Mathlib.Omega.{arith}
 use lib.ListN.{length, getD}
 use Rattle.rules.proofs.Layers.{listOver-self}
-use Rattle.graph.specs.Memory.{putAt}
-use Rattle.graph.proofs.Writes.{Lists, list-none, list-more, list-done}
+use Rattle.words.specs.Memory.{putAt}
+use Rattle.words.proofs.Writes.{Lists, list-none, list-more, list-done}
 use Rattle.report.proofs.put.put.Statement.{statement}
 use Rattle.report.proofs.put.put.Tie as tie
 
@@ -23,10 +23,14 @@ shared-slice-read-out : tie.Need-shared-slice-read-out Inv-loop μ-loop
 shared-slice-read-out c = omega arith
 
 add-out : tie.Need-add-out Inv-loop μ-loop
-add-out c = omega (arith, c .before .before .loop .inv .long, c .before .before .loop .inv .room)
+add-out c =
+    let at-loop = c .before .before in
+    omega (arith, at-loop .loop .inv .long, at-loop .loop .inv .room)
 
 slice-write-out : tie.Need-slice-write-out Inv-loop μ-loop
-slice-write-out c = omega (arith, c .before .before .loop .inv .long, c .before .before .loop .inv .room)
+slice-write-out c =
+    let at-loop = c .before .before in
+    omega (arith, at-loop .loop .inv .long, at-loop .loop .inv .room)
 
 add-i : tie.Need-add-i Inv-loop μ-loop
 add-i c = omega arith

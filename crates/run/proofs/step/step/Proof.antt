@@ -37,10 +37,12 @@ further-requires c κs = search needs
 
 returns-2 : tie.Need-returns-2
 unfolding stepAnswer
-returns-2 c = let seen = c .before .before .before in
+returns-2 c =
+    let at-before = c .before .before in
+    let seen = at-before .before in
     let a = seen .before .before .before .before .before .args in
     ap did.Moved (c .further .ensures
-    ∙ ap₂ (λ (x y : ℕ). further x y (a .course)) (c .before .before .added .ensures) (c .before .deleted .ensures))
+    ∙ ap₂ (λ (x y : ℕ). further x y (a .course)) (at-before .added .ensures) (c .before .deleted .ensures))
     ∙ sym (choose-held _ _ _
     (ap₂ within (sym (seen .before .before .before .precondition .ensures)) (sym (seen .before .before .came .ensures))
     ∙ sym (seen .before .within .ensures) ∙ not-false _ (seen .if1 .left)))

@@ -1,0 +1,36 @@
+// Layers written again and again, once the graph rests.
+ghost use mathlib.Core.Path.{_≡_};
+ghost use Prim.Native.Nat.{_+_, _-_, _%_, _≤_, _<_};
+ghost use lib.ListN.{length, getD};
+ghost use Rattle.rules.specs.Lists.{listOver};
+ghost use Rattle.words.specs.Memory.{putAt};
+
+// So many words on, a load need not wait for the store that it copies.
+const APART: usize = 1024;
+
+// Writes the `stride` words before `to` again and again, `count` words in all: one flat loop, which copies what it wrote itself.
+fn copy_on(words: &mut [u64], to: usize, stride: usize, count: usize)
+    requires { ⌜ (0 < count → (0 < stride) × (stride ≤ to)) × (to + count ≤ length (now words)) ⌝ }
+    ensures { λ r. ⌜ now (words .exit) ≡ putAt to (listOver count (λ i. getD (now (words .entry)) (to - stride + i % stride) 0)) (now (words .entry)) ⌝ }
+{
+    for i in 0..count {
+        words[to + i] = words[to + i - stride];
+    }
+}
+
+// The same, with a stride of many such strides once there are so many words: a load then need not wait for the store just before it.
+pub fn repeat(words: &mut [u64], to: usize, stride: usize, count: usize)
+    requires { ⌜ (0 < count → (0 < stride) × (stride ≤ to)) × (to + count ≤ length (now words)) ⌝ }
+    ensures { λ r. ⌜ now (words .exit) ≡ putAt to (listOver count (λ i. getD (now (words .entry)) (to - stride + i % stride) 0)) (now (words .entry)) ⌝ }
+{
+    if count == 0 {
+        return;
+    }
+    let span = (APART / stride + 1) * stride;
+    let first = span - stride;
+    if count <= first {
+        return copy_on(words, to, stride, count);
+    }
+    copy_on(&mut *words, to, stride, first);
+    copy_on(words, to + first, span, count - first)
+}

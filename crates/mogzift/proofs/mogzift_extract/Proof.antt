@@ -1,0 +1,59 @@
+-- What `extract` answered is returned and told; the output is as it left it.
+use borrow.Author.Needs.{needs}
+use Rattle.extract.specs.Rule.{extractVerdict}
+use Rattle.graph.proofs.Verdicts.{told}
+use Rattle.mogzift.specs.Answer.{countSays}
+use Rattle.mogzift.proofs.Tells.{tells-accepted, tells-refused, with-memory}
+use Rattle.mogzift.proofs.mogzift_extract.Statement.{statement}
+use Rattle.mogzift.proofs.mogzift_extract.Tie as tie
+
+extract-requires : tie.Need-extract-requires
+extract-requires c κs = search needs
+
+enum-known-count : tie.Need-enum-known-count
+enum-known-count c = search needs
+
+tell-requires : tie.Need-tell-requires
+tell-requires c κs = search needs
+
+enum-known-why : tie.Need-enum-known-why
+enum-known-why c = search needs
+
+tell-refusal-requires : tie.Need-tell-refusal-requires
+tell-refusal-requires c κs = search needs
+
+same-length : tie.Need-same-length
+same-length c = search needs
+
+returns : tie.Need-returns
+returns c =
+    with-memory
+    (tells-accepted countSays _
+    (told extractVerdict (c .before .before .before .before .before .before .before .extract .ensures .0) (c .before .before .before .count .given .1))
+    (c .tell .ensures))
+    (c .before .before .before .before .before .before .before .extract .ensures .1)
+
+same-length-2 : tie.Need-same-length-2
+same-length-2 c = search needs
+
+returns-2 : tie.Need-returns-2
+returns-2 c =
+    with-memory
+    (tells-refused countSays _ _
+    (told extractVerdict (c .before .before .before .before .before .before .before .extract .ensures .0) (c .before .before .before .why .given .1))
+    (c .tell-refusal .ensures))
+    (c .before .before .before .before .before .before .before .extract .ensures .1)
+
+pub mogzift-extract-spec : {M : Type 1} → statement M
+mogzift-extract-spec =
+    tie.close
+    (tie.spec
+    extract-requires
+    enum-known-count
+    tell-requires
+    enum-known-why
+    tell-refusal-requires
+    same-length
+    returns
+    same-length-2
+    returns-2)

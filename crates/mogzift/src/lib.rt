@@ -1,0 +1,168 @@
+// The calls for C and Rust, over numbers and slices. A slice passes as a pointer and a length, the answer's room as a pointer to three numbers.
+mod tell;
+
+use extract::ExtractAnswer;
+use extract::extract;
+use graph::build::BuildAnswer;
+use graph::build::build;
+use level::LevelAnswer;
+use level::RestAnswer;
+use level::level;
+use level::rest;
+use plan::PlanAnswer;
+use plan::plan;
+use report::TextAnswer;
+use report::depth::DepthAnswer;
+use report::depth::fitting_depth;
+use report::levels_text;
+use run::RunAnswer;
+use run::run;
+use tell::tell;
+use tell::tell_refusal;
+use words::sets::Props;
+use words::sets::States;
+ghost use mathlib.Core.Path.{_≡_};
+ghost use lib.ListN.{length};
+ghost use Rattle.graph.specs.Verdict.{laid, written};
+ghost use Rattle.graph.specs.Build.{buildRule};
+ghost use Rattle.level.specs.Rule.{levelRule, restRule};
+ghost use Rattle.extract.specs.Rule.{extractRule};
+ghost use Rattle.run.specs.Run.{runRule};
+ghost use Rattle.plan.specs.Plan.{made, planRule};
+ghost use Rattle.report.specs.Depth.{fittingRule};
+ghost use Rattle.report.specs.Text.{textRule};
+ghost use Rattle.mogzift.specs.Answer.{codeOf, answerOf, countSays, restSays, levelSays, planSays, depthSays};
+
+#[no_mangle]
+pub extern "C" fn mogzift_build(
+    file: &[u8],
+    depth: usize,
+    words: &mut [u64],
+    answer: &mut [u64; 3],
+) -> usize
+    ensures { λ r. ⌜ (r ≡ codeOf (written (buildRule (now (file .entry)) depth (length (now (words .entry))))))
+        × (now (answer .exit) ≡ answerOf countSays (written (buildRule (now (file .entry)) depth (length (now (words .entry))))))
+        × (now (words .exit) ≡ laid (buildRule (now (file .entry)) depth (length (now (words .entry)))) (now (words .entry))) ⌝ }
+{
+    match build(file, depth, words) {
+        BuildAnswer::Built(count) => tell(answer, 1, count, 0),
+        BuildAnswer::Refused(why) => tell_refusal(answer, why),
+    }
+}
+
+#[no_mangle]
+pub extern "C" fn mogzift_rest(
+    file: &[u8],
+    depth: usize,
+    words: &[u64],
+    answer: &mut [u64; 3],
+) -> usize
+    ensures { λ r. ⌜ (r ≡ codeOf (restRule (now (file .entry)) depth (now (words .entry))))
+        × (now (answer .exit) ≡ answerOf restSays (restRule (now (file .entry)) depth (now (words .entry)))) ⌝ }
+{
+    match rest(file, depth, words) {
+        RestAnswer::At(t) => tell(answer, 1, t, 0),
+        RestAnswer::None => tell(answer, 2, 0, 0),
+        RestAnswer::Refused(why) => tell_refusal(answer, why),
+    }
+}
+
+#[no_mangle]
+pub extern "C" fn mogzift_level(
+    file: &[u8],
+    depth: usize,
+    set: u64,
+    goal: u32,
+    words: &[u64],
+    answer: &mut [u64; 3],
+) -> usize
+    ensures { λ r. ⌜ (r ≡ codeOf (levelRule (now (file .entry)) depth set goal (now (words .entry))))
+        × (now (answer .exit) ≡ answerOf levelSays (levelRule (now (file .entry)) depth set goal (now (words .entry)))) ⌝ }
+{
+    match level(file, depth, States(set), Props(goal), words) {
+        LevelAnswer::At(t) => tell(answer, 1, t, 0),
+        LevelAnswer::Never => tell(answer, 2, 0, 0),
+        LevelAnswer::NotByDepth => tell(answer, 3, 0, 0),
+        LevelAnswer::Refused(why) => tell_refusal(answer, why),
+    }
+}
+
+#[no_mangle]
+pub extern "C" fn mogzift_extract(
+    file: &[u8],
+    depth: usize,
+    set: u64,
+    words: &[u64],
+    out: &mut [u64],
+    answer: &mut [u64; 3],
+) -> usize
+    ensures { λ r. ⌜ (r ≡ codeOf (written (extractRule (now (file .entry)) depth set (now (words .entry)) (length (now (out .entry))))))
+        × (now (answer .exit) ≡ answerOf countSays (written (extractRule (now (file .entry)) depth set (now (words .entry)) (length (now (out .entry))))))
+        × (now (out .exit) ≡ laid (extractRule (now (file .entry)) depth set (now (words .entry)) (length (now (out .entry)))) (now (out .entry))) ⌝ }
+{
+    match extract(file, depth, States(set), words, out) {
+        ExtractAnswer::Extracted(count) => tell(answer, 1, count, 0),
+        ExtractAnswer::Refused(why) => tell_refusal(answer, why),
+    }
+}
+
+#[no_mangle]
+pub extern "C" fn mogzift_run(
+    file: &[u8],
+    set: u64,
+    list: &[u8],
+    out: &mut [u32],
+    answer: &mut [u64; 3],
+) -> usize
+    ensures { λ r. ⌜ (r ≡ codeOf (written (runRule (now (file .entry)) set (now (list .entry)) (length (now (out .entry))))))
+        × (now (answer .exit) ≡ answerOf countSays (written (runRule (now (file .entry)) set (now (list .entry)) (length (now (out .entry))))))
+        × (now (out .exit) ≡ laid (runRule (now (file .entry)) set (now (list .entry)) (length (now (out .entry)))) (now (out .entry))) ⌝ }
+{
+    match run(file, States(set), list, out) {
+        RunAnswer::Ran(count) => tell(answer, 1, count, 0),
+        RunAnswer::Refused(why) => tell_refusal(answer, why),
+    }
+}
+
+#[no_mangle]
+pub extern "C" fn mogzift_plan(
+    file: &[u8],
+    depth: usize,
+    set: u64,
+    goal: u32,
+    words: &[u64],
+    out: &mut [u32],
+    answer: &mut [u64; 3],
+) -> usize
+    ensures { λ r. ⌜ (r ≡ codeOf (made (planRule (now (file .entry)) depth set goal (now (words .entry)) (length (now (out .entry))))))
+        × (now (answer .exit) ≡ answerOf planSays (made (planRule (now (file .entry)) depth set goal (now (words .entry)) (length (now (out .entry))))))
+        × (now (out .exit) ≡ laid (planRule (now (file .entry)) depth set goal (now (words .entry)) (length (now (out .entry)))) (now (out .entry))) ⌝ }
+{
+    match plan(file, depth, States(set), Props(goal), words, out) {
+        PlanAnswer::Plan(t, count) => tell(answer, 1, t, count),
+        PlanAnswer::Refused(why) => tell_refusal(answer, why),
+    }
+}
+
+#[no_mangle]
+pub extern "C" fn mogzift_depth(file: &[u8], room: usize, answer: &mut [u64; 3]) -> usize
+    ensures { λ r. ⌜ (r ≡ codeOf (fittingRule (now (file .entry)) room))
+        × (now (answer .exit) ≡ answerOf depthSays (fittingRule (now (file .entry)) room)) ⌝ }
+{
+    match fitting_depth(file, room) {
+        DepthAnswer::Depth(depth) => tell(answer, 1, depth, 0),
+        DepthAnswer::Refused(why) => tell_refusal(answer, why),
+    }
+}
+
+#[no_mangle]
+pub extern "C" fn mogzift_levels_text(file: &[u8], out: &mut [u8], answer: &mut [u64; 3]) -> usize
+    ensures { λ r. ⌜ (r ≡ codeOf (written (textRule (now (file .entry)) (length (now (out .entry))))))
+        × (now (answer .exit) ≡ answerOf countSays (written (textRule (now (file .entry)) (length (now (out .entry))))))
+        × (now (out .exit) ≡ laid (textRule (now (file .entry)) (length (now (out .entry)))) (now (out .entry))) ⌝ }
+{
+    match levels_text(file, out) {
+        TextAnswer::Written(count) => tell(answer, 1, count, 0),
+        TextAnswer::Refused(why) => tell_refusal(answer, why),
+    }
+}

@@ -1,0 +1,63 @@
+-- The words in which Demand states what the calls promise together: the setting, and what is said of the states of a set.
+use mathlib.Core.Path.{_≡_}
+use mathlib.Core.Bool.{So}
+use mathlib.Core.List.{List, _++_}
+use Prim.Native.Nat.{ℕ, _^_, _≤_, _<_}
+use lib.ListN.{length, getD}
+use Rattle.rules.specs.Word.{bit, within}
+use Rattle.rules.specs.Own.{ownLevel}
+use Rattle.rules.specs.Run.{ended, runOf}
+use Rattle.graph.specs.Verdict.{accepted}
+use Rattle.graph.specs.Format.{actionsOf, startOf, domainOf}
+use Rattle.graph.specs.File.{fileRule}
+use Rattle.graph.specs.Build.{buildRule}
+use Rattle.graph.specs.declared.format.Counts.{Counts}
+
+-- the one holds exactly when the other does
+abbrev pub Exactly : Type 0 → Type 0 → Type 0
+Exactly X Y = (X → Y) × (Y → X)
+
+-- An accepted file with its counts, a depth and memory (of so many words) that the build accepts; what a call finds begins with the words that the
+-- build writes, then anything.
+pub record Found (file : List ℕ) (c : Counts) (depth : ℕ) (found : List ℕ) : Type 0 where
+  pub taken : fileRule file ≡ accepted c
+  pub memory : ℕ
+  pub words : List ℕ
+  pub build : buildRule file depth memory ≡ accepted words
+  pub rest : List ℕ
+  pub begins : found ≡ words ++ rest
+
+-- a non-empty set of the file's states
+pub record StatesOf (c : Counts) (set : ℕ) : Type 0 where
+  pub some : set ≡ 0 → ⊥
+  pub few : set < 2 ^ c .states
+
+-- a goal over the file's propositions
+abbrev pub GoalOf : Counts → ℕ → Type 0
+GoalOf c goal = goal < 2 ^ c .props
+
+-- what holds of each state of S
+abbrev pub Each : ℕ → (ℕ → Type 0) → Type 0
+Each set P = (s : ℕ) → So (bit s set) → P s
+
+-- 'The level that a state has by itself': that of its own graph, and depth + 1 where it has none
+abbrev pub alone : List ℕ → Counts → ℕ → ℕ → ℕ → ℕ
+alone file c depth goal s = ownLevel (domainOf file c) depth goal (startOf file c s)
+
+-- t is the largest of the levels that the states of S have by themselves: none is larger, and one has it
+pub record Largest (file : List ℕ) (c : Counts) (depth set goal t : ℕ) : Type 0 where
+  pub none-larger : Each set (λ s. alone file c depth goal s ≤ t)
+  pub state : ℕ
+  pub member : So (bit state set)
+  pub reached : alone file c depth goal state ≡ t
+
+-- 'a list ends with the goal when the end set of each state of S contains every goal'
+abbrev pub EndsWith : ℕ → ℕ → List ℕ → Type 0
+EndsWith set goal ends = Each set (λ s. So (within goal (getD ends s 0)))
+
+-- 'lists of action numbers below A of any length under this same rule': one that runs from each state of S and ends with the goal
+pub record Reaches (file : List ℕ) (c : Counts) (set goal : ℕ) (list : List ℕ) : Type 0 where
+  pub known : (i : ℕ) → i < length list → getD list i 0 < c .actions
+  pub ends : List ℕ
+  pub ran : runOf (actionsOf file c) (c .states) (startOf file c) set list ≡ ended ends
+  pub goals : EndsWith set goal ends

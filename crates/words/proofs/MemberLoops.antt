@@ -1,0 +1,159 @@
+-- Loops over the members of a set: what they join or share, and rows joined word by word.
+-- Assumes nothing.
+use Prim.Native.Nat.{ℕ, _+_, _-_, _*_, _^_, _≤_, _<_}
+use mathlib.Core.Path.{_≡_, refl, sym, ap, ap₂, subst, _∙_}
+use mathlib.Core.Bool.{Bool, true, false, So}
+use mathlib.Core.List.{List}
+use native.Mathlib.Omega.{arith}
+use native.Mathlib.Nat.{lt-of-lt-of-le, suc-mul, mul-le-mul-right}
+use lib.Bits.{bitAnd, and-le-r, or-zero-r}
+use lib.Count.{trailingZeros}
+use lib.ListN.{length, getD, take, drop}
+use lib.Pow.{pow-mono}
+use lib.Seq.{ext-getD, getD-drop}
+use Rattle.rules.specs.Test.{_and_, _or_}
+use Rattle.rules.specs.Word.{bit, common, union, without, single}
+use Rattle.rules.specs.Over.{joinOf, meetOf}
+use Rattle.rules.specs.Lists.{listOver}
+use Rattle.words.specs.Width.{wordWidth}
+use Rattle.rules.proofs.Words.{bit-union, bit-common, bit-below, ext-all, lowest-has, without-lowest, without-lt}
+use Rattle.rules.proofs.Tests.{test-eq, and-assoc, and-of, and-left, and-right}
+use Rattle.rules.proofs.Members.{join-empty, join-pick, meetOf-at, meet-empty, meet-pick}
+use Rattle.rules.proofs.Layers.{length-listOver, getD-listOver}
+use Rattle.words.proofs.Writes.{tail-all}
+
+-- ---- words joined and cut, by their bits
+
+or-regroup : (a b c : Bool) → ((a or b) or c) ≡ (a or (b or c))
+unfolding _or_
+or-regroup true b c = refl
+or-regroup false b c = refl
+
+pub union-assoc : (a b c : ℕ) → union (union a b) c ≡ union a (union b c)
+union-assoc a b c = ext-all _ _ (λ s.
+    bit-union s (union a b) c ∙ ap (λ (x : Bool). x or bit s c) (bit-union s a b) ∙ or-regroup (bit s a) (bit s b) (bit s c)
+    ∙ sym (bit-union s a (union b c) ∙ ap (λ (x : Bool). bit s a or x) (bit-union s b c)))
+
+pub common-assoc : (a b c : ℕ) → common (common a b) c ≡ common a (common b c)
+common-assoc a b c = ext-all _ _ (λ s.
+    bit-common s (common a b) c ∙ ap (λ (x : Bool). x and bit s c) (bit-common s a b) ∙ and-assoc (bit s a) (bit s b) (bit s c)
+    ∙ sym (bit-common s a (common b c) ∙ ap (λ (x : Bool). bit s a and x) (bit-common s b c)))
+
+-- ---- the lowest member of a set
+
+module _ (n set : ℕ) (few : n ≤ wordWidth) (inside : set < 2 ^ n) (some : 0 < set) where
+  word : set < 2 ^ wordWidth
+  word = lt-of-lt-of-le inside (pow-mono few)
+
+  pub lowest-in : So (bit (trailingZeros wordWidth set) set)
+  lowest-in = lowest-has wordWidth set word (λ e. omega arith)
+
+  pub lowest-lt : trailingZeros wordWidth set < n
+  lowest-lt = bit-below (trailingZeros wordWidth set) set n inside lowest-in
+
+-- `set & (set - 1)`
+pub others-is : (set : ℕ) → set < 2 ^ wordWidth → 0 < set → (bitAnd set (set - 1)
+    ≡ without set (single (trailingZeros wordWidth set))) × (bitAnd set (set - 1) < set)
+others-is set h some =
+    (without-lowest wordWidth set h (λ e. omega arith), omega (arith, and-le-r set (set - 1)))
+
+-- ---- a loop over the members: what they join, with those that are left
+
+pub record Members (f : ℕ → ℕ) (n set₀ left joined : ℕ) : Type 0 where
+  pub inside : left < 2 ^ n
+  pub is : union joined (joinOf n left f) ≡ joinOf n set₀ f
+
+pub members-none : {f : ℕ → ℕ} {n set : ℕ} → set < 2 ^ n → Members f n set set 0
+members-none h = record { inside = h; is = refl }
+
+pub members-more : {f : ℕ → ℕ} {n set₀ left joined b r left' : ℕ} → Members f n set₀ left joined → n ≤ wordWidth → 0 < left
+    → b ≡ f (trailingZeros wordWidth left)
+    → r ≡ union joined b → left' ≡ without left (single (trailingZeros wordWidth left)) → Members f n set₀ left' r
+members-more {f} {n} {set₀} {left} {joined} {b} {r} {left'} m few some e q l = record {
+  inside = subst (λ (x : ℕ). x < 2 ^ n) (sym l) (without-lt n left _ (m .inside));
+  is = ap₂ (λ (x y : ℕ). union x (joinOf n y f)) (q ∙ ap (union joined) e) l
+      ∙ union-assoc joined (f (trailingZeros wordWidth left)) (joinOf n (without left (single (trailingZeros wordWidth left))) f)
+      ∙ ap (union joined) (sym (join-pick n left (trailingZeros wordWidth left) f (lowest-lt n left few (m .inside) some) (lowest-in n left few
+      (m .inside) some)))
+      ∙ m .is;
+}
+
+pub members-done : {f : ℕ → ℕ} {n set₀ left joined : ℕ} → Members f n set₀ left joined → left ≤ 0 → joined ≡ joinOf n set₀ f
+members-done {f} {n} {set₀} {left} {joined} m h =
+    let e : left ≡ 0 = omega arith in
+    sym (or-zero-r joined) ∙ ap (union joined) (sym (join-empty n f)) ∙ ap (λ (x : ℕ). union joined (joinOf n x f)) (sym e) ∙ m .is
+
+-- the same of what all have in common
+pub record Shares (f : ℕ → ℕ) (w n set₀ left met : ℕ) : Type 0 where
+  pub inside : left < 2 ^ n
+  pub is : common met (meetOf n left f w) ≡ meetOf n set₀ f w
+  pub part : (s : ℕ) → So (bit s met) → So (bit s w)
+
+pub shares-none : {f : ℕ → ℕ} {w n set : ℕ} → set < 2 ^ n → Shares f w n set set w
+shares-none {f} {w} {n} {set} h = record {
+  inside = h;
+  is = ext-all _ _ (λ s. bit-common s w (meetOf n set f w) ∙ test-eq _ _ (λ t. and-right _ _ t) (λ t. and-of _ _ (meetOf-at s n set w f t .0) t));
+  part = λ s t. t;
+}
+
+pub shares-more : {f : ℕ → ℕ} {w n set₀ left met b r left' : ℕ} → Shares f w n set₀ left met → n ≤ wordWidth → 0 < left → b ≡ f (trailingZeros wordWidth left)
+    → r ≡ common met b → left' ≡ without left (single (trailingZeros wordWidth left)) → Shares f w n set₀ left' r
+shares-more {f} {w} {n} {set₀} {left} {met} {b} {r} {left'} m few some e q l = record {
+  inside = subst (λ (x : ℕ). x < 2 ^ n) (sym l) (without-lt n left _ (m .inside));
+  is = ap₂ (λ (x y : ℕ). common x (meetOf n y f w)) (q ∙ ap (common met) e) l
+      ∙ common-assoc met (f (trailingZeros wordWidth left)) (meetOf n (without left (single (trailingZeros wordWidth left))) f w)
+      ∙ ap (common met) (sym (meet-pick n left (trailingZeros wordWidth left) w f (lowest-lt n left few (m .inside) some) (lowest-in n left few
+      (m .inside) some)))
+      ∙ m .is;
+  part = λ s t. m .part s (and-left _ _ (sym (ap (bit s) q ∙ bit-common s met b) ∙ t));
+}
+
+pub shares-done : {f : ℕ → ℕ} {w n set₀ left met : ℕ} → Shares f w n set₀ left met → left ≤ 0 → met ≡ meetOf n set₀ f w
+shares-done {f} {w} {n} {set₀} {left} {met} m h =
+    let e : left ≡ 0 = omega arith in
+    ext-all _ _ (λ s. test-eq _ _ (λ t. bit-common s met w ∙ and-of _ _ t (m .part s t)) (λ t. and-left _ _ (sym (bit-common s met w) ∙ t)))
+    ∙ ap (common met) (sym (meet-empty n w f)) ∙ ap (λ (x : ℕ). common met (meetOf n x f w)) (sym e) ∙ m .is
+
+-- the same word by word of a row: word j joins f i j
+pub record Lanes (f : ℕ → ℕ → ℕ) (n set₀ : ℕ) (row₀ : List ℕ) (left : ℕ) (row : List ℕ) : Type 0 where
+  pub inside : left < 2 ^ n
+  pub long : length row ≡ length row₀
+  pub is : (j : ℕ) → j < length row₀ → union (getD row j 0) (joinOf n left (λ i. f i j)) ≡ union (getD row₀ j 0) (joinOf n set₀ (λ i. f i j))
+
+pub lanes-none : {f : ℕ → ℕ → ℕ} {n set : ℕ} {row : List ℕ} → set < 2 ^ n → Lanes f n set row set row
+lanes-none h = record { inside = h; long = refl; is = λ j l. refl }
+
+pub lanes-more : {f : ℕ → ℕ → ℕ} {n set₀ left left' : ℕ} {row₀ row row' : List ℕ} {b : ℕ → ℕ} → Lanes f n set₀ row₀ left row → n ≤ wordWidth → 0 < left
+    → ((j : ℕ) → j < length row → b j ≡ f (trailingZeros wordWidth left) j) → row' ≡ listOver (length row) (λ j. union (getD row j 0) (b j))
+    → left' ≡ without left (single (trailingZeros wordWidth left)) → Lanes f n set₀ row₀ left' row'
+lanes-more {f} {n} {set₀} {left} {left'} {row₀} {row} {row'} {b} m few some e q l = record {
+  inside = subst (λ (x : ℕ). x < 2 ^ n) (sym l) (without-lt n left _ (m .inside));
+  long = ap length q ∙ length-listOver (length row) _ ∙ m .long;
+  is = λ j h.
+      let g : j < length row = omega (arith, m .long) in
+      ap₂ (λ (x y : ℕ). union x (joinOf n y (λ i. f i j)))
+      (ap (λ (x : List ℕ). getD x j 0) q ∙ getD-listOver (length row) _ j g ∙ ap (union (getD row j 0)) (e j g)) l
+      ∙ union-assoc (getD row j 0) (f (trailingZeros wordWidth left) j) (joinOf n (without left (single (trailingZeros wordWidth left))) (λ i. f i j))
+      ∙ ap (union (getD row j 0))
+      (sym (join-pick n left (trailingZeros wordWidth left) (λ i. f i j) (lowest-lt n left few (m .inside) some) (lowest-in n left few (m .inside) some)))
+      ∙ m .is j h;
+}
+
+pub lanes-done : {f : ℕ → ℕ → ℕ} {n set₀ left : ℕ} {row₀ row : List ℕ} → Lanes f n set₀ row₀ left row → left ≤ 0
+    → row ≡ listOver (length row₀) (λ j. union (getD row₀ j 0) (joinOf n set₀ (λ i. f i j)))
+lanes-done {f} {n} {set₀} {left} {row₀} {row} m h =
+    let e : left ≡ 0 = omega arith in
+    ext-getD 0 row _ (m .long ∙ sym (length-listOver (length row₀) _)) (λ j l.
+    let g : j < length row₀ = omega (arith, m .long) in
+    sym (or-zero-r (getD row j 0)) ∙ ap (union (getD row j 0)) (sym (join-empty n (λ i. f i j)))
+    ∙ ap (λ (x : ℕ). union (getD row j 0) (joinOf n x (λ i. f i j))) (sym e) ∙ m .is j g ∙ sym (getD-listOver (length row₀) _ j g))
+
+-- ---- rows of a table
+
+-- a row of a table lies within it
+pub row-fits : (i rows width len : ℕ) → i < rows → rows * width ≤ len → i * width + width ≤ len
+row-fits i rows width len h r = omega (arith, suc-mul i width, mul-le-mul-right width h)
+
+-- a word of the part that begins with a row
+pub part-cell : (at j : ℕ) (table : List ℕ) → getD (take (length table - at) (drop at table)) j 0 ≡ getD table (at + j) 0
+part-cell at j table = ap (λ (l : List ℕ). getD l j 0) (tail-all at table) ∙ getD-drop at table j 0

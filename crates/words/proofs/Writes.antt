@@ -1,0 +1,195 @@
+-- Words written into lent memory: one by one, list behind list, and through a lent part.
+-- Assumes nothing.
+use mathlib.Core.Path.{_≡_, refl, sym, ap, ap₂, _∙_}
+use mathlib.Core.List.{List, [], _∷_, _++_, append-assoc, append-nil}
+use Prim.Native.Nat.{ℕ, _+_, _-_, _≤_, _<_}
+use native.Mathlib.Nat.{add-assoc, add-zero}
+use native.Mathlib.Numerals.{add-one}
+use native.Mathlib.Omega.{arith}
+use borrow.Rule.Slice.PartMut.{putMid}
+use lib.ListN.{length, getD, take, drop, set, length-append, length-drop, length-set, drop-of-length-le, take-append-drop, List·getD-append}
+use lib.Seq.{getD-take, getD-drop, take-at, drop-at, take-all, take-take, drop-drop, length-take-le, take-append-le, take-add, set-split}
+use Rattle.rules.specs.Lists.{listOver, runOver}
+use Rattle.rules.proofs.Layers.{length-listOver}
+use Rattle.words.specs.Memory.{putAt}
+
+-- ---- the laws of putAt
+
+pub put-none : (at : ℕ) (w : List ℕ) → putAt at [] w ≡ w
+unfolding putAt
+put-none at w = ap (λ (x : ℕ). take at w ++ drop x w) (add-zero at) ∙ take-append-drop at w
+
+module _ (at : ℕ) (xs w : List ℕ) (room : at + length xs ≤ length w) where
+  front-length : length (take at w) ≡ at
+  front-length = length-take-le at w (omega arith)
+
+  pub put-length : length (putAt at xs w) ≡ length w
+  unfolding putAt
+  put-length =
+      length-append (take at w) (xs ++ drop (at + length xs) w)
+      ∙ omega (arith, front-length, length-append xs (drop (at + length xs) w), length-drop (at + length xs) w)
+
+  -- what stands before stays
+  pub put-front : (b : ℕ) → b ≤ at → take b (putAt at xs w) ≡ take b w
+  unfolding putAt
+  put-front b l =
+      take-append-le b (take at w) (xs ++ drop (at + length xs) w) (omega (arith, front-length)) ∙ take-take b at w l
+
+  -- from `at` on
+  pub put-back : drop at (putAt at xs w) ≡ xs ++ drop (at + length xs) w
+  unfolding putAt
+  put-back = drop-at (take at w) (xs ++ drop (at + length xs) w) at front-length
+
+  -- behind what was put, memory stays
+  pub put-rest : drop (at + length xs) (putAt at xs w) ≡ drop (at + length xs) w
+  put-rest =
+      sym (drop-drop (length xs) at (putAt at xs w)) ∙ ap (drop (length xs)) put-back ∙ drop-at xs (drop (at + length xs) w) (length xs) refl
+
+  -- the words put, and all before them
+  pub put-take : take (at + length xs) (putAt at xs w) ≡ take at w ++ xs
+  put-take =
+      take-add at (length xs) (putAt at xs w)
+      ∙ ap₂ (λ (l r : List ℕ). l ++ r) (put-front at (omega arith)) (ap (take (length xs)) put-back ∙ take-at xs (drop (at + length xs) w) (length xs) refl)
+
+  -- a list put behind another
+  pub put-put : (ys : List ℕ) → putAt (at + length xs) ys (putAt at xs w) ≡ putAt at (xs ++ ys) w
+  unfolding putAt
+  put-put ys =
+      let e : at + length xs + length ys ≡ at + length (xs ++ ys) = omega (arith, length-append xs ys) in
+      ap₂ (λ (l r : List ℕ). l ++ (ys ++ r)) put-take
+      (sym (drop-drop (length ys) (at + length xs) (putAt at xs w)) ∙ ap (drop (length ys)) put-rest ∙ drop-drop (length ys) (at + length xs) w
+      ∙ ap (λ (x : ℕ). drop x w) e)
+      ∙ append-assoc (take at w) xs (ys ++ drop (at + length (xs ++ ys)) w)
+      ∙ ap (λ (l : List ℕ). take at w ++ l) (sym (append-assoc xs ys (drop (at + length (xs ++ ys)) w)))
+
+  -- word i of those put
+  pub put-word : (i : ℕ) → i < length xs → getD (putAt at xs w) (at + i) 0 ≡ getD xs i 0
+  put-word i h =
+      sym (getD-drop at (putAt at xs w) i 0) ∙ ap (λ (l : List ℕ). getD l i 0) put-back ∙ List·getD-append xs (drop (at + length xs) w) 0 i h
+
+-- one word
+pub put-one : (at v : ℕ) (w : List ℕ) → at < length w → set w at v ≡ putAt at (v ∷ []) w
+unfolding putAt
+put-one at v w h = set-split w at v h ∙ ap (λ (x : ℕ). take at w ++ (v ∷ drop x w)) (sym (add-one at))
+
+-- ---- what is lent by &mut w[at..], and the whole once it is back
+
+pub tail-all : (at : ℕ) (w : List ℕ) → take (length w - at) (drop at w) ≡ drop at w
+tail-all at w = take-all (length w - at) (drop at w) (omega (arith, length-drop at w))
+
+pub tail-length : (at : ℕ) (w : List ℕ) → at ≤ length w → length (take (length w - at) (drop at w)) ≡ length w - at
+tail-length at w h = ap length (tail-all at w) ∙ length-drop at w
+
+put-tail : (at : ℕ) (w p : List ℕ) → at ≤ length w → putMid at (length w - at) w p ≡ take at w ++ p
+put-tail at w p h =
+    let e : length w ≤ at + (length w - at) = omega arith in
+    ap (λ (x : List ℕ). take at w ++ (p ++ x)) (drop-drop (length w - at) at w ∙ drop-of-length-le w e)
+    ∙ ap (λ (x : List ℕ). take at w ++ x) (append-nil p)
+
+-- words put into the lent part are put into the whole
+pub put-within : (at b : ℕ) (xs w p : List ℕ) → at + b + length xs ≤ length w → p ≡ putAt b xs (take (length w - at) (drop at w))
+    → putMid at (length w - at) w p ≡ putAt (at + b) xs w
+unfolding putAt
+put-within at b xs w p room e =
+    put-tail at w p (omega arith)
+    ∙ ap (λ (l : List ℕ). take at w ++ l) (e ∙ ap (λ (l : List ℕ). take b l ++ (xs ++ drop (b + length xs) l)) (tail-all at w))
+    ∙ sym (append-assoc (take at w) (take b (drop at w)) (xs ++ drop (b + length xs) (drop at w)))
+    ∙ ap₂ (λ (l r : List ℕ). l ++ (xs ++ r)) (sym (take-add at b w))
+    (drop-drop (b + length xs) at w ∙ ap (λ (x : ℕ). drop x w) (sym (add-assoc at b (length xs))))
+
+-- memories with the same front have the same words and parts there
+pub same-word : (b i : ℕ) (w w₀ : List ℕ) → take b w ≡ take b w₀ → i < b → getD w i 0 ≡ getD w₀ i 0
+same-word b i w w₀ e h = sym (getD-take b w i 0 h) ∙ ap (λ (l : List ℕ). getD l i 0) e ∙ getD-take b w₀ i 0 h
+
+pub same-part : (a b : ℕ) (w w₀ : List ℕ) → take b w ≡ take b w₀ → a ≤ b → take a w ≡ take a w₀
+same-part a b w w₀ e h = sym (take-take a b w h) ∙ ap (take a) e ∙ take-take a b w₀ h
+
+-- ---- a loop that writes f 0, f 1 .. from `base` on: i of n words are written
+
+pub record Lists (f : ℕ → ℕ) (base n : ℕ) (w₀ : List ℕ) (i : ℕ) (w : List ℕ) : Type 0 where
+  pub within : i ≤ n
+  pub room : base + n ≤ length w₀
+  pub long : length w ≡ length w₀
+  pub is : w ≡ putAt base (listOver i f) w₀
+
+pub list-none : {f : ℕ → ℕ} {base n : ℕ} {w : List ℕ} → base + n ≤ length w → Lists f base n w 0 w
+unfolding listOver
+list-none {f} {base} {n} {w} h = record { within = omega arith; room = h; long = refl; is = sym (put-none base w) }
+
+pub list-more : {f : ℕ → ℕ} {base n i at v : ℕ} {w₀ w : List ℕ} → Lists f base n w₀ i w → i < n → at ≡ base + i → v ≡ f i
+    → Lists f base n w₀ (i + 1) (set w at v)
+unfolding listOver
+list-more {f} {base} {n} {i} {at} {v} {w₀} {w} s h q e =
+    let l : length (listOver i f) ≡ i = length-listOver i f in
+    record {
+      within = omega arith;
+      room = s .room;
+      long = length-set w at v ∙ s .long;
+      is = put-one at v w (omega (arith, s .long, s .room))
+          ∙ ap₂ (λ (x : List ℕ) (y : ℕ). putAt at (y ∷ []) x) (s .is) e
+          ∙ ap (λ (x : ℕ). putAt x (f i ∷ []) (putAt base (listOver i f) w₀)) q
+          ∙ ap (λ (x : ℕ). putAt (base + x) (f i ∷ []) (putAt base (listOver i f) w₀)) (sym l)
+          ∙ put-put base (listOver i f) w₀ (omega (arith, s .room)) (f i ∷ [])
+          ∙ ap (λ (x : ℕ). putAt base (listOver x f) w₀) (sym (add-one i));
+    }
+
+pub list-done : {f : ℕ → ℕ} {base n i : ℕ} {w₀ w : List ℕ} → Lists f base n w₀ i w → n ≤ i → w ≡ putAt base (listOver n f) w₀
+list-done {f} {base} {n} {i} {w₀} s h = let e : i ≡ n = omega (arith, s .within) in s .is ∙ ap (λ (x : ℕ). putAt base (listOver x f) w₀) e
+
+-- words that fill the memory
+pub put-whole : (xs w : List ℕ) → length xs ≡ length w → putAt 0 xs w ≡ xs
+unfolding putAt
+put-whole xs w e =
+    let h : length w ≤ 0 + length xs = omega arith in
+    ap (λ (l : List ℕ). xs ++ l) (drop-of-length-le w h) ∙ append-nil xs
+
+pub list-whole : {f : ℕ → ℕ} {n i : ℕ} {w₀ w : List ℕ} → Lists f 0 n w₀ i w → n ≤ i → length w₀ ≡ n → w ≡ listOver n f
+list-whole {f} {n} {i} {w₀} s h e = list-done s h ∙ put-whole (listOver n f) w₀ (length-listOver n f ∙ sym e)
+
+-- what stands before the words stays while they are written
+pub list-front : {f : ℕ → ℕ} {base n i : ℕ} {w₀ w : List ℕ} (b : ℕ) → Lists f base n w₀ i w → b ≤ base → take b w ≡ take b w₀
+list-front {f} {base} {n} {i} {w₀} b s h = ap (take b) (s .is) ∙ put-front base (listOver i f) w₀ (omega (arith, length-listOver i f, s .within, s .room)) b h
+
+-- a loop that writes from the front on has not yet changed what lies ahead
+pub list-ahead : {f : ℕ → ℕ} {n i : ℕ} {w₀ w : List ℕ} → Lists f 0 n w₀ i w → getD w i 0 ≡ getD w₀ i 0
+list-ahead {f} {n} {i} {w₀} {w} s =
+    let l : i ≡ 0 + length (listOver i f) = omega (arith, length-listOver i f) in
+    let e : drop i w ≡ drop i w₀ =
+    ap (drop i) (s .is) ∙ ap (λ (x : ℕ). drop x (putAt 0 (listOver i f) w₀)) l
+    ∙ put-rest 0 (listOver i f) w₀ (omega (arith, length-listOver i f, s .within, s .room)) ∙ ap (λ (x : ℕ). drop x w₀) (sym l) in
+    ap (λ (x : ℕ). getD w x 0) (sym (add-zero i)) ∙ sym (getD-drop i w 0 0) ∙ ap (λ (x : List ℕ). getD x 0 0) e ∙ getD-drop i w₀ 0 0
+    ∙ ap (λ (x : ℕ). getD w₀ x 0) (add-zero i)
+
+-- ---- a loop that writes lists g 0, g 1 .. one behind the other from `base` on: t of n are written, up to `at`
+
+pub record Runs (g : ℕ → List ℕ) (base n : ℕ) (w₀ : List ℕ) (t at : ℕ) (w : List ℕ) : Type 0 where
+  pub within : t ≤ n
+  pub here : base + length (runOver t g) ≡ at
+  pub inside : at ≤ length w₀
+  pub long : length w ≡ length w₀
+  pub is : w ≡ putAt base (runOver t g) w₀
+
+pub run-none : {g : ℕ → List ℕ} {base n : ℕ} {w : List ℕ} → base ≤ length w → Runs g base n w 0 base w
+unfolding runOver
+run-none {g} {base} {n} {w} h = record { within = omega arith; here = add-zero base; inside = h; long = refl; is = sym (put-none base w) }
+
+pub run-more : {g : ℕ → List ℕ} {base n t at : ℕ} {w₀ w w' : List ℕ} (k : ℕ) → Runs g base n w₀ t at w → t < n → at + k ≤ length w₀
+    → length (g t) ≡ k → w' ≡ putAt at (g t) w → Runs g base n w₀ (t + 1) (at + k) w'
+unfolding runOver
+run-more {g} {base} {n} {t} {at} {w₀} {w} {w'} k s h room lg e =
+    let l : length (runOver t g ++ g t) ≡ length (runOver t g) + length (g t) = length-append (runOver t g) (g t) in
+    let is : w' ≡ putAt base (runOver t g ++ g t) w₀ =
+    e ∙ ap₂ (λ (x : ℕ) (y : List ℕ). putAt x (g t) y) (sym (s .here)) (s .is) ∙ put-put base (runOver t g) w₀ (omega (arith, s .here)) (g t) in
+    record {
+      within = omega arith;
+      here = ap (λ (x : ℕ). base + length (runOver x g)) (add-one t) ∙ omega (arith, s .here);
+      inside = room;
+      long = ap length is ∙ put-length base (runOver t g ++ g t) w₀ (omega (arith, s .here));
+      is = is ∙ ap (λ (x : ℕ). putAt base (runOver x g) w₀) (sym (add-one t));
+    }
+
+pub run-done : {g : ℕ → List ℕ} {base n t at : ℕ} {w₀ w : List ℕ} → Runs g base n w₀ t at w → n ≤ t → w ≡ putAt base (runOver n g) w₀
+run-done {g} {base} {n} {t} {at} {w₀} s h = let k : t ≡ n = omega (arith, s .within) in s .is ∙ ap (λ (x : ℕ). putAt base (runOver x g) w₀) k
+
+pub run-front : {g : ℕ → List ℕ} {base n t at : ℕ} {w₀ w : List ℕ} (b : ℕ) → Runs g base n w₀ t at w → b ≤ base → take b w ≡ take b w₀
+run-front {g} {base} {n} {t} {at} {w₀} b s h = ap (take b) (s .is) ∙ put-front base (runOver t g) w₀ (omega (arith, s .here, s .inside)) b h

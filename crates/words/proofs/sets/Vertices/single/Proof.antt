@@ -1,0 +1,14 @@
+-- `Vertices::single` meets its contract: a one, shifted up within the word.
+use borrow.Author.Needs.{needs}
+use Rattle.rules.proofs.Words.{shift-single}
+use Rattle.words.proofs.sets.Vertices.single.Statement.{statement}
+use Rattle.words.proofs.sets.Vertices.single.Tie as tie
+
+shl-t3 : tie.Need-shl-t3
+shl-t3 c = search needs
+
+returns : tie.Need-returns
+returns c = shift-single 64 (c .args .v) (search needs)
+
+pub single-spec : {M : Type 1} → statement M
+single-spec = tie.close (tie.spec shl-t3 returns)

@@ -1,0 +1,4 @@
+-- Widths, lent memory, and tables of words.
+pub mod Width
+pub mod Memory
+pub mod Rows
