@@ -1,8 +1,9 @@
 /*
  * Mogzift: one planning graph for up to 64 start states.
  *
- * Link with target/staticlib/libcapi.a (x86-64 Linux), which `rt staticlib capi` writes. The crate `capi` proves of each
- * call below that what it returns, what it tells and all memory lent to it are as its rule says, for every argument.
+ * Link with target/staticlib/libmogzift.a (x86-64 Linux), which `rt staticlib mogzift` writes. The crate `mogzift` proves
+ * of each call below that what it returns, what it tells and all memory lent to it are as its rule says, for every
+ * argument.
  *
  * WHAT A CALL TAKES
  *   file, file_len    the problem file's bytes: any bytes, any length
@@ -21,13 +22,28 @@
  * writes what another reads or writes.
  *
  * WHAT A CALL RETURNS AND TELLS
- * It returns 0 if it is accepted, else the number of its refusal, 1 to 14. answer[0] is the kind:
+ * It returns 0 if it is accepted, else the number of its refusal, 1 to 14. Every call writes all three numbers of the
+ * answer. answer[0] is the kind:
  *   MOGZIFT_REFUSED       answer[1] is the number returned, answer[2] the place
  *   MOGZIFT_ANSWERED      answer[1] and answer[2] are the call's, as said there; 0 where nothing is said
  *   MOGZIFT_NONE          'none' of a rest, 'never' of a level; answer[1] and answer[2] are 0
  *   MOGZIFT_NOT_BY_DEPTH  of a level; answer[1] and answer[2] are 0
- * A call that is turned away leaves all lent memory but `answer` unchanged. An accepted call writes the front of its
- * words or its out as said there, and what lies behind that stays.
+ *
+ * WHAT A CALL WRITES
+ * A call that is turned away writes the answer and nothing else: its words and its out are, byte for byte, as they were.
+ * An accepted call writes the answer and the front of its words or its out, as said there, and nothing else: what lies
+ * behind that stays. No call writes what it takes by a pointer to const.
+ *
+ * WHAT A CALL NEEDS
+ * No heap, no file, no other library than the C library's memcpy and memset. Of the stack, whatever the problem:
+ *   mogzift_levels_text    107 KiB (64 KiB of graph words, and a build)
+ *   mogzift_build          43 KiB
+ *   mogzift_plan           under 4 KiB
+ *   each other call        under 1 KiB
+ * These are measured and not proved; `cargo run --release --offline --bin stack` in rust/ measures them again. To them comes
+ * what a thread needs for itself, and, in a program that looks memset up at its first use, up to 4 KiB for that: such a
+ * program's build ran in a thread of 52 KiB and failed in 48, its text ran in 116 and failed in 112. Give a thread
+ * MOGZIFT_STACK bytes, 256 KiB, which is more than twice the largest.
  *
  * THE PROBLEM FILE (little-endian; a set of propositions is 4 bytes)
  *   offset 0 the letters SAG; 3 version, 2 bytes, 1; 5 P propositions (1 to 32); 6 A actions (0 to 32); 7 N start states
@@ -96,10 +112,54 @@ enum {
     MOGZIFT_UNCOVERED = 14
 };
 
+/* The bytes of output that mogzift_levels_text asks for: the longest text's. */
+enum { MOGZIFT_TEXT_ROOM = 8600 };
+
+/* A thread with so many bytes of stack can make any call. */
+enum { MOGZIFT_STACK = 262144 };
+
 /* The number of words of a graph of these counts and this depth: what words_len must be at least. */
 static inline size_t mogzift_words(size_t props, size_t actions, size_t depth) {
     size_t vertices = actions + props;
     return (depth + 1) * (props * (props + 1) / 2) + depth * (vertices * (vertices + 1) / 2);
+}
+
+/* What a number that a call returned says, in words: what is wrong, and what to do. 'The place' is answer[2]. */
+static inline const char *mogzift_message(size_t number) {
+    switch (number) {
+    case 0:
+        return "accepted";
+    case MOGZIFT_BAD_HEAD:
+        return "not a problem file: begin it with SAG, the version and the three counts, 8 bytes in all";
+    case MOGZIFT_BAD_VERSION:
+        return "another version: write 1 and 0 at offsets 3 and 4";
+    case MOGZIFT_BAD_COUNT:
+        return "a count is out of range, at the place: 1 to 32 propositions, 0 to 32 actions, 1 to 64 start states";
+    case MOGZIFT_BAD_LENGTH:
+        return "the length does not fit the counts: make it as long as the place says, or set the counts right";
+    case MOGZIFT_BAD_PROP_SET:
+        return "a set in the file, at the place, has bit P or above: clear the bit, or count P up";
+    case MOGZIFT_BAD_DEPTH:
+        return "the depth is above 255: ask for 255 at most";
+    case MOGZIFT_BAD_STATE_SET:
+        return "the set of states is empty or has bit N or above: name one state at least, and only 0 to N - 1";
+    case MOGZIFT_BAD_GOAL:
+        return "the goal has bit P or above: name only propositions 0 to P - 1";
+    case MOGZIFT_SHORT_MEMORY:
+        return "the graph's memory is too short: lend as many words as the place says, or ask for a smaller depth";
+    case MOGZIFT_SHORT_OUTPUT:
+        return "the output is too short: lend as many elements as the place says";
+    case MOGZIFT_BAD_SEQUENCE:
+        return "the list has over 65535 steps, or the one at the place is no action: cut it, or name only 0 to A - 1";
+    case MOGZIFT_NO_PRECONDITION:
+        return "the step at the place lacks its precondition in some state of the set: take another, or a smaller set";
+    case MOGZIFT_NO_LEVEL:
+        return "the goal has no level up to the depth, so there is no plan: build deeper, unless the level is never";
+    case MOGZIFT_UNCOVERED:
+        return "the graph's words were altered, seen at the layer that the place says: build the graph again";
+    default:
+        return "no call returns this number";
+    }
 }
 
 /*
@@ -155,6 +215,14 @@ size_t mogzift_plan(const uint8_t *file, size_t file_len, size_t depth, uint64_t
  * Answered: answer[1] is the depth. Refused: 1 to 5, 9 (not even depth 0 fits; the words that it needs).
  */
 size_t mogzift_depth(const uint8_t *file, size_t file_len, size_t room, uint64_t answer[3]);
+
+/*
+ * Writes what the program `levels` prints for the file into the front of out, in ASCII and without a zero byte at the end:
+ * depth and rest, the levels of each state, the levels of all states. It takes the greatest depth whose graph fits 8,192
+ * words, and builds it in memory of its own. A file that is turned away has a text too, `refused`, number and place.
+ * Answered: answer[1] is the number of bytes written. Refused: 10 (MOGZIFT_TEXT_ROOM bytes, whatever the file).
+ */
+size_t mogzift_levels_text(const uint8_t *file, size_t file_len, uint8_t *out, size_t out_len, uint64_t answer[3]);
 
 #ifdef __cplusplus
 }

@@ -1,4 +1,4 @@
-// Finds libcapi.a, the proved library: in the folder that MOGZIFT_LIB names, or where `rt staticlib capi` writes it.
+// Finds libmogzift.a, the proved library: in the folder that MOGZIFT_LIB names, or where `rt staticlib mogzift` writes it.
 use std::env;
 use std::path::PathBuf;
 
@@ -8,15 +8,15 @@ fn main() {
         Some(folder) => PathBuf::from(folder),
         None => PathBuf::from(env::var_os("CARGO_MANIFEST_DIR").expect("cargo sets it")).join("../target/staticlib"),
     };
-    let archive = folder.join("libcapi.a");
+    let archive = folder.join("libmogzift.a");
     println!("cargo:rerun-if-changed={}", archive.display());
     if !archive.is_file() {
         eprintln!("There is no {}.", archive.display());
         eprintln!(
-            "Run `rt staticlib capi` in the repository's root, or set MOGZIFT_LIB to the folder that holds libcapi.a."
+            "Run `rt staticlib mogzift` in the repository's root, or set MOGZIFT_LIB to the folder that holds libmogzift.a."
         );
         std::process::exit(1);
     }
     println!("cargo:rustc-link-search=native={}", folder.display());
-    println!("cargo:rustc-link-lib=static=capi");
+    println!("cargo:rustc-link-lib=static=mogzift");
 }

@@ -4,7 +4,8 @@
 //! argument is out of bounds: any bytes, depth, set, goal, list and memory are accepted, or turned away with a
 //! [`Refusal`], and then no lent memory has changed. Memory behind what an accepted call writes stays.
 //!
-//! [`reference`] has the same calls in plain Rust, written from the paper.
+//! [`Problem`] puts a problem file together, [`Graph`] builds into memory of its own, and [`reference`](mod@reference)
+//! has the same calls in plain Rust, written from the paper.
 //!
 //! ```
 //! // The paper's lamp: walk needs 0, adds 1, deletes 0; light needs 1, adds 2; states: at the door, at the desk.
@@ -24,110 +25,14 @@
 //! assert_eq!(mogzift::build(&file, 2, &mut words[..47]), Err(mogzift::Refusal::Memory(48)));
 //! ```
 
+#![warn(missing_docs)]
+
+mod problem;
 pub mod reference;
+mod refusal;
 
-/// Why a call is turned away: the paper's causes in the order of their numbers, with the place where it varies.
-#[derive(Clone, Copy, Debug, PartialEq, Eq, Hash)]
-pub enum Refusal {
-    /// Under 8 bytes, or no `SAG`.
-    Head,
-    /// Another version.
-    Version,
-    /// A count outside its range, with its offset: 5, 6 or 7.
-    Count(usize),
-    /// The file's length is wrong, with the right one.
-    Length(usize),
-    /// A set of propositions in the file with bit P or above, with the set's offset.
-    PropSet(usize),
-    /// Depth above 255.
-    Depth,
-    /// The set of start states is empty, or has bit N or above.
-    StateSet,
-    /// The goal has bit P or above.
-    Goal,
-    /// The graph's memory is too short, with the number of words needed.
-    Memory(usize),
-    /// The output is too short, with the number of elements needed.
-    Output(usize),
-    /// The sequence is longer than 65,535 (that number), else has an action number of A or above (its index).
-    Sequence(usize),
-    /// A step lacks its precondition in some state of the set, with the step's index.
-    Precondition(usize),
-    /// A plan is wanted and there is no level, with the depth.
-    NoLevel(usize),
-    /// The graph's words were altered: states are left uncovered at this layer, or a need lies outside its label at 0.
-    Uncovered(usize),
-}
-
-impl Refusal {
-    /// The paper's number, 1 to 14.
-    pub fn number(self) -> usize {
-        match self {
-            Refusal::Head => 1,
-            Refusal::Version => 2,
-            Refusal::Count(_) => 3,
-            Refusal::Length(_) => 4,
-            Refusal::PropSet(_) => 5,
-            Refusal::Depth => 6,
-            Refusal::StateSet => 7,
-            Refusal::Goal => 8,
-            Refusal::Memory(_) => 9,
-            Refusal::Output(_) => 10,
-            Refusal::Sequence(_) => 11,
-            Refusal::Precondition(_) => 12,
-            Refusal::NoLevel(_) => 13,
-            Refusal::Uncovered(_) => 14,
-        }
-    }
-
-    /// The paper's place.
-    pub fn place(self) -> usize {
-        match self {
-            Refusal::Head | Refusal::StateSet | Refusal::Goal => 0,
-            Refusal::Version => 3,
-            Refusal::Depth => 255,
-            Refusal::Count(place)
-            | Refusal::Length(place)
-            | Refusal::PropSet(place)
-            | Refusal::Memory(place)
-            | Refusal::Output(place)
-            | Refusal::Sequence(place)
-            | Refusal::Precondition(place)
-            | Refusal::NoLevel(place)
-            | Refusal::Uncovered(place) => place,
-        }
-    }
-
-    fn of(number: usize, place: usize) -> Refusal {
-        let refusal = match number {
-            1 => Refusal::Head,
-            2 => Refusal::Version,
-            3 => Refusal::Count(place),
-            4 => Refusal::Length(place),
-            5 => Refusal::PropSet(place),
-            6 => Refusal::Depth,
-            7 => Refusal::StateSet,
-            8 => Refusal::Goal,
-            9 => Refusal::Memory(place),
-            10 => Refusal::Output(place),
-            11 => Refusal::Sequence(place),
-            12 => Refusal::Precondition(place),
-            13 => Refusal::NoLevel(place),
-            14 => Refusal::Uncovered(place),
-            _ => unreachable!("no refusal has the number {number}"),
-        };
-        assert_eq!(refusal.place(), place, "the place of refusal {number}");
-        refusal
-    }
-}
-
-impl std::fmt::Display for Refusal {
-    fn fmt(&self, f: &mut std::fmt::Formatter<'_>) -> std::fmt::Result {
-        write!(f, "refused {} {}", self.number(), self.place())
-    }
-}
-
-impl std::error::Error for Refusal {}
+pub use problem::{Graph, Problem};
+pub use refusal::Refusal;
 
 /// What a goal's level is.
 #[derive(Clone, Copy, Debug, PartialEq, Eq, Hash)]
@@ -157,6 +62,13 @@ pub struct Plan {
     /// How many actions are marked, over all words.
     pub count: usize,
 }
+
+/// The bytes of output that [`levels_text`] asks for: the longest text's.
+pub const TEXT_ROOM: usize = 8600;
+
+/// A thread with so many bytes of stack can make any call, with a margin; the program `stack` of this package measures
+/// what each needs.
+pub const STACK: usize = 256 * 1024;
 
 /// The number of words of a graph: what a build needs.
 pub fn word_count(props: usize, actions: usize, depth: usize) -> usize {
@@ -227,6 +139,13 @@ mod proved {
             answer: *mut [u64; 3],
         ) -> usize;
         pub fn mogzift_depth(file: *const u8, file_len: usize, room: usize, answer: *mut [u64; 3]) -> usize;
+        pub fn mogzift_levels_text(
+            file: *const u8,
+            file_len: usize,
+            out: *mut u8,
+            out_len: usize,
+            answer: *mut [u64; 3],
+        ) -> usize;
     }
 }
 
@@ -353,4 +272,13 @@ pub fn plan(file: &[u8], depth: usize, set: u64, goal: u32, words: &[u64], out: 
 /// The greatest depth up to 255 whose graph for the file fits so many words.
 pub fn fitting_depth(file: &[u8], room: usize) -> Result<usize, Refusal> {
     told(|answer| unsafe { proved::mogzift_depth(file.as_ptr(), file.len(), room, answer) }).map(count)
+}
+
+/// What the program `levels` prints for the file, also where the file is turned away; answers the number of bytes
+/// written. The output has [`TEXT_ROOM`] bytes at least, or the call is turned away.
+pub fn levels_text(file: &[u8], out: &mut [u8]) -> Result<usize, Refusal> {
+    told(|answer| unsafe {
+        proved::mogzift_levels_text(file.as_ptr(), file.len(), out.as_mut_ptr(), out.len(), answer)
+    })
+    .map(count)
 }

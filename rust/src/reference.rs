@@ -14,7 +14,8 @@
 
 #![allow(clippy::needless_range_loop)] // an index that several rows share
 
-use crate::{word_count, Level, Plan, Refusal, Rest};
+use crate::{word_count, Level, Plan, Refusal, Rest, TEXT_ROOM};
+use std::fmt::Write;
 
 /// The numbers of the set bits, rising.
 struct Bits(u64);
@@ -642,4 +643,44 @@ pub fn fitting_depth(file: &[u8], room: usize) -> Result<usize, Refusal> {
     let problem = Problem::open(file)?;
     problem.check_memory(0, room)?;
     Ok((0..=255).rev().find(|&depth| word_count(problem.props, problem.actions, depth) <= room).unwrap())
+}
+
+// ---- the text of `levels`
+
+/// What the program `levels` prints for the file; answers the number of bytes written.
+pub fn levels_text(file: &[u8], out: &mut [u8]) -> Result<usize, Refusal> {
+    if out.len() < TEXT_ROOM {
+        return Err(Refusal::Output(TEXT_ROOM));
+    }
+    let text = text(file).unwrap_or_else(|why| format!("refused {} {}\n", why.number(), why.place()));
+    out[..text.len()].copy_from_slice(text.as_bytes());
+    Ok(text.len())
+}
+
+/// The text of a file that is in order: depth and rest, a line for each state, a line for all of them.
+fn text(file: &[u8]) -> Result<String, Refusal> {
+    let depth = fitting_depth(file, 8192)?;
+    let mut words = [0; 8192];
+    let count = build(file, depth, &mut words)?;
+    let (problem, words) = (Problem::open(file)?, &words[..count]);
+
+    let rest = match rest(file, depth, words)? {
+        Rest::At(layer) => layer.to_string(),
+        Rest::None => "?".to_string(),
+    };
+    let mut text = format!("depth {depth} rest {rest}\n");
+    let states = (0..problem.states).map(|s| (s.to_string(), 1 << s));
+    for (name, set) in states.chain([("all".to_string(), problem.all_states())]) {
+        text += &name;
+        text += ":";
+        for p in 0..problem.props {
+            match level(file, depth, set, 1 << p, words)? {
+                Level::At(layer) => write!(text, " {layer}").expect("a String takes any text"),
+                Level::Never => text += " -",
+                Level::NotByDepth => text += " ?",
+            }
+        }
+        text += "\n";
+    }
+    Ok(text)
 }

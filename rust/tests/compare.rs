@@ -3,7 +3,7 @@
 //!
 //! Prints how often each kind of answer came up, and fails where one that the paper has never did.
 
-use mogzift::{reference, word_count, Level, Plan, Refusal, Rest};
+use mogzift::{reference, word_count, Level, Plan, Refusal, Rest, TEXT_ROOM};
 use std::collections::BTreeMap;
 use std::fmt::Debug;
 use std::time::Instant;
@@ -242,6 +242,28 @@ impl Kind for Fits {
     }
 }
 
+/// What `levels` prints.
+#[derive(Debug, PartialEq)]
+struct Text(String);
+
+impl Text {
+    fn of(answer: Result<usize, Refusal>, out: &[u8]) -> Result<Text, Refusal> {
+        answer.map(|count| Text(String::from_utf8(out[..count].to_vec()).expect("ASCII")))
+    }
+}
+
+impl Kind for Text {
+    fn kind(&self) -> &'static str {
+        if self.0.starts_with("refused") {
+            "text of a refusal"
+        } else if self.0.contains("rest ?") {
+            "text, no rest"
+        } else {
+            "text, a rest"
+        }
+    }
+}
+
 #[derive(Default)]
 struct Tally {
     calls: usize,
@@ -309,6 +331,15 @@ impl Tally {
         let input = || format!("room {room}, file {file:02x?}");
         let proved = mogzift::fitting_depth(file, room).map(Fits);
         self.compare("depth", proved, reference::fitting_depth(file, room).map(Fits), input);
+    }
+
+    fn text(&mut self, file: &[u8], before: Vec<u8>) {
+        let input = || format!("{} out, file {file:02x?}", before.len());
+        let (mut proved, mut plain) = (before.clone(), before.clone());
+        let answer = mogzift::levels_text(file, &mut proved);
+        let other = reference::levels_text(file, &mut plain);
+        self.compare("text", Text::of(answer, &proved), Text::of(other, &plain), input);
+        self.memory("text", &before, &proved, &plain, answer.unwrap_or(0), input);
     }
 
     fn extract(&mut self, file: &[u8], depth: usize, set: u64, words: &[u64], before: Vec<u64>) {
@@ -458,7 +489,7 @@ fn list(random: &mut Random, problem: &Problem, set: u64) -> Vec<u8> {
     list
 }
 
-/// One of the seven calls, over a file whose problem was this before it was damaged, if it was.
+/// One of the eight calls, over a file whose problem was this before it was damaged, if it was.
 fn any_call(tally: &mut Tally, random: &mut Random, problem: &Problem, file: &[u8], depth: usize, built: &[u64]) {
     let depth = call_depth(random, depth);
     // a deeper call than was built wants more words than there are; they are not made, so that it is turned away
@@ -467,7 +498,11 @@ fn any_call(tally: &mut Tally, random: &mut Random, problem: &Problem, file: &[u
     let goal = goal_set(random, problem.props);
     let mut words = graph_words(random, problem, built);
     words.truncate(random.room(needed).min(words.len()));
-    match random.below(13) {
+    match random.below(14) {
+        13 => {
+            let room = random.room(TEXT_ROOM);
+            tally.text(file, (0..room).map(|_| random.word() as u8).collect());
+        }
         12 => tally.depth(file, if random.one_in(8) { random.word() as usize } else { random.room(needed) }),
         0 => tally.rest(file, depth, &words),
         1..=3 => tally.level(file, depth, set, goal, &words),
@@ -547,7 +582,7 @@ fn main() {
             .map(|(_, n)| n)
             .sum()
     };
-    let calls = ["build", "rest", "level", "extract", "run", "plan", "depth"];
+    let calls = ["build", "rest", "level", "extract", "run", "plan", "depth", "text"];
     println!("{:<24} {}", "", calls.map(|call| format!("{call:>8}")).concat());
     let mut kinds: Vec<&str> =
         tally.kinds.keys().map(|(_, kind)| *kind).filter(|kind| !REFUSED.contains(kind)).collect();
@@ -589,6 +624,10 @@ fn main() {
         ("depth", "depth 0"),
         ("depth", "depth between"),
         ("depth", "depth 255"),
+        ("text", "text, a rest"),
+        ("text", "text, no rest"),
+        ("text", "text of a refusal"),
+        ("text", REFUSED[9]),
     ] {
         assert!(count(Some(call), kind) > 0, "no {call} was answered by: {kind}");
     }

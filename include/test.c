@@ -1,0 +1,283 @@
+/*
+ * The lamp through every call of mogzift.h: what is returned, what is told, and all lent memory. Exits with 1 where
+ * something differs. It is C99 and C++11; include/test.sh compiles and runs it as both.
+ */
+#include "mogzift.h"
+
+#include <stdio.h>
+#include <string.h>
+
+static int checks;
+static int failures;
+
+static void check(int holds, const char *fact, int line) {
+    checks += 1;
+    if (!holds) {
+        failures += 1;
+        printf("line %d: not so: %s\n", line, fact);
+    }
+}
+
+#define CHECK(fact) check((fact) ? 1 : 0, #fact, __LINE__)
+
+/* 0 at door, 1 at desk, 2 lit; walk needs 0, adds 1, deletes 0; light needs 1, adds 2; states: at the door, at the desk */
+static const uint8_t LAMP[40] = {'S', 'A', 'G', 1, 0, 3, 2, 2, 1, 0, 0, 0, 2, 0, 0, 0, 1, 0, 0, 0,
+                                 2,   0,   0,   0, 4, 0, 0, 0, 0, 0, 0, 0, 1, 0, 0, 0, 2, 0, 0, 0};
+
+/* its graph of depth 2 */
+static const uint64_t LAMP_WORDS[48] = {
+    1, 2, 0, 0, 0, 0,                            /* proposition layer 0 */
+    1, 2, 1, 2, 0, 0, 1, 0, 0, 0, 0, 0, 0, 0, 0, /* action layer 0 */
+    1, 3, 2, 1, 0, 0,                            /* proposition layer 1 */
+    1, 3, 1, 3, 2, 1, 1, 1, 0, 1, 0, 0, 1, 0, 0, /* action layer 1 */
+    1, 3, 3, 1, 1, 0                             /* proposition layer 2 */
+};
+
+static const char LAMP_TEXT[] = "depth 255 rest 2\n0: 0 1 2\n1: - 0 1\nall: - 1 2\n";
+
+enum { DOOR = 1, DESK = 2, LIT = 4, WALK = 0, LIGHT = 1, BOTH = 3, MARK = 0xA5 };
+
+/* What is lent: marked before each call, so that what a call writes is seen. One element more than any call asks for. */
+static uint8_t file[40];
+static uint64_t words[49];
+static uint64_t words_out[49];
+static uint32_t sets_out[4];
+static uint8_t text_out[MOGZIFT_TEXT_ROOM + 1];
+static uint64_t answer[3];
+
+static void mark(void) {
+    memset(words_out, MARK, sizeof words_out);
+    memset(sets_out, MARK, sizeof sets_out);
+    memset(text_out, MARK, sizeof text_out);
+    memset(answer, MARK, sizeof answer);
+}
+
+/* Whether the memory behind the first bytes is as it was marked. */
+static int marked_from(const void *memory, size_t size, size_t first) {
+    const uint8_t *bytes = (const uint8_t *)memory;
+    size_t i;
+    for (i = first; i < size; i++) {
+        if (bytes[i] != MARK) {
+            return 0;
+        }
+    }
+    return 1;
+}
+
+/* Whether nothing but these first bytes of the three outputs was written. */
+static int wrote(size_t of_words, size_t of_sets, size_t of_text) {
+    return marked_from(words_out, sizeof words_out, of_words * sizeof words_out[0]) &&
+           marked_from(sets_out, sizeof sets_out, of_sets * sizeof sets_out[0]) &&
+           marked_from(text_out, sizeof text_out, of_text);
+}
+
+static int told(uint64_t kind, uint64_t first, uint64_t second) {
+    return answer[0] == kind && answer[1] == first && answer[2] == second;
+}
+
+/* Whether a call was turned away with this number and place, and wrote the answer only. */
+static int refused(size_t code, size_t number, uint64_t place) {
+    return code == number && told(MOGZIFT_REFUSED, number, place) && wrote(0, 0, 0);
+}
+
+/* Whether a call that writes nothing but its answer was accepted with it. */
+static int answered(size_t code, uint64_t kind, uint64_t first, uint64_t second) {
+    return code == 0 && told(kind, first, second) && wrote(0, 0, 0);
+}
+
+/* The calls over the lamp's file and what is lent, marked anew. */
+static size_t build(size_t depth, size_t len) {
+    mark();
+    return mogzift_build(file, sizeof file, depth, words_out, len, answer);
+}
+
+static size_t rest(size_t depth, const uint64_t *graph, size_t len) {
+    mark();
+    return mogzift_rest(file, sizeof file, depth, graph, len, answer);
+}
+
+static size_t level(size_t depth, uint64_t set, uint32_t goal, const uint64_t *graph, size_t len) {
+    mark();
+    return mogzift_level(file, sizeof file, depth, set, goal, graph, len, answer);
+}
+
+static size_t extract(size_t depth, uint64_t set, size_t len, size_t out_len) {
+    mark();
+    return mogzift_extract(file, sizeof file, depth, set, words, len, words_out, out_len, answer);
+}
+
+static size_t run(uint64_t set, const uint8_t *list, size_t len, size_t out_len) {
+    mark();
+    return mogzift_run(file, sizeof file, set, list, len, sets_out, out_len, answer);
+}
+
+static size_t plan(size_t depth, uint64_t set, uint32_t goal, size_t len, size_t out_len) {
+    mark();
+    return mogzift_plan(file, sizeof file, depth, set, goal, words, len, sets_out, out_len, answer);
+}
+
+static size_t fitting_depth(size_t room) {
+    mark();
+    return mogzift_depth(file, sizeof file, room, answer);
+}
+
+static size_t levels_text(size_t file_len, size_t out_len) {
+    mark();
+    return mogzift_levels_text(file, file_len, text_out, out_len, answer);
+}
+
+static void builds(void) {
+    CHECK(mogzift_words(3, 2, 2) == 48);
+    CHECK(build(2, 49) == 0 && told(MOGZIFT_ANSWERED, 48, 0) && wrote(48, 0, 0));
+    CHECK(memcmp(words_out, LAMP_WORDS, sizeof LAMP_WORDS) == 0);
+    CHECK(build(0, 6) == 0 && told(MOGZIFT_ANSWERED, 6, 0) && wrote(6, 0, 0));
+    CHECK(refused(build(256, 49), MOGZIFT_BAD_DEPTH, 255));
+    CHECK(refused(build(2, 47), MOGZIFT_SHORT_MEMORY, 48));
+    CHECK(refused(build(2, 0), MOGZIFT_SHORT_MEMORY, 48));
+}
+
+/* The causes of the file's writer: a byte of the lamp is another, or its length. */
+static size_t build_other(size_t len, size_t at, uint8_t byte) {
+    size_t code;
+    uint8_t kept = file[at];
+    mark();
+    file[at] = byte;
+    code = mogzift_build(file, len, 2, words_out, 49, answer);
+    file[at] = kept;
+    return code;
+}
+
+static void files(void) {
+    CHECK(refused(build_other(0, 0, 'S'), MOGZIFT_BAD_HEAD, 0));
+    CHECK(refused(build_other(40, 2, 'H'), MOGZIFT_BAD_HEAD, 0));
+    CHECK(refused(build_other(40, 3, 2), MOGZIFT_BAD_VERSION, 3));
+    CHECK(refused(build_other(40, 5, 33), MOGZIFT_BAD_COUNT, 5));
+    CHECK(refused(build_other(40, 6, 33), MOGZIFT_BAD_COUNT, 6));
+    CHECK(refused(build_other(40, 7, 65), MOGZIFT_BAD_COUNT, 7));
+    CHECK(refused(build_other(39, 0, 'S'), MOGZIFT_BAD_LENGTH, 40));
+    CHECK(refused(build_other(40, 36, 8), MOGZIFT_BAD_PROP_SET, 36));
+    CHECK(build_other(40, 36, 4) == 0);
+}
+
+static void rests_and_levels(void) {
+    static uint64_t deeper[69];
+    CHECK(mogzift_words(3, 2, 3) == 69);
+    CHECK(mogzift_build(file, sizeof file, 3, deeper, 69, answer) == 0);
+
+    CHECK(answered(rest(2, words, 48), MOGZIFT_NONE, 0, 0));
+    CHECK(answered(rest(3, deeper, 69), MOGZIFT_ANSWERED, 2, 0));
+    CHECK(refused(rest(2, words, 0), MOGZIFT_SHORT_MEMORY, 48));
+    CHECK(refused(rest(256, words, 48), MOGZIFT_BAD_DEPTH, 255));
+
+    CHECK(answered(level(2, BOTH, LIT, words, 48), MOGZIFT_ANSWERED, 2, 0));
+    CHECK(answered(level(2, DESK, LIT, words, 48), MOGZIFT_ANSWERED, 1, 0));
+    CHECK(answered(level(2, BOTH, 0, words, 48), MOGZIFT_ANSWERED, 0, 0));
+    CHECK(answered(level(2, DOOR, DOOR | LIT, words, 48), MOGZIFT_NOT_BY_DEPTH, 0, 0));
+    CHECK(answered(level(3, DOOR, DOOR | LIT, deeper, 69), MOGZIFT_NEVER, 0, 0));
+    CHECK(refused(level(2, 0, LIT, words, 48), MOGZIFT_BAD_STATE_SET, 0));
+    CHECK(refused(level(2, 4, LIT, words, 48), MOGZIFT_BAD_STATE_SET, 0));
+    CHECK(refused(level(2, BOTH, 8, words, 48), MOGZIFT_BAD_GOAL, 0));
+    CHECK(refused(level(2, BOTH, LIT, words, 47), MOGZIFT_SHORT_MEMORY, 48));
+}
+
+static void extracts(void) {
+    size_t i;
+    CHECK(extract(2, DESK, 48, 49) == 0 && told(MOGZIFT_ANSWERED, 48, 0) && wrote(48, 0, 0));
+    for (i = 0; i < 48; i++) {
+        CHECK(words_out[i] == (LAMP_WORDS[i] >> 1 & 1));
+    }
+    CHECK(extract(2, BOTH, 48, 48) == 0 && memcmp(words_out, LAMP_WORDS, sizeof LAMP_WORDS) == 0);
+    CHECK(refused(extract(2, 4, 48, 49), MOGZIFT_BAD_STATE_SET, 0));
+    CHECK(refused(extract(2, DESK, 47, 49), MOGZIFT_SHORT_MEMORY, 48));
+    CHECK(refused(extract(2, DESK, 48, 47), MOGZIFT_SHORT_OUTPUT, 48));
+    CHECK(refused(extract(2, DESK, 48, 0), MOGZIFT_SHORT_OUTPUT, 48));
+}
+
+static void runs(void) {
+    static const uint8_t list[3] = {WALK, LIGHT, 2};
+    static uint8_t longest[65536];
+    CHECK(run(DOOR, list, 2, 3) == 0 && told(MOGZIFT_ANSWERED, 2, 0) && wrote(0, 2, 0));
+    CHECK(sets_out[0] == (DESK | LIT) && sets_out[1] == DESK);
+    CHECK(run(BOTH, list, 0, 2) == 0 && told(MOGZIFT_ANSWERED, 2, 0) && wrote(0, 2, 0));
+    CHECK(sets_out[0] == DOOR && sets_out[1] == DESK);
+    CHECK(refused(run(0, list, 2, 3), MOGZIFT_BAD_STATE_SET, 0));
+    CHECK(refused(run(DOOR, list, 2, 1), MOGZIFT_SHORT_OUTPUT, 2));
+    CHECK(refused(run(DOOR, list, 2, 0), MOGZIFT_SHORT_OUTPUT, 2));
+    CHECK(refused(run(DOOR, longest, sizeof longest, 3), MOGZIFT_BAD_SEQUENCE, 65535));
+    CHECK(refused(run(DOOR, list, 3, 3), MOGZIFT_BAD_SEQUENCE, 2));
+    CHECK(refused(run(BOTH, list, 1, 3), MOGZIFT_NO_PRECONDITION, 0));
+    CHECK(refused(run(DOOR, longest, 2, 3), MOGZIFT_NO_PRECONDITION, 1));
+}
+
+static void plans(void) {
+    CHECK(plan(2, BOTH, LIT, 48, 3) == 0 && told(MOGZIFT_ANSWERED, 2, 3) && wrote(0, 2, 0));
+    CHECK(sets_out[0] == (1 << WALK | 1 << LIGHT) && sets_out[1] == 1 << LIGHT);
+    CHECK(plan(2, DESK, LIT, 48, 2) == 0 && told(MOGZIFT_ANSWERED, 1, 1) && wrote(0, 1, 0));
+    CHECK(sets_out[0] == 1 << LIGHT);
+    CHECK(answered(plan(0, DOOR, DOOR, 48, 0), MOGZIFT_ANSWERED, 0, 0));
+    CHECK(refused(plan(256, BOTH, LIT, 48, 3), MOGZIFT_BAD_DEPTH, 255));
+    CHECK(refused(plan(2, 0, LIT, 48, 3), MOGZIFT_BAD_STATE_SET, 0));
+    CHECK(refused(plan(2, BOTH, 8, 48, 3), MOGZIFT_BAD_GOAL, 0));
+    CHECK(refused(plan(2, BOTH, LIT, 47, 3), MOGZIFT_SHORT_MEMORY, 48));
+    CHECK(refused(plan(2, BOTH, LIT, 48, 1), MOGZIFT_SHORT_OUTPUT, 2));
+    CHECK(refused(plan(2, BOTH, LIT, 48, 0), MOGZIFT_SHORT_OUTPUT, 2));
+    CHECK(refused(plan(2, DOOR, DOOR | LIT, 48, 3), MOGZIFT_NO_LEVEL, 2));
+    words[28] = 0; /* no state has the light in action layer 1 */
+    CHECK(refused(plan(2, BOTH, LIT, 48, 3), MOGZIFT_UNCOVERED, 2));
+    words[28] = LAMP_WORDS[28];
+    words[0] = 0; /* no state is at the door in layer 0 */
+    CHECK(refused(plan(2, BOTH, LIT, 48, 3), MOGZIFT_UNCOVERED, 0));
+    words[0] = LAMP_WORDS[0];
+}
+
+static void depths(void) {
+    CHECK(answered(fitting_depth(48), MOGZIFT_ANSWERED, 2, 0));
+    CHECK(answered(fitting_depth(47), MOGZIFT_ANSWERED, 1, 0));
+    CHECK(answered(fitting_depth((size_t)-1), MOGZIFT_ANSWERED, 255, 0));
+    CHECK(refused(fitting_depth(5), MOGZIFT_SHORT_MEMORY, 6));
+    CHECK(refused(fitting_depth(0), MOGZIFT_SHORT_MEMORY, 6));
+}
+
+static void texts(void) {
+    size_t len = sizeof LAMP_TEXT - 1;
+    CHECK(levels_text(40, MOGZIFT_TEXT_ROOM) == 0 && told(MOGZIFT_ANSWERED, len, 0) && wrote(0, 0, len));
+    CHECK(memcmp(text_out, LAMP_TEXT, len) == 0);
+    CHECK(levels_text(39, MOGZIFT_TEXT_ROOM) == 0 && told(MOGZIFT_ANSWERED, 13, 0) && wrote(0, 0, 13));
+    CHECK(memcmp(text_out, "refused 4 40\n", 13) == 0);
+    CHECK(levels_text(0, MOGZIFT_TEXT_ROOM) == 0 && told(MOGZIFT_ANSWERED, 12, 0) && wrote(0, 0, 12));
+    CHECK(memcmp(text_out, "refused 1 0\n", 12) == 0);
+    CHECK(refused(levels_text(40, MOGZIFT_TEXT_ROOM - 1), MOGZIFT_SHORT_OUTPUT, MOGZIFT_TEXT_ROOM));
+    CHECK(refused(levels_text(0, 0), MOGZIFT_SHORT_OUTPUT, MOGZIFT_TEXT_ROOM));
+}
+
+static void messages(void) {
+    size_t i, j;
+    CHECK(strcmp(mogzift_message(0), "accepted") == 0);
+    for (i = 0; i <= MOGZIFT_UNCOVERED + 1; i++) {
+        CHECK(strlen(mogzift_message(i)) > 0);
+        for (j = 0; j < i; j++) {
+            CHECK(strcmp(mogzift_message(i), mogzift_message(j)) != 0);
+        }
+    }
+    CHECK(strcmp(mogzift_message((size_t)-1), mogzift_message(MOGZIFT_UNCOVERED + 1)) == 0);
+}
+
+int main(void) {
+    memcpy(file, LAMP, sizeof file);
+    memset(words, MARK, sizeof words);
+    memcpy(words, LAMP_WORDS, sizeof LAMP_WORDS);
+    builds();
+    files();
+    rests_and_levels();
+    extracts();
+    runs();
+    plans();
+    depths();
+    texts();
+    messages();
+    /* what was lent for reading only */
+    CHECK(memcmp(file, LAMP, sizeof file) == 0);
+    CHECK(memcmp(words, LAMP_WORDS, sizeof LAMP_WORDS) == 0 && marked_from(words, sizeof words, sizeof LAMP_WORDS));
+    printf("the lamp through 8 calls: %d checks, %d failed\n", checks, failures);
+    return failures == 0 ? 0 : 1;
+}

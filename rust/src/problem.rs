@@ -1,0 +1,284 @@
+//! A problem file put together, and a graph with memory of its own.
+
+use crate::{build, extract, fitting_depth, level, plan, rest, word_count, Level, Plan, Refusal, Rest};
+
+/// A problem that is put together: so many propositions, then actions and start states in the order of their numbers.
+///
+/// What no problem file may have is turned away as the library turns it away, with the same number and place: the offset
+/// of a set is the one that it would have in the file as it is by then.
+///
+/// ```
+/// use mogzift::{Level, Problem, Refusal};
+///
+/// # fn main() -> Result<(), Refusal> {
+/// // The paper's lamp: 0 at door, 1 at desk, 2 lit.
+/// let lamp = Problem::new(3)?
+///     .action(0b001, 0b010, 0b001)? // walk: needs 0, adds 1, deletes 0
+///     .action(0b010, 0b100, 0b000)? // light: needs 1, adds 2
+///     .state(0b001)? // at the door
+///     .state(0b010)?; // at the desk
+/// assert_eq!(lamp.bytes()?.len(), 40);
+/// assert_eq!(lamp.words(2)?, 48);
+///
+/// let graph = lamp.graph(2)?;
+/// assert_eq!(graph.level(0b11, 0b100)?, Level::At(2));
+/// assert_eq!(graph.plan(0b11, 0b100)?.1, [3, 2]);
+///
+/// assert_eq!(lamp.state(0b1000), Err(Refusal::PropSet(40)));
+/// # Ok(())
+/// # }
+/// ```
+#[derive(Clone, Debug, PartialEq, Eq)]
+pub struct Problem {
+    props: usize,
+    actions: Vec<[u32; 3]>,
+    states: Vec<u32>,
+}
+
+impl Problem {
+    /// A problem with so many propositions, 1 to 32, and as yet no actions and no start states.
+    pub fn new(props: usize) -> Result<Problem, Refusal> {
+        if !(1..=32).contains(&props) {
+            return Err(Refusal::Count(5));
+        }
+        Ok(Problem { props, actions: Vec::new(), states: Vec::new() })
+    }
+
+    /// With one more action: what it needs, what it adds and what it deletes, bit p for proposition p.
+    pub fn action(mut self, pre: u32, add: u32, del: u32) -> Result<Problem, Refusal> {
+        if self.actions.len() == 32 {
+            return Err(Refusal::Count(6));
+        }
+        for (i, set) in [pre, add, del].into_iter().enumerate() {
+            self.check(set, 8 + 12 * self.actions.len() + 4 * i)?;
+        }
+        self.actions.push([pre, add, del]);
+        Ok(self)
+    }
+
+    /// With one more start state: the propositions that hold in it, bit p for proposition p.
+    pub fn state(mut self, set: u32) -> Result<Problem, Refusal> {
+        if self.states.len() == 64 {
+            return Err(Refusal::Count(7));
+        }
+        self.check(set, 8 + 12 * self.actions.len() + 4 * self.states.len())?;
+        self.states.push(set);
+        Ok(self)
+    }
+
+    fn check(&self, set: u32, offset: usize) -> Result<(), Refusal> {
+        if set & !(u32::MAX >> (32 - self.props)) != 0 {
+            return Err(Refusal::PropSet(offset));
+        }
+        Ok(())
+    }
+
+    /// The problem file. A problem without a start state has none.
+    pub fn bytes(&self) -> Result<Vec<u8>, Refusal> {
+        if self.states.is_empty() {
+            return Err(Refusal::Count(7));
+        }
+        let counts = [self.props, self.actions.len(), self.states.len()].map(|n| n as u8);
+        let sets = self.actions.iter().flatten().chain(&self.states);
+        let mut file = [b"SAG\x01\x00", &counts[..]].concat();
+        file.extend(sets.flat_map(|set| set.to_le_bytes()));
+        Ok(file)
+    }
+
+    /// The number of words that the graph of a depth needs.
+    pub fn words(&self, depth: usize) -> Result<usize, Refusal> {
+        if depth > 255 {
+            return Err(Refusal::Depth);
+        }
+        Ok(word_count(self.props, self.actions.len(), depth))
+    }
+
+    /// The greatest depth up to 255 whose graph fits so many words.
+    pub fn fitting_depth(&self, room: usize) -> Result<usize, Refusal> {
+        fitting_depth(&self.bytes()?, room)
+    }
+
+    /// The graph of a depth, in memory that is made for it.
+    pub fn graph(&self, depth: usize) -> Result<Graph, Refusal> {
+        Graph::new(self.bytes()?, depth)
+    }
+}
+
+/// A graph with the file that it was built from, its depth, and memory of its own. Nothing alters its words.
+#[derive(Clone, Debug, PartialEq, Eq)]
+pub struct Graph {
+    file: Vec<u8>,
+    depth: usize,
+    words: Vec<u64>,
+}
+
+impl Graph {
+    /// Builds the file's graph to the depth, in as many words as it needs.
+    pub fn new(file: Vec<u8>, depth: usize) -> Result<Graph, Refusal> {
+        // a graph has a word at least, so that no memory is too short, and the refusal says what is needed
+        let mut words = match build(&file, depth, &mut []) {
+            Err(Refusal::Memory(needed)) => vec![0; needed],
+            Err(why) => return Err(why),
+            Ok(count) => unreachable!("a graph of {count} words"),
+        };
+        build(&file, depth, &mut words)?;
+        Ok(Graph { file, depth, words })
+    }
+
+    /// The problem file.
+    pub fn file(&self) -> &[u8] {
+        &self.file
+    }
+
+    /// The depth.
+    pub fn depth(&self) -> usize {
+        self.depth
+    }
+
+    /// The graph's words.
+    pub fn words(&self) -> &[u64] {
+        &self.words
+    }
+
+    /// The layer at which the graph rests.
+    pub fn rest(&self) -> Result<Rest, Refusal> {
+        rest(&self.file, self.depth, &self.words)
+    }
+
+    /// The level of a goal for a set of states.
+    pub fn level(&self, set: u64, goal: u32) -> Result<Level, Refusal> {
+        level(&self.file, self.depth, set, goal, &self.words)
+    }
+
+    /// The words of the graph that is built for the states of a set only.
+    pub fn extract(&self, set: u64) -> Result<Vec<u64>, Refusal> {
+        let mut out = vec![0; self.words.len()];
+        extract(&self.file, self.depth, set, &self.words, &mut out)?;
+        Ok(out)
+    }
+
+    /// The relaxed plan of a goal for a set of states, with its words: one for each layer below the level.
+    pub fn plan(&self, set: u64, goal: u32) -> Result<(Plan, Vec<u32>), Refusal> {
+        let mut out = vec![0; self.depth];
+        let made = plan(&self.file, self.depth, set, goal, &self.words, &mut out)?;
+        out.truncate(made.level);
+        Ok((made, out))
+    }
+}
+
+#[cfg(test)]
+mod tests {
+    use super::*;
+    use crate::reference;
+
+    /// The bytes of the README's table.
+    const LAMP: [u8; 40] = *b"SAG\x01\x00\x03\x02\x02\
+        \x01\x00\x00\x00\x02\x00\x00\x00\x01\x00\x00\x00\
+        \x02\x00\x00\x00\x04\x00\x00\x00\x00\x00\x00\x00\
+        \x01\x00\x00\x00\x02\x00\x00\x00";
+
+    fn lamp() -> Problem {
+        let lamp = || Problem::new(3)?.action(1, 2, 1)?.action(2, 4, 0)?.state(1)?.state(2);
+        lamp().unwrap()
+    }
+
+    /// What the library says of a file.
+    fn judged(file: &[u8]) -> Result<usize, Refusal> {
+        fitting_depth(file, usize::MAX)
+    }
+
+    #[test]
+    fn the_lamp_is_the_readmes_file() {
+        assert_eq!(lamp().bytes(), Ok(LAMP.to_vec()));
+        let stated = include_bytes!("../../crates/levels/stdin");
+        assert_eq!(stated, &LAMP);
+        assert_eq!(judged(&LAMP), Ok(255));
+    }
+
+    #[test]
+    fn the_words_are_those_that_the_library_asks_for() {
+        for (props, actions) in [(1, 0), (1, 32), (3, 2), (16, 16), (32, 0), (32, 32)] {
+            let mut problem = Problem::new(props).and_then(|problem| problem.state(1)).unwrap();
+            for a in 0..actions {
+                problem = problem.action(1, 1 << (a % props), 0).unwrap();
+            }
+            let file = problem.bytes().unwrap();
+            for depth in [0, 1, 2, 100, 255] {
+                assert_eq!(build(&file, depth, &mut []), Err(Refusal::Memory(problem.words(depth).unwrap())));
+            }
+            assert_eq!(problem.words(256), Err(Refusal::Depth));
+            assert_eq!(build(&file, 256, &mut []), Err(Refusal::Depth));
+            let room = problem.words(2).unwrap();
+            assert_eq!(problem.fitting_depth(room), Ok(2));
+            assert_eq!(problem.fitting_depth(room - 1), Ok(1));
+        }
+    }
+
+    #[test]
+    fn a_count_out_of_range_is_turned_away_as_in_a_file() {
+        for (props, byte) in [(0, 0), (33, 33), (usize::MAX, 255)] {
+            let file = [b"SAG\x01\x00", &[byte, 0, 1, 0, 0, 0, 0][..]].concat();
+            assert_eq!(Problem::new(props).map(|_| 0), judged(&file));
+        }
+        let mut problem = Problem::new(32).unwrap();
+        assert_eq!(problem.bytes(), Err(Refusal::Count(7)));
+        assert_eq!(judged(b"SAG\x01\x00\x20\x00\x00"), Err(Refusal::Count(7)));
+        for _ in 0..32 {
+            problem = problem.action(u32::MAX, u32::MAX, u32::MAX).unwrap();
+        }
+        assert_eq!(problem.clone().action(0, 0, 0), Err(Refusal::Count(6)));
+        for _ in 0..64 {
+            problem = problem.state(u32::MAX).unwrap();
+        }
+        assert_eq!(problem.clone().state(0), Err(Refusal::Count(7)));
+        let file = problem.bytes().unwrap();
+        assert_eq!(file.len(), 648);
+        assert!(judged(&file).is_ok());
+        for (at, byte) in [(6, 33), (7, 65)] {
+            let mut file = file.clone();
+            file[at] = byte;
+            assert_eq!(judged(&file), Err(Refusal::Count(at)));
+        }
+    }
+
+    #[test]
+    fn a_set_out_of_range_is_turned_away_as_in_a_file() {
+        let outside = 1 << 3;
+        let walk = || Problem::new(3)?.action(1, 2, 1);
+        let light = || walk()?.action(2, 4, 0);
+        let refused = [
+            (8, Problem::new(3).and_then(|problem| problem.action(outside, outside, 0))),
+            (16, Problem::new(3).and_then(|problem| problem.action(1, 2, outside))),
+            (24, walk().and_then(|problem| problem.action(2, outside, 0))),
+            (32, light().and_then(|problem| problem.state(outside))),
+            (36, light().and_then(|problem| problem.state(1)?.state(outside))),
+        ];
+        for (offset, problem) in refused {
+            assert_eq!(problem, Err(Refusal::PropSet(offset)));
+            let mut file = LAMP;
+            file[offset] |= 1 << 3;
+            assert_eq!(judged(&file), Err(Refusal::PropSet(offset)));
+        }
+        let whole = Problem::new(32).unwrap().action(u32::MAX, 0, u32::MAX).unwrap();
+        assert!(judged(&whole.state(u32::MAX).unwrap().bytes().unwrap()).is_ok());
+    }
+
+    #[test]
+    fn a_graph_has_what_the_calls_say() {
+        let graph = lamp().graph(2).unwrap();
+        let mut words = vec![u64::MAX; 48];
+        assert_eq!(reference::build(&LAMP, 2, &mut words), Ok(48));
+        assert_eq!((graph.file(), graph.depth(), graph.words()), (&LAMP[..], 2, &words[..]));
+        assert_eq!(graph.rest(), Ok(Rest::None));
+        assert_eq!(graph.level(0b11, 0b100), Ok(Level::At(2)));
+        assert_eq!(graph.level(0b01, 0b101), Ok(Level::NotByDepth));
+        assert_eq!(graph.extract(0b10).unwrap()[42..], [0, 1, 1, 0, 0, 0]);
+        assert_eq!(graph.plan(0b11, 0b100), Ok((Plan { level: 2, count: 3 }, vec![3, 2])));
+        assert_eq!(graph.plan(0b10, 0b100), Ok((Plan { level: 1, count: 1 }, vec![2])));
+        assert_eq!(graph.plan(0b01, 0b101), Err(Refusal::NoLevel(2)));
+        assert_eq!(graph.level(0, 0), Err(Refusal::StateSet));
+        assert_eq!(lamp().graph(3).unwrap().rest(), Ok(Rest::At(2)));
+        assert_eq!(lamp().graph(256), Err(Refusal::Depth));
+        assert_eq!(Graph::new(LAMP[..39].to_vec(), 2), Err(Refusal::Length(40)));
+    }
+}
