@@ -36,10 +36,10 @@
  *
  * WHAT A CALL NEEDS
  * No heap, no file, no other library than the C library's memcpy and memset. Of the stack, whatever the problem:
- *   mogzift_levels_text    107 KiB (64 KiB of graph words, and a build)
+ *   mogzift_levels_text    108 KiB (64 KiB of graph words, and a build)
  *   mogzift_build          43 KiB
  *   mogzift_plan           under 4 KiB
- *   each other call        under 1 KiB
+ *   each other call        under 2 KiB
  * These are measured and not proved; `cargo run --release --offline --bin stack` in rust/ measures them again. To them comes
  * what a thread needs for itself, and, in a program that looks memset up at its first use, up to 4 KiB for that: such a
  * program's build ran in a thread of 52 KiB and failed in 48, its text ran in 116 and failed in 112. Give a thread

@@ -1,38 +1,34 @@
--- What holds at the heads of the loops that prepare the moves and carry them out, and what a state does in a move.
+-- What holds at the heads of the loops that prepare the masks and compare pieces, and what a state does in a move.
 -- Assumes nothing.
 use mathlib.Core.Path.{_≡_, refl, sym, ap, subst, _∙_}
 use mathlib.Core.Bool.{Bool, true, false, So}
-use mathlib.Core.List.{List}
 use Prim.Native.Nat.{ℕ, suc, _+_, _-_, _*_, _/_, _%_, _^_, _≤_, _<_}
+use borrow.Author.Count.{below-more}
 use native.Mathlib.Decide.{le-ind}
 use native.Mathlib.Numerals.{add-one}
 use native.Mathlib.Omega.{arith}
 use lib.Count.{trailingZeros}
-use lib.ListN.{getD}
-use lib.Pow.{pow-lt, pow-pos}
-use Rattle.rules.specs.Test.{_and_, fails, choose}
-use Rattle.rules.specs.Word.{bit, common, union, without, single}
-use Rattle.rules.specs.Over.{keep, joinOf, countBelow}
-use Rattle.rules.specs.Extract.{rank, closeUp}
+use lib.Bits.{bitOr, bitXor, and-le-l, and-le-r, or-add-and, xor-add-and}
+use lib.Pow.{pow-pos}
+use Rattle.rules.specs.Test.{_and_, fails, same, choose}
+use Rattle.rules.specs.Word.{bit, union, without, single}
+use Rattle.rules.specs.Over.{keep, joinOver, joinOf, countBelow}
+use Rattle.rules.specs.Extract.{rank}
 use Rattle.rules.proofs.Tests.{same-of, same-not, fails-of}
 use Rattle.rules.proofs.Words.{shift-single, bit-without, bit-single, without-lt}
 use Rattle.rules.proofs.Overs.{joinOver-eq}
-use Rattle.rules.proofs.Layers.{getD-listOver}
 use Rattle.rules.proofs.Extracts.{rank-in, rank-out}
 use Rattle.words.specs.Width.{stateWidth}
 use Rattle.words.proofs.MemberLoops.{Members, members-none, members-more, members-done, lowest-in, lowest-lt}
 use Rattle.words.proofs.Lowest.{lowest-least, others-above}
-use Rattle.extract.specs.Moves.{gap, gaps, mostMoves, Enough, place, moving, masksOf, closing}
-use Rattle.extract.proofs.Moves.{mod-le, rank-le, closing-first, closing-next, closing-enough, closing-last}
+use Rattle.extract.specs.Moves.{gap, going, mostMoves, place, moving, pieceWords}
+use Rattle.extract.proofs.Moves.{mod-le, rank-le}
 
 -- ---- one state
 
 -- a shift by 1 << i
 pub shift-is : (i : ℕ) → i < mostMoves → 1 * 2 ^ i % 2 ^ stateWidth ≡ 2 ^ i
 shift-is i h = shift-single stateWidth i (omega arith)
-
-pub shift-lt : (i : ℕ) → i < mostMoves → 1 * 2 ^ i % 2 ^ stateWidth < stateWidth
-shift-lt i h = omega (arith, shift-is i h, pow-lt {i = i} {j = mostMoves} h)
 
 pub shift-some : (i : ℕ) → i < mostMoves → 0 < 1 * 2 ^ i % 2 ^ stateWidth
 shift-some i h = omega (arith, shift-is i h, pow-pos i)
@@ -111,76 +107,80 @@ module _ {set left under : ℕ} (m : Ranked set left under) (some : 0 < left) wh
     ranks = add-one under ∙ ap suc next-rank ∙ sym (rank-in set (trailingZeros stateWidth left) next-in);
   }
 
--- what they have to go, joined
-pub record Gapped (set left under joined : ℕ) : Type 0 where
+-- what f gives for them, joined
+pub record Masked (f : ℕ → ℕ) (set left under mask : ℕ) : Type 0 where
   pub ranked : Ranked set left under
-  pub joins : Members (gap set) stateWidth set left joined
+  pub joins : Members f 0 stateWidth set left mask
 
-pub gap-none : {set : ℕ} → set < 2 ^ stateWidth → Gapped set set 0 0
-gap-none h = record { ranked = ranked-all h; joins = members-none h }
-
-pub gap-more : {set left under joined s left' : ℕ} → Gapped set left under joined → 0 < left → s ≡ trailingZeros stateWidth left
-    → left' ≡ without left (single (trailingZeros stateWidth left)) → Gapped set left' (under + 1) (union joined (s - under))
-gap-more {set} {left} {under} {joined} {s} m some e l = record {
-  ranked = ranked-more (m .ranked) some l;
-  joins = members-more (m .joins) (omega arith) some (ap (λ (x : ℕ). x - under) e ∙ next-gap (m .ranked) some) refl l;
-}
-
-pub gap-done : {set left under joined : ℕ} → Gapped set left under joined → left ≤ 0 → joined ≡ gaps set
-unfolding gaps
-gap-done m h = members-done (m .joins) h
-
--- the mask of a move
-pub record Masked (set i left under mask : ℕ) : Type 0 where
-  pub ranked : Ranked set left under
-  pub joins : Members (λ s. keep (bit i (gap set s)) (single (place set i s))) stateWidth set left mask
-
-pub mask-none : {set i : ℕ} → set < 2 ^ stateWidth → Masked set i set 0 0
+pub mask-none : {f : ℕ → ℕ} {set : ℕ} → set < 2 ^ stateWidth → Masked f set set 0 0
 mask-none h = record { ranked = ranked-all h; joins = members-none h }
 
-pub mask-more : {set i left under mask s b left' : ℕ} → Masked set i left under mask → 0 < left → s ≡ trailingZeros stateWidth left
-    → b ≡ keep (bit i (s - under)) (single (s - (s - under) % 2 ^ i))
-    → left' ≡ without left (single (trailingZeros stateWidth left)) → Masked set i left' (under + 1) (union mask b)
-unfolding place
-mask-more {set} {i} {left} {under} {mask} {s} {b} m some e q l = record {
-  ranked = ranked-more (m .ranked) some l;
-  joins = members-more (m .joins) (omega arith) some
-      (q ∙ ap (λ (x : ℕ). keep (bit i (x - under)) (single (x - (x - under) % 2 ^ i))) e
-      ∙ ap (λ (x : ℕ). keep (bit i x) (single (trailingZeros stateWidth left - x % 2 ^ i))) (next-gap (m .ranked) some))
-      refl l;
-}
+pub mask-more : {f : ℕ → ℕ} {set left under mask b left' : ℕ} → Masked f set left under mask → 0 < left → b ≡ f (trailingZeros stateWidth left)
+    → left' ≡ without left (single (trailingZeros stateWidth left)) → Masked f set left' (under + 1) (union mask b)
+mask-more m some q l = record { ranked = ranked-more (m .ranked) some l; joins = members-more (m .joins) (omega arith) some q refl l }
 
 keep-keep : (a b : Bool) (w : ℕ) → keep a (keep b w) ≡ keep (a and b) w
 unfolding keep choose _and_
 keep-keep true b w = refl
 keep-keep false b w = refl
 
-pub mask-done : {set i left under mask : ℕ} → Masked set i left under mask → left ≤ 0 → mask ≡ moving stateWidth set i
-unfolding moving joinOf
-mask-done {set} {i} m h = members-done (m .joins) h ∙ joinOver-eq stateWidth _ _ (λ s l. keep-keep (bit s set) (bit i (gap set s)) (single (place set i s)))
+mask-done : {f : ℕ → ℕ} {set left under mask : ℕ} (T : ℕ → Bool) (p : ℕ → ℕ) → Masked f set left under mask → left ≤ 0
+    → ((s : ℕ) → f s ≡ keep (T s) (single (p s))) → mask ≡ joinOver stateWidth (λ s. keep (bit s set and T s) (single (p s)))
+unfolding joinOf
+mask-done {f} {set} T p m h e =
+    members-done (m .joins) h ∙ joinOver-eq stateWidth _ _ (λ s l. ap (keep (bit s set)) (e s) ∙ keep-keep (bit s set) (T s) (single (p s)))
 
--- ---- the loop over the moves: the word before move i, whatever the set is that the moves were prepared for
+-- the mask of a move
+abbrev pub movingAt : ℕ → ℕ → ℕ → ℕ
+movingAt set i s = keep (bit i (gap set s)) (single (place set i s))
 
-pub record Closes (masks : List ℕ) (w moves word₀ word i : ℕ) : Type 0 where
-  pub within : i ≤ moves
-  pub is : (set : ℕ) → set < 2 ^ stateWidth → masks ≡ masksOf set → word₀ ≡ common set w → word ≡ closing stateWidth set w i
+pub moving-next : {set left under s b : ℕ} (i : ℕ) → Ranked set left under → 0 < left → s ≡ trailingZeros stateWidth left
+    → b ≡ keep (bit i (s - under)) (single (s - (s - under) % 2 ^ i)) → b ≡ movingAt set i (trailingZeros stateWidth left)
+unfolding place
+moving-next {set} {left} {under} i m some e q =
+    q ∙ ap (λ (x : ℕ). keep (bit i (x - under)) (single (x - (x - under) % 2 ^ i))) e
+    ∙ ap (λ (x : ℕ). keep (bit i x) (single (trailingZeros stateWidth left - x % 2 ^ i))) (next-gap m some)
 
-pub close-none : {masks : List ℕ} {w moves word : ℕ} → Closes masks w moves word word 0
-close-none {masks} {w} = record { within = omega arith; is = λ set h m e. e ∙ closing-first stateWidth set w h }
+pub moving-done : {set left under mask : ℕ} (i : ℕ) → Masked (movingAt set i) set left under mask → left ≤ 0 → mask ≡ moving stateWidth set i
+unfolding moving
+moving-done {set} i m h = mask-done (λ s. bit i (gap set s)) (place set i) m h (λ s. refl)
 
-pub close-more : {masks : List ℕ} {w moves word₀ word i : ℕ} → Closes masks w moves word₀ word i → i < moves → i < mostMoves
-    → Closes masks w moves word₀ (union (without word (getD masks i 0)) (common word (getD masks i 0) / 2 ^ (1 * 2 ^ i % 2 ^ stateWidth))) (i + 1)
-unfolding masksOf
-close-more {masks} {w} {moves} {word₀} {word} {i} s k h = record {
+-- those that have so far to go
+abbrev pub goingAt : ℕ → ℕ → ℕ → ℕ
+goingAt set far s = keep (same (gap set s) far) (single s)
+
+pub going-next : {set left under s b : ℕ} (far : ℕ) → Ranked set left under → 0 < left → s ≡ trailingZeros stateWidth left
+    → b ≡ keep (same (s - under) far) (single s) → b ≡ goingAt set far (trailingZeros stateWidth left)
+going-next {set} {left} {under} far m some e q =
+    q ∙ ap (λ (x : ℕ). keep (same (x - under) far) (single x)) e
+    ∙ ap (λ (x : ℕ). keep (same x far) (single (trailingZeros stateWidth left))) (next-gap m some)
+
+pub going-done : {set left under mask : ℕ} (far : ℕ) → Masked (goingAt set far) set left under mask → left ≤ 0 → mask ≡ going set far
+unfolding going
+going-done {set} far m h = mask-done (λ s. same (gap set s) far) (λ s. s) m h (λ s. refl)
+
+-- ---- pieces
+
+-- a union is empty where both are
+pub none-joined : (a b : ℕ) → union a b ≡ 0 → (a ≡ 0) × (b ≡ 0)
+none-joined a b e = (omega (arith, or-add-and a b, and-le-l a b, and-le-r a b), omega (arith, or-add-and a b, and-le-l a b, and-le-r a b))
+
+-- where nothing differs among the first i words, each is the same as the other
+pub record Matched (one other : ℕ → ℕ) (i differ : ℕ) : Type 0 where
+  pub within : i ≤ pieceWords
+  pub each : differ ≡ 0 → (k : ℕ) → k < i → one k ≡ other k
+
+pub matched-none : {one other : ℕ → ℕ} → Matched one other 0 0
+matched-none = record { within = omega arith; each = λ e k h. absurd (omega arith) }
+
+xor-same : (a b : ℕ) → bitXor a b ≡ 0 → a ≡ b
+xor-same a b e = omega (arith, xor-add-and a b, and-le-l a b, and-le-r a b)
+
+pub matched-more : {one other : ℕ → ℕ} {i differ : ℕ} → Matched one other i differ → i < pieceWords
+    → Matched one other (i + 1) (bitOr differ (bitXor (one i) (other i)))
+matched-more {one} {other} {i} {differ} m h = record {
   within = omega arith;
-  is = λ set l m e.
-      ap (λ (x : ℕ). union (without word (getD masks i 0)) (common word (getD masks i 0) / 2 ^ x)) (shift-is i h)
-      ∙ closing-next stateWidth set w i word (getD masks i 0) (s .is set l m e) (ap (λ (x : List ℕ). getD x i 0) m ∙ getD-listOver mostMoves _ i h)
-      ∙ ap (closing stateWidth set w) (sym (add-one i));
+  each = λ e k l.
+      let (a, b) = none-joined differ (bitXor (one i) (other i)) e in
+      below-more (λ j. one j ≡ other j) i (m .each a) (xor-same (one i) (other i) b) k l;
 }
-
-pub close-done : {masks : List ℕ} {w moves word₀ word i : ℕ} (set : ℕ) → Closes masks w moves word₀ word i → moves ≤ i → Enough set moves
-    → set < 2 ^ stateWidth → masks ≡ masksOf set → word₀ ≡ common set w → word ≡ closeUp stateWidth set w
-close-done {masks} {w} {moves} {word₀} {word} {i} set s h enough l m e =
-    let all : i ≡ moves = omega (arith, s .within) in
-    s .is set l m e ∙ ap (closing stateWidth set w) all ∙ closing-enough set w moves enough ∙ closing-last stateWidth set w (omega arith)

@@ -1,26 +1,25 @@
--- The moves close up the bits: each takes every state of S from where it stands before it to where it stands before the next.
+-- The moves close up the bits: each takes every state of S from where it stands before it to where it stands before the next. So does a shift of all that have as far to go.
 -- Assumes nothing.
 use mathlib.Core.Path.{_≡_, refl, sym, ap, ap₂, subst, _∙_}
-use mathlib.Core.Bool.{Bool, true, false, So}
+use mathlib.Core.Bool.{Bool, So}
 use mathlib.Core.Logic.{⊎-elim}
 use Prim.Native.Nat.{ℕ, zero, suc, _+_, _-_, _*_, _/_, _%_, _^_, _≤_, _<_}
-use native.Mathlib.Nat.{zero-lt-suc, mod-lt, mod-eq-of-lt, mul-le-mul-right, lt-of-le-of-lt}
+use native.Mathlib.Nat.{zero-lt-suc, mod-lt, mod-eq-of-lt, mul-le-mul-right, lt-of-le-of-lt, zero-div}
 use native.Mathlib.Omega.{arith}
 use native.Mathlib.Decide.{le-ind}
 use native.Mathlib.Numerals.{one-add}
-use lib.Bits.{or-zero-r}
+use lib.Bits.{bitXor, and-zero-r, xor-zero-r, or-zero-r, or-self}
 use lib.Pow.{pow-pos, shr-mono, shr-le, split, mod-pow-add}
 use Rattle.rules.specs.Test.{_and_, _or_, fails, same, choose}
 use Rattle.rules.specs.Word.{bit, common, union, without, single}
-use Rattle.rules.specs.Over.{keep, joinOver, joinOf, anyBelow, countBelow}
+use Rattle.rules.specs.Over.{keep, joinOver, anyBelow, countBelow}
 use Rattle.rules.specs.Extract.{rank, closeUp}
-use Rattle.rules.proofs.Tests.{and-of, and-left, and-right, or-left, or-right, or-at, fails-of, fails-at, holds-or, test-eq, same-of, same-at, choose-failed}
-use Rattle.rules.proofs.Members.{bit-joinOf}
-use Rattle.rules.proofs.Words.{bit-above, bit-below, bit-common, bit-union, bit-without, bit-single, ext, common-lt, union-lt, without-lt, single-lt, bit-shift}
+use Rattle.rules.proofs.Tests.{and-of, and-left, and-right, or-left, or-right, or-at, fails-of, fails-at, holds-or, test-eq, same-of, same-at}
+use Rattle.rules.proofs.Words.{bit-above, bit-common, bit-union, bit-without, bit-single, ext, common-lt, union-lt, without-lt, single-lt, bit-shift}
 use Rattle.rules.proofs.Overs.{any-of, any-at, any-only, any-eq, bit-keep, bit-joinOver, joinOver-eq, joinOver-lt, keep-lt}
 use Rattle.rules.proofs.Extracts.{rank-in, rank-out, rank-lt}
 use Rattle.words.specs.Width.{stateWidth}
-use Rattle.extract.specs.Moves.{gap, gaps, mostMoves, Enough, place, moving, closing}
+use Rattle.extract.specs.Moves.{gap, going, mostMoves, place, moving, closing}
 
 -- ---- states that stand at places
 
@@ -178,47 +177,6 @@ module _ (set : ℕ) where
       let e : gap set s % 2 ^ mostMoves ≡ gap set s = mod-eq-of-lt (omega (arith, gap-le s)) in
       omega (arith, rank-le s)
 
--- ---- moves that move nothing
-
-gaps-bit : (set s i : ℕ) → s < stateWidth → So (bit s set) → So (bit i (gap set s)) → So (bit i (gaps set))
-unfolding gaps
-gaps-bit set s i l t u = bit-joinOf i stateWidth set (gap set) ∙ any-of stateWidth _ s l (and-of _ _ t u)
-
-pub gaps-lt : (set : ℕ) → gaps set < 2 ^ mostMoves
-unfolding gaps joinOf
-gaps-lt set = joinOver-lt mostMoves _ stateWidth (λ s l. keep-lt mostMoves (bit s set) (gap set s) (λ t. omega (arith, gap-le set s)))
-
-keep-same : (c : Bool) (x y : ℕ) → (So c → x ≡ y) → keep c x ≡ keep c y
-unfolding keep choose
-keep-same true x y f = f refl
-keep-same false x y f = refl
-
-keep-none : (c : Bool) (w : ℕ) → So (fails c) → keep c w ≡ 0
-unfolding keep
-keep-none c w f = choose-failed c w 0 f
-
-none-over : (n : ℕ) → joinOver n (λ s. 0) ≡ 0
-unfolding joinOver
-none-over zero = refl
-none-over (suc n) = ap (λ (x : ℕ). union x 0) (none-over n)
-
--- no state goes down in a move whose bit no gap has
-pub moving-none : (set i : ℕ) → (So (bit i (gaps set)) → ⊥) → 0 ≡ moving stateWidth set i
-unfolding moving
-moving-none set i none = sym (
-    joinOver-eq stateWidth _ (λ s. 0) (λ s l. keep-none _ _ (fails-of _ (λ t. none (gaps-bit set s i l (and-left _ _ t) (and-right _ _ t)))))
-    ∙ none-over stateWidth)
-
--- so further moves change nothing
-pub closing-enough : (set w moves : ℕ) → Enough set moves → closing stateWidth set w moves ≡ closing stateWidth set w mostMoves
-unfolding closing
-closing-enough set w moves enough = le-ind (λ k. closing stateWidth set w moves ≡ closing stateWidth set w k) refl (λ k g r. r
-    ∙ still k g) mostMoves (enough .few)
-  where
-    still : (k : ℕ) → moves ≤ k → closing stateWidth set w k ≡ closing stateWidth set w (suc k)
-    still k g = joinOver-eq stateWidth _ _ (λ s l. keep-same _ _ _ (λ t. ap single (place-stays set k s (fails-of _ (λ u.
-        omega (arith, bit-below k (gaps set) moves (enough .wide) (gaps-bit set s k l (and-left _ _ t) u)))))))
-
 -- ---- a word before the first move, from move to move, and after the last
 
 module _ (n set w : ℕ) where
@@ -239,6 +197,13 @@ module _ (n set w : ℕ) where
       ∙ moved n (2 ^ i) (λ s. bit s set) (λ s. bit i (gap set s)) (λ s. bit s set and bit s w) (place set i) (place set (suc i))
       (place-apart set i) (place-moves set i) (place-stays set i) (λ s. and-left _ _) (place-low set n i)
 
+  -- a move in which nothing goes down changes nothing
+  pub closing-still : (i x m : ℕ) → x ≡ closing n set w i → m ≡ moving n set i → m ≡ 0 → x ≡ closing n set w (suc i)
+  closing-still i x m e f z =
+      sym (ap₂ union (ap (λ (y : ℕ). without x y) z ∙ ap (bitXor x) (and-zero-r x) ∙ xor-zero-r x) (ap (λ (y : ℕ). common x y / 2 ^ 2 ^ i) z
+      ∙ ap (λ (y : ℕ). y / 2 ^ 2 ^ i) (and-zero-r x) ∙ zero-div (2 ^ 2 ^ i)) ∙ or-zero-r x)
+      ∙ closing-next i x m e f
+
   pub closing-last : n ≤ stateWidth → closing n set w mostMoves ≡ closeUp n set w
   unfolding closing closeUp
   closing-last h =
@@ -252,3 +217,69 @@ module _ (n set w : ℕ) where
       none : (m : ℕ) → n ≤ m → closeUp (suc m) set w ≡ closeUp m set w
       none m g =
           ap (λ (b : Bool). union (closeUp m set w) (keep (b and bit m w) (single (rank set m)))) (bit-above m set n l g) ∙ or-zero-r (closeUp m set w)
+
+-- ---- all that have as far to go at once
+
+module _ (set far : ℕ) where
+  going-lt : going set far < 2 ^ stateWidth
+  unfolding going
+  going-lt = standing-lt stateWidth (λ s. bit s set and same (gap set s) far) (λ s. s) (λ s l. l)
+
+  -- such a state is in S, and so far above its new number
+  going-at : (s : ℕ) → So (bit s (going set far)) → So (bit s set) × (s ≡ far + rank set s) × (s < stateWidth)
+  unfolding going gap
+  going-at s t =
+      let (u, l, v, e) = stands-at stateWidth (λ s. bit s set and same (gap set s) far) (λ s. s) s t in
+      let g : gap set u ≡ far = same-at _ _ (and-right _ _ v) in
+      subst (λ (x : ℕ). So (bit x set) × (x ≡ far + rank set x) × (x < stateWidth)) (sym e)
+      (and-left _ _ v, omega (arith, rank-le set u), l)
+
+module _ (set w near far low high : ℕ) (small : set < 2 ^ stateWidth) (low-is : low ≡ going set near) (high-is : high ≡ going set far)
+    (all : union low high ≡ set) where
+  -- a word closed up, by its states
+  new : (ℕ → Bool)
+  new = λ s. bit s set and bit s w
+
+  one-there : (d m : ℕ) → m ≡ going set d → (j : ℕ) → So (bit (d + j) m and bit (d + j) w) → So (bit j (standing stateWidth new (rank set)))
+  unfolding new
+  one-there d m e j t =
+      let (i, r, l) = going-at set d (d + j) (sym (ap (bit (d + j)) e) ∙ and-left _ _ t) in
+      stands-of stateWidth (λ s. bit s set and bit s w) (rank set) (d + j) j l (and-of _ _ i (and-right _ _ t)) (omega arith)
+
+  one-back : (d m : ℕ) → m ≡ going set d → (s j : ℕ) → So (bit s m) → So (bit s w) → j ≡ rank set s → So (bit (d + j) m and bit (d + j) w)
+  one-back d m e s j t u f =
+      let (i, r, l) = going-at set d s (sym (ap (bit s) e) ∙ t) in
+      let g : s ≡ d + j = omega arith in
+      subst (λ (x : ℕ). So (bit x m and bit x w)) g (and-of _ _ t u)
+
+  runs-there : (j : ℕ) → So ((bit (near + j) low and bit (near + j) w) or (bit (far + j) high and bit (far + j) w)) → So (bit j (standing stateWidth new (rank set)))
+  runs-there j t = ⊎-elim (one-there near low low-is j) (one-there far high high-is j) (or-at _ _ t)
+
+  runs-back : (j : ℕ) → So (bit j (standing stateWidth new (rank set))) → So ((bit (near + j) low and bit (near + j) w) or (bit (far + j) high and bit (far + j) w))
+  unfolding new
+  runs-back j t =
+      let (s, l, u, e) = stands-at stateWidth (λ s. bit s set and bit s w) (rank set) j t in
+      ⊎-elim
+      (λ m. or-left _ _ (one-back near low low-is s j m (and-right _ _ u) e))
+      (λ m. or-right _ _ (one-back far high high-is s j m (and-right _ _ u) e))
+      (or-at _ _ (sym (bit-union s low high) ∙ ap (bit s) all ∙ and-left _ _ u))
+
+  part-lt : (d m : ℕ) → m ≡ going set d → common m w / 2 ^ d < 2 ^ stateWidth
+  part-lt d m e = lt-of-le-of-lt (shr-le (common m w) d) (common-lt stateWidth m w (subst (λ (x : ℕ). x < 2 ^ stateWidth) (sym e) (going-lt set d)))
+
+  pub runs-close : union (common low w / 2 ^ near) (common high w / 2 ^ far) ≡ closeUp stateWidth set w
+  unfolding closeUp new
+  runs-close =
+      ext stateWidth (union (common low w / 2 ^ near) (common high w / 2 ^ far)) (standing stateWidth new (rank set))
+      (union-lt stateWidth (common low w / 2 ^ near) (common high w / 2 ^ far) (part-lt near low low-is) (part-lt far high high-is))
+      (standing-lt stateWidth new (rank set) (λ s l. omega (arith, rank-le set s)))
+      (λ j l.
+      bit-union j (common low w / 2 ^ near) (common high w / 2 ^ far)
+      ∙ ap₂ _or_ (bit-shift (common low w) near j ∙ bit-common (near + j) low w) (bit-shift (common high w) far j ∙ bit-common (far + j) high w)
+      ∙ test-eq _ _ (runs-there j) (runs-back j))
+
+  -- where all have as far to go, one shift does
+  pub run-close : near ≡ far → common low w / 2 ^ near ≡ closeUp stateWidth set w
+  run-close e =
+      let f : high ≡ low = high-is ∙ ap (going set) (sym e) ∙ sym low-is in
+      sym (ap₂ (λ (m d : ℕ). union (common low w / 2 ^ near) (common m w / 2 ^ d)) f (sym e) ∙ or-self (common low w / 2 ^ near)) ∙ runs-close

@@ -7,6 +7,7 @@ use graph::checks::check_set;
 use graph::file::FileAnswer;
 use graph::file::check_file;
 use graph::format::Counts;
+use graph::layout::stride;
 use graph::layout::word_count;
 use graph::refusal::Check;
 use graph::refusal::Refusal;
@@ -39,12 +40,14 @@ fn extract_taken(
     if let Check::Refused(why) = found {
         return ExtractAnswer::Refused(why);
     }
-    let wanted = word_count(c.shape(), depth);
+    let s = c.shape();
+    let wanted = word_count(s, depth);
     let room = check_output(wanted, out.len());
     if let Check::Refused(why) = room {
         return ExtractAnswer::Refused(why);
     }
-    close::cut(set, words, &mut *out, wanted);
+    let back = stride(s);
+    close::cut(set, back, words, &mut *out, wanted);
     ExtractAnswer::Extracted(wanted)
 }
 

@@ -2,94 +2,25 @@
 -- Assumes nothing.
 use Prim.Native.Nat.{ℕ, zero, suc, _+_, _-_, _*_, _≤_, _<_}
 use mathlib.Core.Path.{_≡_, refl, sym, ap, ap₂, subst, _∙_}
+use mathlib.Core.Bool.{Bool, true}
 use mathlib.Core.List.{List, _++_, append-assoc, append-nil}
-use native.Mathlib.Nat.{le-refl, suc-mul, zero-mul, mul-le-mul-right}
+use native.Mathlib.Nat.{le-refl, suc-mul, mul-le-mul-right, zero-mul, add-zero}
 use native.Mathlib.Numerals.{add-one}
 use native.Mathlib.Omega.{arith}
-use borrow.Rule.Slice.PartMut.{putMid}
-use lib.ListN.{length, take, drop, length-append}
-use lib.Seq.{take-at, drop-at, drop-drop}
-use Rattle.rules.specs.Word.{common, first}
-use Rattle.rules.specs.Lists.{listOver, runOver}
-use Rattle.rules.specs.Domain.{Domain, shapeOf}
-use Rattle.rules.specs.Layer.{size, pairs, rowOf, layerOf, stride}
-use Rattle.rules.specs.Shared.{startLayer, actionLayer, nextLabel, nextMutex, nextLayer, propLayer, vertexLayer, graphWords}
-use Rattle.rules.proofs.Layers.{length-listOver, list-append, length-layerOf, length-rows, size-pairs, pairs-sub, pairs-row, labels-in}
-use Rattle.graph.specs.Listed.{addedBy, listedDomain, pairWord, layerOver, nextWord, layerAfter, stepWords, propFrom, VertexLists}
+use borrow.Rule.Slice.PartMut.{putMid, same-len-mid}
+use lib.ListN.{length, getD, take, drop, length-append}
+use Rattle.rules.specs.Word.{first}
+use Rattle.rules.specs.Lists.{runOver}
+use Rattle.rules.specs.Domain.{Domain, Actions, domain}
+use Rattle.rules.specs.Layer.{size, layerOf}
+use Rattle.rules.specs.Shared.{startLabel, startLayer, actionLayer, nextLayer, propLayer, vertexLayer, graphWords}
+use Rattle.rules.specs.Together.{layerBy}
+use Rattle.rules.proofs.Layers.{length-layerOf, layer-eq}
 use Rattle.words.specs.Memory.{putAt}
-use Rattle.words.proofs.Writes.{Runs, put-none, put-put, put-back, put-within, put-length, put-take, tail-all, run-more, run-done}
-
--- ---- layer 0
-
--- empty mutex words, row by row
-zero-rows : (n i : ℕ) → i ≤ n → runOver i (rowOf n (λ p q. 0)) ≡ listOver (pairs n - pairs (n - i)) (λ i. 0)
-unfolding runOver rowOf listOver
-zero-rows n zero h = ap (λ (x : ℕ). listOver x (λ i. 0)) (length-rows n (λ p q. 0) 0 h)
-zero-rows n (suc i) h =
-    ap (λ (l : List ℕ). l ++ listOver (n - 1 - i) (λ k. 0)) (zero-rows n i (omega arith))
-    ∙ sym (list-append (pairs n - pairs (n - i)) (n - 1 - i) (λ i. 0))
-    ∙ ap (λ (x : ℕ). listOver x (λ i. 0)) (sum (pairs n) (pairs (n - i)) (pairs (n - suc i)) (n - 1 - i) (pairs-row n i h) (pairs-sub n i))
-  where
-    sum : (p q r k : ℕ) → q ≡ k + r → q ≤ p → p - q + k ≡ p - r
-    sum p q r k e l = omega arith
-
-no-pairs : (n : ℕ) → pairs (n - n) ≡ 0
-unfolding pairs
-no-pairs n = let e : n - n ≡ 0 = omega arith in rw e refl
-
--- a layer's words cleared, then its labels written at the front
-module _ (n end : ℕ) (w₀ w₁ : List ℕ) (room : size n ≤ length w₀) (is : end ≡ size n) (cleared : w₁ ≡ putAt 0 (listOver end (λ i. 0)) w₀) where
-  abbrev rest : ℕ
-  rest = end - n
-
-  split : listOver end (λ i. 0) ≡ listOver n (λ i. 0) ++ listOver rest (λ i. 0)
-  split =
-      let e : end ≡ n + rest = omega (arith, labels-in n) in
-      ap (λ (x : ℕ). listOver x (λ i. 0)) e ∙ list-append n rest (λ i. 0)
-
-  there : w₁ ≡ listOver n (λ i. 0) ++ (listOver rest (λ i. 0) ++ drop end w₀)
-  unfolding putAt
-  there =
-      let e : 0 + length (listOver end (λ i. 0)) ≡ end = omega (arith, length-listOver end (λ i. 0)) in
-      cleared ∙ ap₂ (λ (l : List ℕ) (x : ℕ). l ++ drop x w₀) split e ∙ append-assoc (listOver n (λ i. 0)) (listOver rest (λ i. 0)) (drop end w₀)
-
-  pub front-clear : take n w₁ ≡ listOver n (λ i. 0)
-  front-clear = ap (take n) there ∙ take-at (listOver n (λ i. 0)) _ n (length-listOver n (λ i. 0))
-
-  pub start-put : (label : ℕ → ℕ) (p : List ℕ) → p ≡ listOver n label → p ++ drop n w₁ ≡ putAt 0 (layerOf n label (λ p q. 0)) w₀
-  unfolding layerOf putAt
-  start-put label p e =
-      let r : rest ≡ pairs n - pairs (n - n) = omega (arith, size-pairs n, no-pairs n) in
-      let zeros : listOver rest (λ i. 0) ≡ runOver n (rowOf n (λ p q. 0)) = ap (λ (x : ℕ). listOver x (λ i. 0)) r ∙ sym (zero-rows n n (le-refl n)) in
-      let whole : List ℕ = listOver n label ++ runOver n (rowOf n (λ p q. 0)) in
-      let l : end ≡ 0 + length whole =
-      omega (
-        arith,
-        length-append (listOver n label) (runOver n (rowOf n (λ p q. 0))),
-        length-listOver n label,
-        ap length (sym zeros),
-        length-listOver rest (λ i. 0),
-        labels-in n,
-      ) in
-      ap₂ (λ (x y : List ℕ). x ++ y) e (ap (drop n) there ∙ drop-at (listOver n (λ i. 0)) _ n (length-listOver n (λ i. 0)))
-      ∙ sym (append-assoc (listOver n label) (listOver rest (λ i. 0)) (drop end w₀))
-      ∙ ap₂ (λ (x : List ℕ) (y : ℕ). (listOver n label ++ x) ++ drop y w₀) zeros l
-
--- ---- the step
-
--- the action layer over a proposition layer, and the proposition layer after an action layer, of the listedDomain Domain
-pub over-is : (n all : ℕ) (needs adders interfering l : List ℕ)
-    → layerOver n all needs interfering l ≡ actionLayer (listedDomain n needs adders interfering) all l
-unfolding layerOver pairWord actionLayer listedDomain
-over-is n all needs adders interfering l = refl
-
-pub after-is : (n : ℕ) (needs adders interfering a : List ℕ) → length adders ≡ n
-    → layerAfter (length needs) adders a ≡ nextLayer (listedDomain n needs adders interfering) a
-unfolding layerAfter nextLayer listedDomain nextWord
-after-is n needs adders interfering a e =
-    ap (λ (k : ℕ). layerOf k (nextLabel (length needs) (addedBy adders) a)
-    (λ p q. nextMutex (length needs) (addedBy adders) a
-    (common (nextLabel (length needs) (addedBy adders) a p) (nextLabel (length needs) (addedBy adders) a q)) p q)) e
+use Rattle.words.specs.Rows.{cell}
+use Rattle.words.proofs.Writes.{Runs, run-more, run-done, put-put, put-within, put-none, tail-length}
+use Rattle.layers.specs.Step.{Told, Deletes, Tells, Ready, Stepped, stepWords}
+use Rattle.graph.specs.Steps.{propFrom, Ended, Lent}
 
 pub length-actions : (D : Domain) (all : ℕ) (l : List ℕ) → length (actionLayer D all l) ≡ size (D .vertices)
 unfolding actionLayer
@@ -99,44 +30,11 @@ pub length-next : (D : Domain) (a : List ℕ) → length (nextLayer D a) ≡ siz
 unfolding nextLayer
 length-next D a = length-layerOf (D .props) _ _
 
--- a list put at b, and another behind it through the part of the memory that begins there
-pub put-then : (b k : ℕ) (xs ys w₀ w₁ p : List ℕ) → length xs ≡ k → b + k + length ys ≤ length w₀ → w₁ ≡ putAt b xs w₀
-    → p ≡ putAt k ys (take (length w₁ - b) (drop b w₁)) → putMid b (length w₁ - b) w₁ p ≡ putAt b (xs ++ ys) w₀
-put-then b k xs ys w₀ w₁ p e room e₁ ep =
-    let long : length w₁ ≡ length w₀ = ap length e₁ ∙ put-length b xs w₀ (omega arith) in
-    put-within b k ys w₁ p (omega arith) ep
-    ∙ ap₂ (λ (x : ℕ) (y : List ℕ). putAt (b + x) ys y) (sym e) e₁
-    ∙ put-put b xs w₀ (omega arith) ys
-
--- what the part begins with: the list just put
-pub put-part : (b : ℕ) (xs w₀ w₁ : List ℕ) → b + length xs ≤ length w₀ → w₁ ≡ putAt b xs w₀ → take (length xs) (take (length w₁ - b) (drop b w₁)) ≡ xs
-put-part b xs w₀ w₁ room e₁ =
-    ap (take (length xs)) (tail-all b w₁ ∙ ap (drop b) e₁ ∙ put-back b xs w₀ room) ∙ take-at xs (drop (b + length xs) w₀) (length xs) refl
-
--- the action layer put behind the proposition layer, then the next proposition layer behind it
-pub step-put : (n all at : ℕ) (needs adders interfering w₀ w₁ p : List ℕ) → VertexLists n needs adders interfering
-    → size n + size (length needs) + size n ≤ length w₀
-    → at ≡ size n → w₁ ≡ putAt (size n) (layerOver n all needs interfering (take (size n) w₀)) w₀
-    → p ≡ putAt (size (length needs)) (layerAfter (length needs) adders (take (size (length needs)) (take (length w₁ - at) (drop at w₁))))
-    (take (length w₁ - at) (drop at w₁))
-    → putMid at (length w₁ - at) w₁ p ≡ putAt (size n) (stepWords (listedDomain n needs adders interfering) all (take (size n) w₀)) w₀
-unfolding stepWords listedDomain
-step-put n all at needs adders interfering w₀ w₁ p sizes room q e₀ ep =
-    let D : Domain = listedDomain n needs adders interfering in
-    let a : List ℕ = actionLayer D all (take (size n) w₀) in
-    let e₁ : w₁ ≡ putAt (size n) a w₀ = e₀ ∙ ap (λ (l : List ℕ). putAt (size n) l w₀) (over-is n all needs adders interfering (take (size n) w₀)) in
-    let la : length a ≡ size (length needs) = length-actions D all (take (size n) w₀) in
-    let ln : length (nextLayer D a) ≡ size n = length-next D a in
-    let front : take (size (length needs)) (take (length w₁ - size n) (drop (size n) w₁)) ≡ a =
-    ap (λ (x : ℕ). take x (take (length w₁ - size n) (drop (size n) w₁))) (sym la) ∙ put-part (size n) a w₀ w₁ (omega arith) e₁ in
-    let ep' : p ≡ putAt (size (length needs)) (nextLayer D a) (take (length w₁ - size n) (drop (size n) w₁)) =
-    ep
-    ∙ ap (λ (x : ℕ). putAt (size (length needs)) (layerAfter (length needs) adders (take (size (length needs)) (take (length w₁ - x) (drop x w₁))))
-    (take (length w₁ - x) (drop x w₁))) q
-    ∙ ap (λ (l : List ℕ). putAt (size (length needs)) l (take (length w₁ - size n) (drop (size n) w₁)))
-    (ap (layerAfter (length needs) adders) front ∙ after-is n needs adders interfering a (sizes .adders-long)) in
-    ap (λ (x : ℕ). putMid x (length w₁ - x) w₁ p) q
-    ∙ put-then (size n) (size (length needs)) a (nextLayer D a) w₀ w₁ p la (omega arith) e₁ ep'
+pub step-length : (D : Domain) (all : ℕ) (l : List ℕ) → length (stepWords D all l) ≡ size (D .vertices) + size (D .props)
+unfolding stepWords
+step-length D all l =
+    length-append (actionLayer D all l) (nextLayer D (actionLayer D all l))
+    ∙ ap₂ (λ (x y : ℕ). x + y) (length-actions D all l) (length-next D (actionLayer D all l))
 
 -- ---- all steps
 
@@ -146,7 +44,7 @@ prop-from D n start zero = refl
 prop-from D n start (suc t) = ap (λ (l : List ℕ). nextLayer D (actionLayer D (first n) l)) (prop-from D n start t)
 
 -- a graph's words, layer 0 apart: each step writes an action layer and the next proposition layer
-pub graph-steps : (D : Domain) (n : ℕ) (start : ℕ → ℕ) (k : ℕ)
+graph-steps : (D : Domain) (n : ℕ) (start : ℕ → ℕ) (k : ℕ)
     → startLayer D n start ++ runOver k (λ t. stepWords D (first n) (propFrom D (first n) (startLayer D n start) t)) ≡ graphWords D n start k
 unfolding graphWords vertexLayer stepWords propLayer runOver
 graph-steps D n start zero = append-nil (startLayer D n start)
@@ -159,75 +57,187 @@ graph-steps D n start (suc k) =
     regroup : (a b c d : List ℕ) → (a ++ b) ++ (c ++ d) ≡ (a ++ (b ++ c)) ++ d
     regroup a b c d = simp append-assoc
 
--- at t of `depth` steps over the layer l: the words so far, where layer t begins, and that it stands there
-pub record Stepping (D : Domain) (all : ℕ) (l : List ℕ) (depth : ℕ) (w₀ : List ℕ) (t at : ℕ) (w : List ℕ) : Type 0 where
-  pub runs : Runs (λ t. stepWords D all (propFrom D all l t)) (size (D .props)) depth w₀ t (at + size (D .props)) w
-  pub place : at ≡ t * stride (shapeOf D)
-  pub front : take (size (D .props)) (drop at w) ≡ propFrom D all l t
+-- ---- the loop over the steps
 
--- where t steps are done of so many, the next has room
-pub step-room : (D : Domain) (depth t at len : ℕ) → at ≡ t * stride (shapeOf D) → t < depth → depth * stride (shapeOf D) + size (D .props) ≤ len
-    → at + (size (D .props) + size (D .vertices)) + size (D .props) ≤ len
-unfolding stride
-step-room D depth t at len e h room =
-    omega (arith, suc-mul t (size (D .props) + size (D .vertices)), mul-le-mul-right (size (D .props) + size (D .vertices)) h)
+-- k steps of `depth` over the layer l are written, up to `at`, and the table tells the layer that they reach
+pub record Going (A : Actions) (all : ℕ) (l : List ℕ) (depth : ℕ) (w₀ : List ℕ) (k at : ℕ) (w labels t : List ℕ) : Type 0 where
+  pub runs : Runs (λ k. stepWords (domain A) all (propFrom (domain A) all l k)) (size (domain A .props)) depth w₀ k at w
+  pub tells : Tells A all labels t
+  pub layer : layerBy (domain A .props) (cell t) ≡ propFrom (domain A) all l k
 
-pub stepping-none : (D : Domain) (all depth : ℕ) (w : List ℕ) → size (D .props) ≤ length w → Stepping D all (take (size (D .props)) w) depth w 0 0 w
+pub going-none : (A : Actions) (all depth : ℕ) (w labels t : List ℕ) → size (domain A .props) ≤ length w → Tells A all labels t
+    → Going A all (layerBy (domain A .props) (cell t)) depth w 0 (size (domain A .props)) w labels t
 unfolding propFrom runOver
-stepping-none D all depth w h = record {
-  runs = record { within = omega arith; here = omega arith; inside = omega arith; long = refl; is = sym (put-none (size (D .props)) w) };
-  place = sym (zero-mul (stride (shapeOf D)));
-  front = refl;
+going-none A all depth w labels t room is = record {
+  runs = record { within = omega arith; here = add-zero (size (domain A .props)); inside = room; long = refl; is = sym (put-none (size (domain A .props)) w) };
+  tells = is;
+  layer = refl;
 }
 
-module _ {D : Domain} {all : ℕ} {l : List ℕ} {depth : ℕ} {w₀ : List ℕ} {t at : ℕ} {w : List ℕ} (s : Stepping D all l depth w₀ t at w) where
-  pub stepping-more : (q : ℕ) (p : List ℕ) → t < depth → depth * stride (shapeOf D) + size (D .props) ≤ length w₀ → q ≡ size (D .props) + size (D .vertices)
-      → p ≡ putAt (size (D .props)) (stepWords D all (take (size (D .props)) (take (length w - at) (drop at w)))) (take (length w - at) (drop at w))
-      → Stepping D all l depth w₀ (t + 1) (at + q) (putMid at (length w - at) w p)
-  unfolding stepWords stride propFrom
-  stepping-more q p h room eq ep =
-      let sp : ℕ = size (D .props) in
-      let sv : ℕ = size (D .vertices) in
-      let a : List ℕ = actionLayer D all (propFrom D all l t) in
-      let next : List ℕ = nextLayer D a in
-      let la : length a ≡ sv = length-actions D all (propFrom D all l t) in
-      let ln : length next ≡ sp = length-next D a in
-      let lg : length (a ++ next) ≡ sv + sp = length-append a next ∙ ap₂ (λ (x y : ℕ). x + y) la ln in
-      let long : length w ≡ length w₀ = s .runs .long in
-      let fit : at + (sp + sv) + sp ≤ length w₀ = step-room D depth t at (length w₀) (s .place) h room in
-      let there : take sp (take (length w - at) (drop at w)) ≡ propFrom D all l t = ap (take sp) (tail-all at w) ∙ s .front in
-      let ep' : p ≡ putAt sp (a ++ next) (take (length w - at) (drop at w)) =
-      ep ∙ ap (λ (x : List ℕ). putAt sp (actionLayer D all x ++ nextLayer D (actionLayer D all x)) (take (length w - at) (drop at w))) there in
-      let is : putMid at (length w - at) w p ≡ putAt (at + sp) (a ++ next) w = put-within at sp (a ++ next) w p (omega arith) ep' in
-      let back : drop (at + sp) (putMid at (length w - at) w p) ≡ (a ++ next) ++ drop (at + sp + length (a ++ next)) w =
-      ap (drop (at + sp)) is ∙ put-back (at + sp) (a ++ next) w (omega arith) in
-      let place' : at + sp + sv ≡ at + q = omega arith in
-      let end : at + sp + (sv + sp) ≡ at + q + sp = omega arith in
-      record {
-        runs = subst (λ (x : ℕ). Runs (λ t. stepWords D all (propFrom D all l t)) sp depth w₀ (t + 1) x (putMid at (length w - at) w p)) end
-            (run-more (sv + sp) (s .runs) h (omega arith) lg is);
-        place = omega (arith, s .place, suc-mul t (sp + sv), ap (λ (x : ℕ). x * (sp + sv)) (add-one t));
-        front = ap (λ (x : ℕ). take sp (drop x (putMid at (length w - at) w p))) (sym place')
-            ∙ ap (take sp) (sym (drop-drop sv (at + sp) (putMid at (length w - at) w p)) ∙ ap (drop sv) (back ∙ append-assoc a next _) ∙ drop-at a _ sv la)
-            ∙ take-at next _ sp ln ∙ ap (propFrom D all l) (sym (add-one t));
-      }
+module _ {A : Actions} {all : ℕ} {l : List ℕ} {depth : ℕ} {w₀ : List ℕ} {k at : ℕ} {w labels t : List ℕ} (s : Going A all l depth w₀ k at w labels t) where
+  abbrev D : Domain
+  D = domain A
 
-  pub stepping-done : depth ≤ t → w ≡ putAt (size (D .props)) (runOver depth (λ t. stepWords D all (propFrom D all l t))) w₀
-  stepping-done h = run-done (s .runs) h
+  module _ (labels' t' p : List ℕ) (still : Bool) (h : k < depth) (room : at + (size (D .vertices) + size (D .props)) ≤ length w₀)
+      (did : Stepped A all t labels' t' (take (length w - at) (drop at w)) p still) where
+    put : putMid at (length w - at) w p ≡ putAt at (stepWords D all (propFrom D all l k)) w
+    put =
+        put-within at 0 (stepWords D all (propFrom D all l k)) w p (omega (arith, step-length D all (propFrom D all l k), s .runs .long))
+        (did .is ∙ ap (λ (x : List ℕ). putAt 0 (stepWords D all x) (take (length w - at) (drop at w))) (s .layer))
+        ∙ ap (λ (x : ℕ). putAt x (stepWords D all (propFrom D all l k)) w) (add-zero at)
+
+    reached : layerBy (D .props) (cell t') ≡ propFrom D all l (suc k)
+    reached = unfold propFrom in did .next .layer ∙ ap (λ (x : List ℕ). nextLayer D (actionLayer D all x)) (s .layer)
+
+    pub going-more : Going A all l depth w₀ (k + 1) (at + (size (D .vertices) + size (D .props))) (putMid at (length w - at) w p) labels' t'
+    going-more = record {
+      runs = run-more (size (D .vertices) + size (D .props)) (s .runs) h room (step-length D all (propFrom D all l k)) put;
+      tells = did .next .tells;
+      layer = reached ∙ ap (propFrom D all l) (sym (add-one k));
+    }
+
+    pub ended-rest : still ≡ true → Ended D all l depth w₀ (k + 1) (putMid at (length w - at) w p)
+    ended-rest e = record {
+      within = omega arith;
+      is = going-more .runs .is;
+      rests = λ g. (
+        omega arith,
+        (let q : k + 1 - 1 ≡ k = omega arith in ap (propFrom D all l) q)
+            ∙ sym (s .layer) ∙ sym (did .next .rests e) ∙ reached ∙ ap (propFrom D all l) (sym (add-one k)),
+      );
+    }
+
+  pub ended-all : depth ≤ k → Ended D all l depth w₀ depth w
+  ended-all h = record { within = le-refl depth; is = run-done (s .runs) h; rests = λ g. absurd (omega arith) }
 
 -- layer 0 at the front, and all steps behind it: the graph's words
-pub layers-put : (D : Domain) (n : ℕ) (start : ℕ → ℕ) (depth all : ℕ) (w₀ w₁ w₂ : List ℕ) → size (D .props) ≤ length w₀ → all ≡ first n
-    → w₁ ≡ putAt 0 (startLayer D n start) w₀
-    → w₂ ≡ putAt (size (D .props)) (runOver depth (λ t. stepWords D all (propFrom D all (take (size (D .props)) w₁) t))) w₁
+pub layers-put : (D : Domain) (n : ℕ) (start : ℕ → ℕ) (depth all : ℕ) (l w₀ w₁ w₂ : List ℕ) → size (D .props) ≤ length w₀ → all ≡ first n
+    → l ≡ startLayer D n start → w₁ ≡ putAt 0 l w₀
+    → w₂ ≡ putAt (size (D .props)) (runOver depth (λ t. stepWords D all (propFrom D all l t))) w₁
     → w₂ ≡ putAt 0 (graphWords D n start depth) w₀
 unfolding startLayer
-layers-put D n start depth all w₀ w₁ w₂ room q e₁ e₂ =
+layers-put D n start depth all l w₀ w₁ w₂ room q el e₁ e₂ =
     let long : length (startLayer D n start) ≡ size (D .props) = length-layerOf (D .props) _ _ in
     let here : size (D .props) ≡ 0 + length (startLayer D n start) = omega arith in
-    let front : take (size (D .props)) w₁ ≡ startLayer D n start =
-    ap₂ (λ (x : ℕ) (l : List ℕ). take x l) here e₁ ∙ put-take 0 (startLayer D n start) w₀ (omega arith) in
     e₂
-    ∙ ap₂ (λ (x : ℕ) (l : List ℕ). putAt (size (D .props)) (runOver depth (λ t. stepWords D x (propFrom D x l t))) w₁) q front
-    ∙ ap₂ (λ (x : ℕ) (l : List ℕ). putAt x (runOver depth (λ t. stepWords D (first n) (propFrom D (first n) (startLayer D n start) t))) l) here e₁
+    ∙ ap₂ (λ (x : ℕ) (l : List ℕ). putAt (size (D .props)) (runOver depth (λ t. stepWords D x (propFrom D x l t))) w₁) q el
+    ∙ ap₂ (λ (x : ℕ) (l : List ℕ). putAt x (runOver depth (λ t. stepWords D (first n) (propFrom D (first n) (startLayer D n start) t))) l) here
+    (e₁ ∙ ap (λ (x : List ℕ). putAt 0 x w₀) el)
     ∙ put-put 0 (startLayer D n start) w₀ (omega arith) _
     ∙ ap (λ (l : List ℕ). putAt 0 l w₀) (graph-steps D n start depth)
+
+-- ---- the same, whatever actions the lists tell
+
+pub record Stepping (n width depth all : ℕ) (needs adds dels adders foes labels₀ t₀ w₀ : List ℕ) (k at : ℕ) (w labels live t r mates besides spare : List ℕ) : Type 0 where
+  pub within : k ≤ depth
+  pub place : at ≡ size n + k * (size (length needs + n) + size n)
+  pub lent : Lent n width depth needs adds dels adders foes labels live t r mates besides spare w
+  pub long : length w ≡ length w₀
+  pub going : (A : Actions) → Told A n needs adds adders foes → Deletes A dels → Tells A all labels₀ t₀
+      → Going A all (layerBy (domain A .props) (cell t₀)) depth w₀ k at w labels t
+
+-- the sizes of a layer of the vertices and of one of the propositions
+pub told-sizes : (A : Actions) (n : ℕ) (needs adds adders foes : List ℕ) → Told A n needs adds adders foes
+    → (size (domain A .vertices) ≡ size (length needs + n)) × (size (domain A .props) ≡ size n)
+unfolding domain
+told-sizes A n needs adds adders foes told = (ap₂ (λ (x y : ℕ). size (x + y)) (told .count) (told .props), ap size (told .props))
+
+pub stepping-none : (n width depth all at : ℕ) (needs adds dels adders foes labels t w live r mates besides spare : List ℕ)
+    → Lent n width depth needs adds dels adders foes labels live t r mates besides spare w → at ≡ size n
+    → Stepping n width depth all needs adds dels adders foes labels t w 0 at w labels live t r mates besides spare
+stepping-none n width depth all at needs adds dels adders foes labels t w live r mates besides spare lent q = record {
+  within = omega arith;
+  place = omega (arith, zero-mul (size (length needs + n) + size n));
+  lent = lent;
+  long = refl;
+  going = λ A told del is.
+      let e : size (domain A .props) ≡ at = told-sizes A n needs adds adders foes told .1 ∙ sym q in
+      subst (λ (x : ℕ). Going A all (layerBy (domain A .props) (cell t)) depth w 0 x w labels t) e
+      (going-none A all depth w labels t (omega (arith, lent .fits, q)) is);
+}
+
+module _ {n width depth all : ℕ} {needs adds dels adders foes labels₀ t₀ w₀ : List ℕ} {k at : ℕ} {w labels live t r mates besides spare : List ℕ}
+    (s : Stepping n width depth all needs adds dels adders foes labels₀ t₀ w₀ k at w labels live t r mates besides spare) (h : k < depth) where
+  -- the next step has room
+  pub room : at + (size (length needs + n) + size n) ≤ length w
+  room = omega (arith, s .place, s .lent .fits, suc-mul k (size (length needs + n) + size n), mul-le-mul-right (size (length needs + n) + size n) h)
+
+  pub ready : (act : ℕ) → act ≡ size (length needs + n)
+      → Ready n width act needs adds dels adders foes labels live t r mates besides spare (take (length w - at) (drop at w))
+  ready act e = record {
+    mating = s .lent .mating;
+    dels-long = s .lent .dels-long;
+    deletes = s .lent .deletes;
+    labels-long = s .lent .labels-long;
+    t-long = s .lent .t-long;
+    place = e;
+    room = omega (arith, room, tail-length at w (omega (arith, room)));
+  }
+
+  module _ (labels' live' t' r' mates' besides' spare' p : List ℕ) (still : Bool)
+      (did : (A : Actions) → Told A n needs adds adders foes → Deletes A dels → Tells A all labels t
+      → Stepped A all t labels' t' (take (length w - at) (drop at w)) p still) where
+    further : (A : Actions) → Told A n needs adds adders foes → at + (size (domain A .vertices) + size (domain A .props)) ≤ length w₀
+    further A told = let (a, b) = told-sizes A n needs adds adders foes told in omega (arith, room, s .long)
+
+    pub stepping-more : (far : ℕ) → far ≡ size (length needs + n) + size n → length p ≡ length (take (length w - at) (drop at w))
+        → length labels' ≡ length labels → length live' ≡ length live → length t' ≡ length t → length r' ≡ length r → length mates' ≡ length mates
+        → length besides' ≡ length besides → length spare' ≡ length spare
+        → Stepping n width depth all needs adds dels adders foes labels₀ t₀ w₀ (k + 1) (at + far) (putMid at (length w - at) w p) labels' live' t' r' mates' besides' spare'
+    stepping-more far ef lp ll lv lt lr lm lb ls =
+        let m = s .lent .mating in
+        let lw : length (putMid at (length w - at) w p) ≡ length w = same-len-mid at (length w - at) w p lp in
+        record {
+          within = omega arith;
+          place = omega (arith, s .place, ef, suc-mul k (size (length needs + n) + size n), ap (λ (x : ℕ). x * (size (length needs + n) + size n)) (add-one k));
+          lent = record {
+            mating = record {
+              wide = m .wide;
+              adds-long = m .adds-long;
+              adders-long = m .adders-long;
+              adders-inside = m .adders-inside;
+              foes-long = m .foes-long;
+              foes-inside = m .foes-inside;
+              live-long = lv ∙ m .live-long;
+              r-long = lr ∙ m .r-long;
+              mates-long = lm ∙ m .mates-long;
+              besides-long = lb ∙ m .besides-long;
+              spare-long = ls ∙ m .spare-long;
+            };
+            dels-long = s .lent .dels-long;
+            deletes = s .lent .deletes;
+            labels-long = ll ∙ s .lent .labels-long;
+            t-long = lt ∙ s .lent .t-long;
+            deep = s .lent .deep;
+            fits = omega (arith, s .lent .fits, lw);
+          };
+          long = lw ∙ s .long;
+          going = λ A told del is.
+              let (a, b) = told-sizes A n needs adds adders foes told in
+              let e : at + (size (domain A .vertices) + size (domain A .props)) ≡ at + far = omega (arith, ef) in
+              let g = s .going A told del is in
+              subst (λ (x : ℕ). Going A all (layerBy (domain A .props) (cell t₀)) depth w₀ (k + 1) x (putMid at (length w - at) w p) labels' t') e
+              (going-more g labels' t' p still h (further A told) (did A told del (g .tells)));
+        }
+
+    pub stepping-rest : still ≡ true → (A : Actions) → Told A n needs adds adders foes → Deletes A dels → Tells A all labels₀ t₀
+        → Ended (domain A) all (layerBy (domain A .props) (cell t₀)) depth w₀ (k + 1) (putMid at (length w - at) w p)
+    stepping-rest e A told del is =
+        let g = s .going A told del is in ended-rest g labels' t' p still h (further A told) (did A told del (g .tells)) e
+
+pub stepping-all : {n width depth all : ℕ} {needs adds dels adders foes labels₀ t₀ w₀ : List ℕ} {k at : ℕ} {w labels live t r mates besides spare : List ℕ}
+    → Stepping n width depth all needs adds dels adders foes labels₀ t₀ w₀ k at w labels live t r mates besides spare → depth ≤ k
+    → (A : Actions) → Told A n needs adds adders foes → Deletes A dels → Tells A all labels₀ t₀
+    → Ended (domain A) all (layerBy (domain A .props) (cell t₀)) depth w₀ depth w
+stepping-all s h A told del is = ended-all (s .going A told del is) h
+
+-- layer 0 of the start states whose labels these are
+pub props-are : (A : Actions) (n : ℕ) → A .props ≡ n → n ≡ domain A .props
+unfolding domain
+props-are A n e = sym e
+
+pub start-is : (A : Actions) (m n : ℕ) (start : ℕ → ℕ) (labels t : List ℕ) → A .props ≡ n → layerBy n (cell t) ≡ layerOf n (λ p. getD labels p 0) (λ p q. 0)
+    → ((p : ℕ) → p < n → getD labels p 0 ≡ startLabel m start p) → layerBy (domain A .props) (cell t) ≡ startLayer (domain A) m start
+unfolding domain startLayer
+start-is A m n start labels t e el is =
+    ap (λ (x : ℕ). layerBy x (cell t)) e ∙ el ∙ layer-eq n _ _ _ _ is (λ p q h k. refl) ∙ ap (λ (x : ℕ). layerOf x (startLabel m start) (λ p q. 0)) (sym e)

@@ -2,10 +2,7 @@
 pub mod Links
 pub mod Ladder
 pub mod Verdicts
-pub mod Reading
 pub mod Files
-pub mod LayerPuts
-pub mod LayerWords
 pub mod Builds
 pub mod Repeats
 pub mod Listings

@@ -4,6 +4,5 @@ pub mod Verdict
 pub mod Format
 pub mod File
 pub mod Checks
-pub mod Listed
-pub mod Rests
+pub mod Steps
 pub mod Build

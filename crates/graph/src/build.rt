@@ -3,65 +3,158 @@ use crate::checks::check_graph;
 use crate::file::FileAnswer;
 use crate::file::check_file;
 use crate::format::Counts;
-use crate::interference::interferer_sets;
 use crate::layout::word_count;
 use crate::limits::MAX_ACTIONS;
+use crate::read::read_actions;
 use crate::read::read_starts;
-use crate::read::read_vertices;
 use crate::refusal::Check;
 use crate::refusal::Refusal;
-use crate::start::start_step;
 use crate::steps::steps;
+use layers::interference::interferer_sets;
+use layers::start::start;
 use words::columns::columns;
-use words::sets::PROP_WIDTH;
+use words::parts::PART;
 use words::sets::STATE_WIDTH;
 use words::sets::States;
+use words::tables::ROW;
+use words::tables::TABLE;
 ghost use mathlib.Core.Path.{_≡_};
-ghost use Prim.Native.Nat.{_+_, _≤_};
+ghost use Prim.Native.Nat.{ℕ, _*_, _≤_, _<_};
 ghost use lib.ListN.{length, getD};
-ghost use Rattle.rules.specs.Domain.{shapeOf};
+ghost use Rattle.rules.specs.Word as W;
+ghost use Rattle.rules.specs.Lists.{listOver};
+ghost use Rattle.rules.specs.Domain.{Actions, domain};
 ghost use Rattle.rules.specs.Layer.{wordCount};
-ghost use Rattle.rules.specs.Shared.{graphWords};
+ghost use Rattle.rules.specs.Shared.{startLabel, graphWords};
 ghost use Rattle.words.specs.Memory.{putAt};
-ghost use Rattle.words.specs.Width.{stateWidth};
+ghost use Rattle.words.specs.Rows.{rowLength, InParts};
+ghost use Rattle.layers.specs.Step.{Told, Deletes};
 ghost use Rattle.graph.specs.Verdict.{laid, written};
 ghost use Rattle.graph.specs.Limits.{maxDepth};
-ghost use Rattle.graph.specs.Format.{shapeIn};
-ghost use Rattle.graph.specs.File.{Taken};
-ghost use Rattle.graph.specs.Listed.{listedDomain, VertexLists};
-ghost use Rattle.graph.specs.Build.{buildVerdict, buildTaken, buildRule, graphOf, Lent};
+ghost use Rattle.graph.specs.Format.{shapeIn, startOf};
+ghost use Rattle.graph.specs.File.{Ranged, Taken};
+ghost use Rattle.graph.specs.Steps.{Lent};
+ghost use Rattle.graph.specs.Build.{buildVerdict, buildTaken, buildRule, graphOf, Empty, Read, Rooms};
 
-// Room for the sets of all vertices, for those of all start states, and for the adders of all propositions.
-const VERTICES: usize = 64;
-
-const STATES: usize = 64;
-
-const PROPS: usize = 32;
+// Pairs for each action from which on rows are less work.
+const PAIRS: usize = 9;
 
 pub enum BuildAnswer {
     Built(usize),
     Refused(Refusal),
 }
 
-// All layers to the depth.
-fn layers(
+// The actions' sets, the adders of each proposition, and the actions that interfere with each.
+fn read_problem(
+    file: &[u8],
+    c: Counts,
+    needs: &mut [u32],
+    adds: &mut [u32],
+    dels: &mut [u32],
+    adders: &mut [u64],
+    foes: &mut [u64],
+)
+    requires { ⌜ Taken (now file) c × Empty c (now needs) (now adds) (now dels) (now adders) (now foes) ⌝ }
+    ensures { λ _. ⌜ Read (now (file .entry)) c (now (needs .exit)) (now (adds .exit)) (now (dels .exit)) (now (adders .exit)) (now (foes .exit)) ⌝ }
+{
+    read_actions(file, c, &mut *needs, &mut *adds, &mut *dels);
+    columns(&mut *adders, &adds[..]);
+    interferer_sets(&needs[..], &adds[..], &dels[..], &mut *foes);
+}
+
+// The labels of layer 0, at the front of a row of empty words.
+fn read_labels(file: &[u8], c: Counts, starts: &mut [u32], labels: &mut [u64])
+    requires { ⌜ Taken (now file) c × (length (now starts) ≡ c .states) × (now labels ≡ listOver rowLength (λ p. 0)) ⌝ }
+    ensures { λ _. ⌜ ((p : ℕ) → p < c .props → getD (now (labels .exit)) p 0 ≡ startLabel (c .states) (startOf (now (file .entry)) c) p) ⌝ }
+{
+    let n = c.props;
+    read_starts(file, c, &mut *starts);
+    columns(&mut labels[..n], &starts[..]);
+}
+
+// How many actions interfere, counted both ways.
+fn count_foes(foes: &[u64]) -> usize
+    requires { ⌜ length (now foes) ≤ rowLength ⌝ }
+    ensures { λ r. ⌜ r ≤ 64 * length (now (foes .entry)) ⌝ }
+{
+    let mut count = 0;
+    for i in 0..foes.len() {
+        count += u64::count_ones(foes[i]) as usize;
+    }
+    count
+}
+
+// Whether so many pairs of actions do not interfere that whole rows are less work than pair after pair: measured, nine for each action of a wide problem.
+fn many_pairs(foes: &[u64], width: usize) -> bool
+    requires { ⌜ (length (now foes) ≤ rowLength) × (width ≤ rowLength) ⌝ }
+{
+    let a = foes.len();
+    ROW * count_foes(foes) + PAIRS * width * a < ROW * a * a
+}
+
+// How many words of a table's rows are in use.
+fn width_for(c: Counts) -> usize
+    requires { ⌜ Ranged c ⌝ }
+    ensures { λ r. ⌜ InParts r × (c .props ≤ r) × (c .actions ≤ r) ⌝ }
+{
+    if PART < c.props {
+        return ROW;
+    }
+    if PART < c.actions {
+        return ROW;
+    }
+    PART
+}
+
+// All layers to the depth, from the labels of layer 0.
+fn layers_of(
     words: &mut [u64],
     n: usize,
     needs: &[u32],
+    adds: &[u32],
+    dels: &[u32],
     adders: &[u64],
-    interfering: &[u64],
-    starts: &[u32],
+    foes: &[u64],
+    all: u64,
+    width: usize,
     depth: usize,
+    labels: &mut [u64],
+    live: &mut [u64],
+    t: &mut [u64],
+    r: &mut [u64],
+    mates: &mut [u64],
+    besides: &mut [u64],
+    spare: &mut [u64],
 )
-    requires { ⌜ VertexLists n (now needs) (now adders) (now interfering) × (length (now starts) ≤ stateWidth) × (depth ≤ maxDepth) × (wordCount (shapeOf (listedDomain n (now needs) (now adders) (now interfering))) depth ≤ length (now words)) ⌝ }
-    ensures { λ r. ⌜ now (words .exit) ≡ putAt 0 (graphWords (listedDomain n (now (needs .entry)) (now (adders .entry)) (now (interfering .entry))) (length (now (starts .entry))) (λ s. getD (now (starts .entry)) s 0) depth) (now (words .entry)) ⌝ }
+    requires { ⌜ Lent n width depth (now needs) (now adds) (now dels) (now adders) (now foes) (now labels) (now live) (now t) (now r) (now mates) (now besides) (now spare) (now words) ⌝ }
+    ensures { λ _. ⌜ ((A : Actions) (m : ℕ) (start : ℕ → ℕ) → Told A n (now (needs .entry)) (now (adds .entry)) (now (adders .entry)) (now (foes .entry)) → Deletes A (now (dels .entry))
+        → all ≡ W.first m → ((p : ℕ) → p < n → getD (now (labels .entry)) p 0 ≡ startLabel m start p)
+        → now (words .exit) ≡ putAt 0 (graphWords (domain A) m start depth) (now (words .entry))) ⌝ }
 {
-    start_step(&mut *words, n, starts);
-    let all = States::first(starts.len()).0;
-    steps(words, n, needs, adders, interfering, all, depth);
+    start(&mut *words, &mut *t, &*labels, &*spare, n, width);
+    steps(
+        words,
+        n,
+        needs,
+        adds,
+        dels,
+        adders,
+        foes,
+        all,
+        many_pairs(foes, width),
+        width,
+        depth,
+        labels,
+        live,
+        t,
+        r,
+        mates,
+        besides,
+        spare,
+    );
 }
 
-// Writes the words, with room for the vertices' sets and the start states lent.
+// Writes the words, with room lent for the lists and tables.
 fn build_in(
     file: &[u8],
     c: Counts,
@@ -72,52 +165,89 @@ fn build_in(
     dels: &mut [u32],
     starts: &mut [u32],
     adders: &mut [u64],
-    interfering: &mut [u64],
+    foes: &mut [u64],
+    labels: &mut [u64],
+    live: &mut [u64],
+    t: &mut [u64],
+    r: &mut [u64],
+    mates: &mut [u64],
+    besides: &mut [u64],
+    spare: &mut [u64],
 )
     requires { ⌜ Taken (now file) c × (depth ≤ maxDepth) × (wordCount (shapeIn c) depth ≤ length (now words)) ⌝ }
-    requires { ⌜ Lent c (now needs) (now adds) (now dels) (now starts) (now adders) (now interfering) ⌝ }
-    ensures { λ r. ⌜ now (words .exit) ≡ putAt 0 (graphOf (now (file .entry)) c depth) (now (words .entry)) ⌝ }
+    requires { ⌜ Rooms c (now needs) (now adds) (now dels) (now starts) (now adders) (now foes) (now labels) (now live) (now t) (now r) (now mates) (now besides) (now spare) ⌝ }
+    ensures { λ _. ⌜ now (words .exit) ≡ putAt 0 (graphOf (now (file .entry)) c depth) (now (words .entry)) ⌝ }
 {
-    read_vertices(file, c, &mut *needs, &mut *adds, &mut *dels);
-    read_starts(file, c, &mut *starts);
-    columns(&mut *adders, &adds[..]);
-    interferer_sets(&needs[..], &adds[..], &dels[..], &mut *interfering);
-    layers(
+    read_problem(
+        file,
+        c,
+        &mut *needs,
+        &mut *adds,
+        &mut *dels,
+        &mut *adders,
+        &mut *foes,
+    );
+    read_labels(file, c, starts, &mut *labels);
+    layers_of(
         words,
         c.props,
         &needs[..],
+        &adds[..],
+        &dels[..],
         &adders[..],
-        &interfering[..],
-        &starts[..],
+        &foes[..],
+        States::first(c.states).0,
+        width_for(c),
         depth,
+        labels,
+        live,
+        t,
+        r,
+        mates,
+        besides,
+        spare,
     );
 }
 
-// Writes the words; the vertices' sets and the start states are read once, into arrays.
+// Writes the words; lists and tables are arrays of this call.
 fn build_words(file: &[u8], c: Counts, depth: usize, words: &mut [u64])
     requires { ⌜ Taken (now file) c × (depth ≤ maxDepth) × (wordCount (shapeIn c) depth ≤ length (now words)) ⌝ }
-    ensures { λ r. ⌜ now (words .exit) ≡ putAt 0 (graphOf (now (file .entry)) c depth) (now (words .entry)) ⌝ }
+    ensures { λ _. ⌜ now (words .exit) ≡ putAt 0 (graphOf (now (file .entry)) c depth) (now (words .entry)) ⌝ }
 {
     let p = c.props;
-    let v = c.actions + c.props;
+    let a = c.actions;
     let n = c.states;
-    let mut needs = [0u32; VERTICES];
-    let mut adds = [0u32; VERTICES];
-    let mut dels = [0u32; VERTICES];
-    let mut starts = [0u32; STATES];
-    let mut adders = [0u64; PROPS];
-    let mut interfering = [0u64; VERTICES];
+    let mut needs = [0u32; MAX_ACTIONS];
+    let mut adds = [0u32; MAX_ACTIONS];
+    let mut dels = [0u32; MAX_ACTIONS];
+    let mut starts = [0u32; STATE_WIDTH];
+    let mut adders = [0u64; ROW];
+    let mut foes = [0u64; ROW];
+    let mut labels = [0u64; ROW];
+    let mut live = [0u64; ROW];
+    let mut t = [0u64; TABLE];
+    let mut r = [0u64; TABLE];
+    let mut mates = [0u64; TABLE];
+    let mut besides = [0u64; TABLE];
+    let mut spare = [0u64; TABLE];
     build_in(
         file,
         c,
         depth,
         words,
-        &mut needs[..v],
-        &mut adds[..v],
-        &mut dels[..v],
+        &mut needs[..a],
+        &mut adds[..a],
+        &mut dels[..a],
         &mut starts[..n],
         &mut adders[..p],
-        &mut interfering[..v],
+        &mut foes[..a],
+        &mut labels[..],
+        &mut live[..],
+        &mut t[..],
+        &mut r[..],
+        &mut mates[..],
+        &mut besides[..],
+        &mut spare[..],
     );
 }
 

@@ -33,7 +33,7 @@ pub fn byte(file: &[u8], at: usize) -> usize
 }
 
 // The set of propositions at an offset.
-pub fn set_at(file: &[u8], at: usize) -> u32
+pub(crate) fn set_at(file: &[u8], at: usize) -> u32
     requires { ⌜ at + F.setBytes ≤ length (now file) ⌝ }
     ensures { λ r. ⌜ r ≡ F.setAt (now (file .entry)) at ⌝ }
 {
@@ -158,11 +158,14 @@ fn find_set(file: &[u8], c: Counts) -> Check
     Check::Passed
 }
 
-// Cause 5: where no proposition of P or above is in all sets together, none has one.
+// Cause 5: with the most propositions no set has room for another; else, where no proposition of P or above is in all sets together, none has one.
 fn check_sets(file: &[u8], c: Counts) -> Check
     requires { ⌜ Ranged c × (length (now file) ≡ F.rightLength c) ⌝ }
     ensures { λ r. ⌜ checkVerdict r ≡ R.setsRule (now (file .entry)) c ⌝ }
 {
+    if PROP_WIDTH <= c.props {
+        return Check::Passed;
+    }
     if joined_sets(file, c.set_count()) <= Props::first(c.props).0 {
         return Check::Passed;
     }

@@ -27,7 +27,7 @@ pub struct Counts {
 }
 
 // Where the precondition of action a lies.
-pub fn pre_at(a: usize) -> usize
+pub(crate) fn pre_at(a: usize) -> usize
     requires { ⌜ a ≤ maxActions ⌝ }
     ensures { λ r. ⌜ r ≡ F.preAt a ⌝ }
 {
@@ -35,7 +35,7 @@ pub fn pre_at(a: usize) -> usize
 }
 
 // Where what it adds lies.
-pub fn add_at(a: usize) -> usize
+pub(crate) fn add_at(a: usize) -> usize
     requires { ⌜ a ≤ maxActions ⌝ }
     ensures { λ r. ⌜ r ≡ F.addAt a ⌝ }
 {
@@ -43,7 +43,7 @@ pub fn add_at(a: usize) -> usize
 }
 
 // Where what it deletes lies.
-pub fn del_at(a: usize) -> usize
+pub(crate) fn del_at(a: usize) -> usize
     requires { ⌜ a ≤ maxActions ⌝ }
     ensures { λ r. ⌜ r ≡ F.delAt a ⌝ }
 {
@@ -52,7 +52,7 @@ pub fn del_at(a: usize) -> usize
 
 impl Counts {
     // Where start state s lies: the states begin where the actions end.
-    pub fn state_at(self, s: usize) -> usize
+    pub(crate) fn state_at(self, s: usize) -> usize
         requires { ⌜ Ranged self × (s ≤ stateWidth) ⌝ }
         ensures { λ r. ⌜ r ≡ F.stateAt self s ⌝ }
     {
@@ -60,7 +60,7 @@ impl Counts {
     }
 
     // How long the file is.
-    pub fn right_length(self) -> usize
+    pub(crate) fn right_length(self) -> usize
         requires { ⌜ Ranged self ⌝ }
         ensures { λ r. ⌜ r ≡ F.rightLength self ⌝ }
     {
@@ -68,7 +68,7 @@ impl Counts {
     }
 
     // How many sets lie behind the head.
-    pub fn set_count(self) -> usize
+    pub(crate) fn set_count(self) -> usize
         requires { ⌜ Ranged self ⌝ }
         ensures { λ r. ⌜ r ≡ F.setCount self ⌝ }
     {

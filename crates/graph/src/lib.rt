@@ -5,16 +5,12 @@ pub mod build;
 pub mod refusal;
 
 // For the other crates of this repository, which meet what each function asks.
-mod actions;
 pub mod checks;
 mod copies;
 pub mod file;
 pub mod format;
-mod interference;
 pub mod layout;
 pub mod limits;
-mod props;
 pub mod read;
-mod start;
 mod steps;
 mod view;

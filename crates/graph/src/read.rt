@@ -1,15 +1,13 @@
-// The vertices' sets and the start states, read from the file once, through the view.
+// The actions' sets and the start states, read from the file once, through the view.
 use crate::format::Counts;
 use crate::format::add_at;
 use crate::format::del_at;
 use crate::format::pre_at;
 use crate::view::set_of;
-use words::sets::Props;
 ghost use mathlib.Core.Path.{_≡_};
-ghost use Prim.Native.Nat.{_+_, _<_};
+ghost use Prim.Native.Nat.{_<_};
 ghost use lib.ListN.{length};
 ghost use Rattle.rules.specs.Lists.{listOver};
-ghost use Rattle.rules.specs.Domain.{needsOf, addsOf, deletesOf};
 ghost use Rattle.graph.specs.File.{Taken};
 ghost use Rattle.graph.specs.Format.{actionsOf, startOf};
 
@@ -42,53 +40,27 @@ pub fn start(file: &[u8], c: Counts, s: usize) -> u32
     set_of(file, c.props, c.actions, c.states, c.state_at(s))
 }
 
-// What vertex v needs: of an action what the file says, of a persistence its proposition.
-fn needed_by(file: &[u8], c: Counts, v: usize) -> u32
-    requires { ⌜ Taken (now file) c × (v < c .actions + c .props) ⌝ }
-    ensures { λ r. ⌜ r ≡ needsOf (actionsOf (now (file .entry)) c) v ⌝ }
+// The sets of all actions, into three lists.
+pub(crate) fn read_actions(
+    file: &[u8],
+    c: Counts,
+    needs: &mut [u32],
+    adds: &mut [u32],
+    dels: &mut [u32],
+)
+    requires { ⌜ Taken (now file) c × (length (now needs) ≡ c .actions) × (length (now adds) ≡ c .actions) × (length (now dels) ≡ c .actions) ⌝ }
+    ensures { λ _. ⌜ (now (needs .exit) ≡ listOver (c .actions) (actionsOf (now (file .entry)) c .pre))
+        × (now (adds .exit) ≡ listOver (c .actions) (actionsOf (now (file .entry)) c .add))
+        × (now (dels .exit) ≡ listOver (c .actions) (actionsOf (now (file .entry)) c .del)) ⌝ }
 {
-    if v < c.actions {
-        return precondition(file, c, v);
-    }
-    Props::single(v - c.actions).0
-}
-
-// What vertex v adds: a persistence its proposition.
-fn added_by(file: &[u8], c: Counts, v: usize) -> u32
-    requires { ⌜ Taken (now file) c × (v < c .actions + c .props) ⌝ }
-    ensures { λ r. ⌜ r ≡ addsOf (actionsOf (now (file .entry)) c) v ⌝ }
-{
-    if v < c.actions {
-        return added(file, c, v);
-    }
-    Props::single(v - c.actions).0
-}
-
-// What vertex v deletes: a persistence nothing.
-fn deleted_by(file: &[u8], c: Counts, v: usize) -> u32
-    requires { ⌜ Taken (now file) c × (v < c .actions + c .props) ⌝ }
-    ensures { λ r. ⌜ r ≡ deletesOf (actionsOf (now (file .entry)) c) v ⌝ }
-{
-    if v < c.actions {
-        return deleted(file, c, v);
-    }
-    Props::EMPTY.0
-}
-
-pub fn read_vertices(file: &[u8], c: Counts, needs: &mut [u32], adds: &mut [u32], dels: &mut [u32])
-    requires { ⌜ Taken (now file) c × (length (now needs) ≡ c .actions + c .props) × (length (now adds) ≡ c .actions + c .props) × (length (now dels) ≡ c .actions + c .props) ⌝ }
-    ensures { λ r. ⌜ (now (needs .exit) ≡ listOver (c .actions + c .props) (needsOf (actionsOf (now (file .entry)) c)))
-        × (now (adds .exit) ≡ listOver (c .actions + c .props) (addsOf (actionsOf (now (file .entry)) c)))
-        × (now (dels .exit) ≡ listOver (c .actions + c .props) (deletesOf (actionsOf (now (file .entry)) c))) ⌝ }
-{
-    for v in 0..needs.len() {
-        needs[v] = needed_by(file, c, v);
-        adds[v] = added_by(file, c, v);
-        dels[v] = deleted_by(file, c, v);
+    for i in 0..needs.len() {
+        needs[i] = precondition(file, c, i);
+        adds[i] = added(file, c, i);
+        dels[i] = deleted(file, c, i);
     }
 }
 
-pub fn read_starts(file: &[u8], c: Counts, out: &mut [u32])
+pub(crate) fn read_starts(file: &[u8], c: Counts, out: &mut [u32])
     requires { ⌜ Taken (now file) c × (length (now out) ≡ c .states) ⌝ }
     ensures { λ r. ⌜ now (out .exit) ≡ listOver (c .states) (startOf (now (file .entry)) c) ⌝ }
 {

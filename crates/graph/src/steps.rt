@@ -1,94 +1,120 @@
 // Layer behind layer, each written into the part of the memory that begins where the one before it ended.
-use crate::actions::action_step;
 use crate::copies::repeat;
 use crate::layout::layer_size;
-use crate::layout::stride;
-use crate::props::prop_step;
-use rules::Shape;
+use layers::step::step;
 ghost use mathlib.Core.Path.{_≡_};
-ghost use Prim.Native.Nat.{_+_, _*_, _≤_};
-ghost use lib.ListN.{length, getD, take};
-ghost use Rattle.rules.specs.Test.{same};
-ghost use Rattle.rules.specs.Over.{allBelow};
+ghost use Prim.Native.Nat.{_≤_, _<_};
 ghost use Rattle.rules.specs.Lists.{runOver};
-ghost use Rattle.rules.specs.Domain.{shapeOf};
-ghost use Rattle.rules.specs.Layer as L;
+ghost use Rattle.rules.specs.Domain.{Actions, domain};
+ghost use Rattle.rules.specs.Layer.{size};
+ghost use Rattle.rules.specs.Together.{layerBy};
 ghost use Rattle.words.specs.Memory.{putAt};
-ghost use Rattle.graph.specs.Limits.{maxDepth};
-ghost use Rattle.graph.specs.Listed.{listedDomain, stepWords, propFrom, VertexLists};
-ghost use Rattle.graph.specs.Rests.{Stepped};
+ghost use Rattle.words.specs.Rows.{cell};
+ghost use Rattle.layers.specs.Step.{Told, Deletes, Tells, stepWords};
+ghost use Rattle.graph.specs.Steps.{Lent, Ended, propFrom};
 
-// Writes the action layer behind the proposition layer at the front, and the next proposition layer behind that.
-fn step(words: &mut [u64], n: usize, needs: &[u32], adders: &[u64], interfering: &[u64], all: u64)
-    requires { ⌜ VertexLists n (now needs) (now adders) (now interfering) × (L.size n + L.size (length (now needs)) + L.size n ≤ length (now words)) ⌝ }
-    ensures { λ r. ⌜ now (words .exit) ≡ putAt (L.size n) (stepWords (listedDomain n (now (needs .entry)) (now (adders .entry)) (now (interfering .entry))) all (take (L.size n) (now (words .entry)))) (now (words .entry)) ⌝ }
-{
-    action_step(&mut *words, n, needs, interfering, all);
-    let at = layer_size(n);
-    prop_step(&mut words[at..], needs.len(), adders);
-}
-
-// Whether the layer of `count` words at the front equals the one that lies so many words on.
-fn rested(words: &[u64], count: usize, apart: usize) -> bool
-    requires { ⌜ apart + count ≤ length (now words) ⌝ }
-    ensures { λ r. ⌜ r ≡ allBelow count (λ i. same (getD (now (words .entry)) i 0) (getD (now (words .entry)) (apart + i) 0)) ⌝ }
-{
-    for i in 0..count {
-        if words[i] != words[apart + i] {
-            return false;
-        }
-    }
-    true
-}
-
-// Writes steps until the graph rests or the depth is reached; how many.
+// Writes steps behind layer 0 until the graph rests or the depth is reached; how many.
 fn steps_until(
     words: &mut [u64],
     n: usize,
     needs: &[u32],
+    adds: &[u32],
+    dels: &[u32],
     adders: &[u64],
-    interfering: &[u64],
+    foes: &[u64],
     all: u64,
+    many: bool,
+    width: usize,
     depth: usize,
+    labels: &mut [u64],
+    live: &mut [u64],
+    t: &mut [u64],
+    r: &mut [u64],
+    mates: &mut [u64],
+    besides: &mut [u64],
+    spare: &mut [u64],
 ) -> usize
-    requires { ⌜ VertexLists n (now needs) (now adders) (now interfering) × (depth ≤ maxDepth) × (depth * L.stride (shapeOf (listedDomain n (now needs) (now adders) (now interfering))) + L.size n ≤ length (now words)) ⌝ }
-    ensures { λ r. ⌜ Stepped (listedDomain n (now (needs .entry)) (now (adders .entry)) (now (interfering .entry))) all (take (L.size n) (now (words .entry))) depth (now (words .entry)) r (now (words .exit)) ⌝ }
+    requires { ⌜ Lent n width depth (now needs) (now adds) (now dels) (now adders) (now foes) (now labels) (now live) (now t) (now r) (now mates) (now besides) (now spare) (now words) ⌝ }
+    ensures { λ done. ⌜ (done ≤ depth) × (done < depth → 0 < done) × ((A : Actions) → Told A n (now (needs .entry)) (now (adds .entry)) (now (adders .entry)) (now (foes .entry)) → Deletes A (now (dels .entry)) → Tells A all (now (labels .entry)) (now (t .entry)) → Ended (domain A) all (layerBy (domain A .props) (cell (now (t .entry)))) depth (now (words .entry)) done (now (words .exit))) ⌝ }
 {
-    let count = layer_size(n);
-    let apart = stride(Shape {
-        props: n,
-        vertices: needs.len(),
-    });
-    let mut at = 0;
-    for t in 0..depth {
-        step(&mut words[at..], n, needs, adders, interfering, all);
-        if rested(&words[at..], count, apart) {
-            return t + 1;
+    let act = layer_size(needs.len() + n);
+    let apart = act + layer_size(n);
+    let mut at = layer_size(n);
+    for k in 0..depth {
+        let still = step(
+            &mut words[at..],
+            act,
+            n,
+            needs,
+            adds,
+            dels,
+            adders,
+            foes,
+            all,
+            many,
+            width,
+            &mut *labels,
+            &mut *live,
+            &mut *t,
+            &mut *r,
+            &mut *mates,
+            &mut *besides,
+            &mut *spare,
+        );
+        if still {
+            return k + 1;
         }
         at += apart;
     }
     depth
 }
 
-// Writes so many action and proposition layers behind the proposition layer at the front. Where the graph rests, those that are left are copies.
+// Writes so many action and proposition layers behind layer 0. Where the graph rests, those that are left are copies.
 pub fn steps(
     words: &mut [u64],
     n: usize,
     needs: &[u32],
+    adds: &[u32],
+    dels: &[u32],
     adders: &[u64],
-    interfering: &[u64],
+    foes: &[u64],
     all: u64,
+    many: bool,
+    width: usize,
     depth: usize,
+    labels: &mut [u64],
+    live: &mut [u64],
+    t: &mut [u64],
+    r: &mut [u64],
+    mates: &mut [u64],
+    besides: &mut [u64],
+    spare: &mut [u64],
 )
-    requires { ⌜ VertexLists n (now needs) (now adders) (now interfering) × (depth ≤ maxDepth) × (depth * L.stride (shapeOf (listedDomain n (now needs) (now adders) (now interfering))) + L.size n ≤ length (now words)) ⌝ }
-    ensures { λ r. ⌜ now (words .exit) ≡ putAt (L.size n) (runOver depth (λ t. stepWords (listedDomain n (now (needs .entry)) (now (adders .entry)) (now (interfering .entry))) all (propFrom (listedDomain n (now (needs .entry)) (now (adders .entry)) (now (interfering .entry))) all (take (L.size n) (now (words .entry))) t))) (now (words .entry)) ⌝ }
+    requires { ⌜ Lent n width depth (now needs) (now adds) (now dels) (now adders) (now foes) (now labels) (now live) (now t) (now r) (now mates) (now besides) (now spare) (now words) ⌝ }
+    ensures { λ _. ⌜ ((A : Actions) → Told A n (now (needs .entry)) (now (adds .entry)) (now (adders .entry)) (now (foes .entry)) → Deletes A (now (dels .entry)) → Tells A all (now (labels .entry)) (now (t .entry)) → now (words .exit) ≡ putAt (size n) (runOver depth (λ k. stepWords (domain A) all (propFrom (domain A) all (layerBy (domain A .props) (cell (now (t .entry)))) k))) (now (words .entry))) ⌝ }
 {
-    let done = steps_until(&mut *words, n, needs, adders, interfering, all, depth);
+    let done = steps_until(
+        &mut *words,
+        n,
+        needs,
+        adds,
+        dels,
+        adders,
+        foes,
+        all,
+        many,
+        width,
+        depth,
+        labels,
+        live,
+        t,
+        r,
+        mates,
+        besides,
+        spare,
+    );
     let count = layer_size(n);
-    let apart = stride(Shape {
-        props: n,
-        vertices: needs.len(),
-    });
+    let apart = layer_size(needs.len() + n) + count;
     let to = count + done * apart;
     let left = (depth - done) * apart;
     repeat(words, to, apart, left);

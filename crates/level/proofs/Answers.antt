@@ -1,36 +1,35 @@
 -- What the two searches answer, and what is known once causes 6 to 9 are passed.
 -- Assumes nothing.
 use mathlib.Core.Path.{_≡_, sym, ap, subst, _∙_}
+use mathlib.Core.Bool.{true, false}
 use mathlib.Core.List.{List}
 use Prim.Native.Nat.{ℕ, suc, _≤_, _<_}
 use native.Mathlib.Omega.{arith}
 use lib.ListN.{length}
-use Rattle.rules.specs.Test.{choose}
+use Rattle.rules.specs.Test.{below, choose}
 use Rattle.rules.specs.Level.{firstMet, firstRest, level, never, notByDepth, levelOf, restsAt, none, restOf}
 use Rattle.rules.specs.declared.Shape.{Shape}
 use Rattle.rules.proofs.Tests.{below-of, below-not}
 use Rattle.graph.specs.Verdict.{Verdict, accepted}
 use Rattle.graph.specs.Format.{shapeIn}
 use Rattle.graph.specs.File.{Ranged}
-use Rattle.graph.specs.Checks.{Passed, Room, askedRule, graphRule}
+use Rattle.graph.specs.Checks.{Room, graphRule}
 use Rattle.graph.specs.declared.format.Counts.{Counts}
-use Rattle.graph.proofs.Ladder.{graph-means, graph-of, small-of}
-use Rattle.graph.proofs.Verdicts.{then-accepted}
-use Rattle.level.specs.Rule.{levelTaken}
+use Rattle.graph.proofs.Ladder.{graph-means, small-of}
 
 module _ (S : Shape) (k set goal : ℕ) (words : List ℕ) (t : ℕ) (met : t ≡ firstMet S k set goal words) where
   pub level-at : t ≤ k → accepted (level t) ≡ accepted (levelOf S k set goal words)
   unfolding levelOf choose
   level-at h = simp (sym met, below-of t (suc k) (omega arith))
 
-  module _ (u : ℕ) (rest : u ≡ firstRest S k words) (above : k < t) where
-    pub level-never : u < k → accepted never ≡ accepted (levelOf S k set goal words)
+  module _ (above : k < t) where
+    pub level-never : below (firstRest S k words) k ≡ true → accepted never ≡ accepted (levelOf S k set goal words)
     unfolding levelOf choose
-    level-never h = simp (sym met, below-not t (suc k) (omega arith), sym rest, below-of u k h)
+    level-never h = simp (sym met, below-not t (suc k) (omega arith), h)
 
-    pub level-not-by-depth : k ≤ u → accepted notByDepth ≡ accepted (levelOf S k set goal words)
+    pub level-not-by-depth : below (firstRest S k words) k ≡ false → accepted notByDepth ≡ accepted (levelOf S k set goal words)
     unfolding levelOf choose
-    level-not-by-depth h = simp (sym met, below-not t (suc k) (omega arith), sym rest, below-not u k h)
+    level-not-by-depth h = simp (sym met, below-not t (suc k) (omega arith), h)
 
 module _ (S : Shape) (k : ℕ) (words : List ℕ) (t : ℕ) (rest : t ≡ firstRest S k words) where
   pub rest-at : t < k → accepted (restsAt t) ≡ accepted (restOf S k words)
@@ -54,9 +53,3 @@ room-of c depth asked words S r e g =
 pub graph-asked : (c : Counts) (depth have : ℕ) {found asked r : Verdict (Unit {0})} → found ≡ asked → graphRule c depth found have ≡ r
     → graphRule c depth asked have ≡ r
 graph-asked c depth have e q = ap (λ (v : Verdict (Unit {0})). graphRule c depth v have) (sym e) ∙ q
-
--- and the level is read
-pub level-passed : (c : Counts) (depth set goal : ℕ) (words : List ℕ) → Passed c depth (askedRule c set goal) (length words)
-    → accepted (levelOf (shapeIn c) depth set goal words) ≡ levelTaken c depth set goal words
-unfolding levelTaken
-level-passed c depth set goal words p = sym (then-accepted _ _ tt (graph-of c depth _ (length words) p))

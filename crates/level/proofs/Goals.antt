@@ -8,25 +8,27 @@ use Prim.Native.Nat.{ℕ, suc, _^_, _≤_, _<_}
 use native.Mathlib.Decide.{decLe}
 use native.Mathlib.Nat.{lt-of-lt-of-le}
 use native.Mathlib.Omega.{arith}
-use lib.Bits.{and-zero-r}
+use lib.Bits.{and-zero-r, and-comm}
 use lib.Count.{trailingZeros}
 use lib.Pow.{pow-mono}
-use Rattle.rules.specs.Test.{_and_, _implies_, fails, same}
+use Rattle.rules.specs.Test.{_and_, _implies_, fails, same, choose}
 use Rattle.rules.specs.Word.{bit, common, without, single, first, within, meets}
 use Rattle.rules.specs.Over.{allBelow}
-use Rattle.rules.specs.Layer.{labelIn, mutexIn, propsIn}
+use Rattle.rules.specs.Layer.{size, pairAt, labelIn, mutexIn, propsIn}
 use Rattle.rules.specs.Level.{goalMet, firstMet}
 use Rattle.rules.specs.declared.Shape.{Shape}
-use Rattle.rules.proofs.Tests.{and-of, and-left, and-right, implies-of, implies-at, fails-of, fails-at, holds-or, test-eq, same-of, same-at, below-of, and-true}
+use Rattle.rules.proofs.Tests.{and-of, and-left, and-right, implies-of, implies-at, fails-of, fails-at, holds-or, test-eq, same-of, same-at, below-of, below-not, and-true}
 use Rattle.rules.proofs.Words.{bit-common, bit-without, bit-single, bit-first, no-bit-zero, without-lt}
 use Rattle.rules.proofs.Overs.{all-of, all-at, all-eq}
 use Rattle.rules.proofs.Firsts.{first-eq}
+use Rattle.rules.proofs.Layers.{labels-in, size-pairs, pairs-sub}
 use Rattle.rules.proofs.Members.{mutex-turn}
 use Rattle.words.specs.Width.{wordWidth}
 use Rattle.words.proofs.MemberLoops.{lowest-in, lowest-lt}
 use Rattle.words.proofs.Lowest.{others-above}
-use Rattle.words.proofs.Places.{mutex-own}
-use Rattle.level.specs.Meets.{allOf, labelMeets, pairMeets, Above}
+use Rattle.words.proofs.Places.{pair-in, mutex-up, mutex-own}
+use Rattle.level.specs.Meets.{allOf, labelMeets, pairMeets, Above, Found, shownAt, Judged}
+use Rattle.level.proofs.Searches.{not-so, xor-same}
 
 -- ---- what the test of all members says, both ways
 
@@ -76,21 +78,30 @@ module _ {f : ℕ → Bool} {n set₀ left : ℕ} (m : Left f n set₀ left) (fe
   pub left-above : (p : ℕ) → Above p set₀ → p < trailingZeros wordWidth left
   left-above p above = above _ (m .part _ (lowest-in n left few (m .inside) some))
 
-  pub left-less : {left' : ℕ} → left' ≡ without left (single (trailingZeros wordWidth left)) → f (trailingZeros wordWidth left) ≡ true → Left f n set₀ left'
+  pub left-less : {left' i : ℕ} → left' ≡ without left (single (trailingZeros wordWidth left)) → i ≡ trailingZeros wordWidth left → f i ≡ true
+      → Left f n set₀ left'
   unfolding _and_
-  left-less {left'} l t = record {
+  left-less {left'} l e t = record {
     inside = subst (λ (x : ℕ). x < 2 ^ n) (sym l) (without-lt n left _ (m .inside));
     part = λ i u. m .part i (part-in left (trailingZeros wordWidth left) i (sym (ap (bit i) l) ∙ u));
-    is = ap (λ (x : ℕ). allOf n x f) l ∙ sym (next ∙ ap (λ (b : Bool). b and allOf n (without left (single (trailingZeros wordWidth left))) f) t);
+    is = ap (λ (x : ℕ). allOf n x f) l
+        ∙ sym (next ∙ ap (λ (b : Bool). b and allOf n (without left (single (trailingZeros wordWidth left))) f) (ap f (sym e) ∙ t));
   }
 
-  pub left-not : f (trailingZeros wordWidth left) ≡ false → false ≡ allOf n set₀ f
-  unfolding _and_
-  left-not t = sym (next ∙ ap (λ (b : Bool). b and allOf n (without left (single (trailingZeros wordWidth left))) f) t)
+  -- it is found where the test does not hold at it
+  pub left-found : {i : ℕ} → i ≡ trailingZeros wordWidth left → f i ≡ false → Found f n set₀ i
+  left-found {i} e t = record {
+    all = λ h. absurd (omega (arith, lowest-lt n left few (m .inside) some));
+    one = λ h. subst (λ (x : ℕ). So (bit x set₀)) (sym e) (m .part _ (lowest-in n left few (m .inside) some));
+    not = λ h. t;
+  }
 
-pub left-none : {f : ℕ → Bool} {n set₀ left : ℕ} → Left f n set₀ left → left ≤ 0 → true ≡ allOf n set₀ f
-left-none {f} {n} {set₀} {left} m h =
-    let e : left ≡ 0 = omega arith in sym (none-left n f) ∙ ap (λ (x : ℕ). allOf n x f) (sym e) ∙ m .is
+pub left-none : {f : ℕ → Bool} {n set₀ left : ℕ} → Left f n set₀ left → left ≤ 0 → Found f n set₀ n
+left-none {f} {n} {set₀} {left} m h = record {
+  all = λ g. let e : left ≡ 0 = omega arith in sym (m .is) ∙ ap (λ (x : ℕ). allOf n x f) e ∙ none-left n f;
+  one = λ g. absurd (omega arith);
+  not = λ g. absurd (omega arith);
+}
 
 -- ---- every two members
 
@@ -140,15 +151,19 @@ pick-two n set q f both l t = test-eq _ _ to from
 
 pub record LeftTwo (f : ℕ → ℕ → Bool) (n set₀ left : ℕ) : Type 0 where
   pub inside : left < 2 ^ n
+  pub part : (i : ℕ) → So (bit i left) → So (bit i set₀)
   pub is : pairsOf n left f ≡ pairsOf n set₀ f
 
 pub two-all : {f : ℕ → ℕ → Bool} {n set : ℕ} → set < 2 ^ n → LeftTwo f n set set
-two-all h = record { inside = h; is = refl }
+two-all h = record { inside = h; part = λ i t. t; is = refl }
 
 module _ {f : ℕ → ℕ → Bool} {n set₀ left left' : ℕ} (both : Mutual f) (m : LeftTwo f n set₀ left) (few : n ≤ wordWidth) (some : 0 < left)
     (l : left' ≡ without left (single (trailingZeros wordWidth left))) where
   pub two-inside : left' < 2 ^ n
   two-inside = subst (λ (x : ℕ). x < 2 ^ n) (sym l) (without-lt n left _ (m .inside))
+
+  pub two-part : (i : ℕ) → So (bit i left') → So (bit i set₀)
+  two-part i t = m .part i (part-in left (trailingZeros wordWidth left) i (sym (ap (bit i) l) ∙ t))
 
   next-two : pairsOf n set₀ f ≡ (allOf n left' (f (trailingZeros wordWidth left)) and pairsOf n left' f)
   next-two =
@@ -156,13 +171,13 @@ module _ {f : ℕ → ℕ → Bool} {n set₀ left left' : ℕ} (both : Mutual f
       ∙ pick-two n left (trailingZeros wordWidth left) f both (lowest-lt n left few (m .inside) some) (lowest-in n left few (m .inside) some)
       ∙ ap (λ (x : ℕ). allOf n x (f (trailingZeros wordWidth left)) and pairsOf n x f) (sym l)
 
-  pub two-less : allOf n left' (f (trailingZeros wordWidth left)) ≡ true → LeftTwo f n set₀ left'
+  pub two-less : (p : ℕ) → p ≡ trailingZeros wordWidth left → allOf n left' (f p) ≡ true → LeftTwo f n set₀ left'
   unfolding _and_
-  two-less t = record { inside = two-inside; is = sym (next-two ∙ ap (λ (b : Bool). b and pairsOf n left' f) t) }
+  two-less p e t = record { inside = two-inside; part = two-part; is = sym (next-two ∙ ap (λ (b : Bool). b and pairsOf n left' f) (ap (λ (x : ℕ). allOf n left' (f x)) (sym e) ∙ t)) }
 
-  pub two-not : allOf n left' (f (trailingZeros wordWidth left)) ≡ false → false ≡ pairsOf n set₀ f
-  unfolding _and_
-  two-not t = sym (next-two ∙ ap (λ (b : Bool). b and pairsOf n left' f) t)
+  -- the one and each of the others are members
+  pub two-first : (p : ℕ) → p ≡ trailingZeros wordWidth left → So (bit p set₀)
+  two-first p e = subst (λ (x : ℕ). So (bit x set₀)) (sym e) (m .part _ (lowest-in n left few (m .inside) some))
 
   -- the others lie above it
   pub two-above : (p : ℕ) → p ≡ trailingZeros wordWidth left → Above p left'
@@ -206,9 +221,61 @@ module _ (n : ℕ) (l : List ℕ) (set : ℕ) where
           (λ e. rising u p q (omega arith) k m r))
           (λ g. pairs-mutual .turn p q ∙ rising u q p (omega arith) h r m)
 
-  pub goal-members : (goal : ℕ) → (allOf n goal (labelMeets l set) and pairsOf n goal (pairMeets n l set)) ≡ goalMet n l set goal
+  goal-members : (goal : ℕ) → (allOf n goal (labelMeets l set) and pairsOf n goal (pairMeets n l set)) ≡ goalMet n l set goal
   unfolding goalMet allOf
   goal-members goal = ap (λ (b : Bool). allOf n goal (labelMeets l set) and b) (pairs-members goal)
+
+-- a layer that meets the goal has each label and each pair of it right
+module _ (n set goal : ℕ) (l : List ℕ) (met : So (goalMet n l set goal)) where
+  label-met : (p : ℕ) → p < n → So (bit p goal) → So (labelMeets l set p)
+  label-met p h m = members-at n goal (labelMeets l set) (and-left _ _ (goal-members n l set goal ∙ met)) p h m
+
+  pair-met : (p q : ℕ) → p < n → q < n → So (bit p goal) → So (bit q goal) → So (pairMeets n l set p q)
+  pair-met p q h k m r = two-at n goal (pairMeets n l set) (and-right _ _ (goal-members n l set goal ∙ met)) p q h k m r
+
+-- what a label and a mutex word show there
+within-all : (set w : ℕ) → So (within set w) → common w set ≡ set
+unfolding within
+within-all set w t = and-comm w set ∙ sym (xor-same set (common set w) (same-at _ _ t))
+
+apart-none : (set w : ℕ) → So (fails (meets set w)) → common w set ≡ 0
+unfolding meets
+apart-none set w t = and-comm w set ∙ ⊎-elim (same-at _ _) (λ e. absurd (fails-at _ t e)) (holds-or (same (common set w) 0))
+
+pair-behind : (n p q : ℕ) → n ≤ pairAt n p q
+unfolding pairAt
+pair-behind n p q = omega (arith, size-pairs n, pairs-sub n p)
+
+module _ {n set goal : ℕ} {l : List ℕ} where
+  -- a goal whose label lacks a state
+  pub label-judged : {p : ℕ} → p < n → Found (labelMeets l set) n goal p → Judged n l set goal p
+  unfolding shownAt labelIn choose
+  label-judged {p} h f = record {
+    met = λ g. absurd (omega (arith, labels-in n));
+    not = λ g m. not-so _ (f .not h) (label-met n set goal l m p h (f .one h));
+    shows = λ g other m. within-all set _ (label-met n set goal other m p h (f .one h)) ∙ simp (below-of p n h);
+  }
+
+  -- two goals that are mutex
+  pub pair-judged : {p q at : ℕ} → at ≡ pairAt n p q → p < q → q < n → So (bit p goal) → So (bit q goal)
+      → pairMeets n l set p q ≡ false → Judged n l set goal at
+  unfolding shownAt pairMeets choose
+  pair-judged {p} {q} {at} e h k m r f = record {
+    met = λ g. absurd (omega (arith, pair-in n p q h k));
+    not = λ g t. not-so _ f (pair-met n set goal l t p q (omega arith) k m r);
+    shows = λ g other t.
+        ap (λ (x : ℕ). common x set) (mutex-up n other p q at h e)
+        ∙ apart-none set _ (pair-met n set goal other t p q (omega arith) k m r)
+        ∙ simp (below-not at n (omega (arith, pair-behind n p q)));
+  }
+
+  -- all labels and all pairs right: the goal is met, and no place is found
+  pub all-judged : So (allOf n goal (labelMeets l set)) → true ≡ pairsOf n goal (pairMeets n l set) → {at : ℕ} → at ≡ size n → Judged n l set goal at
+  all-judged a b {at} e = record {
+    met = λ g. sym (goal-members n l set goal) ∙ and-of _ _ a (sym b);
+    not = λ g. absurd (omega arith);
+    shows = λ g. absurd (omega arith);
+  }
 
 -- what a goal has beyond the n propositions does not count
 module _ (n goal : ℕ) where

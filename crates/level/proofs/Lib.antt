@@ -3,4 +3,3 @@ pub mod Searches
 pub mod Goals
 pub mod Parts
 pub mod Answers
-pub mod Built

@@ -1,26 +1,29 @@
--- A proposition layer as it is read: through the part of the words that begins where it begins.
+-- A proposition layer as it is read: cut out of the words, or word by word where it lies.
 -- Assumes nothing.
 use mathlib.Core.Path.{_≡_, refl, sym, ap, ap₂, _∙_}
+use mathlib.Core.Bool.{Bool}
 use mathlib.Core.List.{List}
+use mathlib.Core.Logic.{by-cases}
 use Prim.Native.Nat.{ℕ, suc, _+_, _-_, _*_, _≤_, _<_}
-use native.Mathlib.Nat.{mul-le-mul-right}
+use native.Mathlib.Decide.{decLe}
+use native.Mathlib.Nat.{mul-le-mul, mul-le-mul-right, suc-mul}
 use native.Mathlib.Omega.{arith}
 use native.Mathlib.Numerals.{add-one}
-use lib.ListN.{length, getD, take, drop}
-use lib.Seq.{getD-take}
-use Rattle.rules.specs.Test.{_and_, _implies_, fails, same}
-use Rattle.rules.specs.Word.{bit, within, meets}
-use Rattle.rules.specs.Over.{allBelow}
-use Rattle.rules.specs.Layer.{size, pairAt, stride, labelIn, mutexIn, propsIn}
-use Rattle.rules.specs.Level.{goalMet, layerRests}
+use lib.ListN.{length, getD, take, drop, length-drop}
+use lib.Seq.{length-take-le, getD-take, getD-drop}
+use Rattle.rules.specs.Test.{same}
+use Rattle.rules.specs.Word.{common}
+use Rattle.rules.specs.Over.{allBelow, firstBelow}
+use Rattle.rules.specs.Layer.{size, stride, propsIn}
+use Rattle.rules.specs.Level.{layerRests, firstRest}
 use Rattle.rules.specs.declared.Shape.{Shape}
 use Rattle.rules.proofs.Overs.{all-eq}
-use Rattle.rules.proofs.Layers.{labels-in}
+use Rattle.rules.proofs.Firsts.{first-eq}
 use Rattle.rules.proofs.Layouts.{count-stride, props-fit}
 use Rattle.graph.specs.Checks.{Room}
-use Rattle.words.proofs.Places.{pair-in, mutex-up}
-use Rattle.words.proofs.Writes.{tail-all}
-use Rattle.level.specs.Meets.{sameWord}
+use Rattle.graph.specs.Limits.{maxDepth, maxLayer}
+use Rattle.words.proofs.Places.{size-small}
+use Rattle.level.specs.Meets.{PassedOver, sameAt, Both}
 
 module _ {S : Shape} {k : ℕ} {w : List ℕ} (room : Room S k w) (t : ℕ) (h : t ≤ k) where
   -- layer t, up to the depth, lies within the words
@@ -35,41 +38,96 @@ module _ {S : Shape} {k : ℕ} {w : List ℕ} (room : Room S k w) (t : ℕ) (h :
     fits = omega (arith, room .fits, count-stride S t, count-stride S k, mul-le-mul-right (stride S) h);
   }
 
-module _ (n : ℕ) (l : List ℕ) where
-  -- the words of the layer are all that a goal reads
-  mutex-front : (p q : ℕ) → p < q → q < n → mutexIn n l p q ≡ mutexIn n (take (size n) l) p q
-  mutex-front p q h g =
-      sym (mutex-up n l p q _ h refl) ∙ sym (getD-take (size n) l (pairAt n p q) 0 (pair-in n p q h g)) ∙ mutex-up n (take (size n) l) p q _ h refl
+-- layer t, cut out of the words
+pub layer-part : (S : Shape) (t at end : ℕ) (w : List ℕ) → at ≡ t * stride S → end ≡ at + size (S .props)
+    → take (end - at) (drop at w) ≡ propsIn S w t
+unfolding propsIn
+layer-part S t at end w e f =
+    let long : end - at ≡ size (S .props) = omega arith in
+    ap₂ (λ (n x : ℕ). take n (drop x w)) long e
 
-  met-front : (set goal : ℕ) → goalMet n l set goal ≡ goalMet n (take (size n) l) set goal
-  unfolding goalMet labelIn
-  met-front set goal =
-      ap₂ _and_
-      (all-eq n _ _ (λ p h. ap (λ (x : ℕ). bit p goal implies within set x) (sym (getD-take (size n) l p 0 (omega (arith, labels-in n))))))
-      (all-eq n _ _ (λ q h. all-eq q _ _ (λ p g.
-      ap (λ (x : ℕ). (bit p goal and bit q goal) implies fails (meets set x)) (mutex-front p q g h))))
+pub layer-length : (w : List ℕ) (at count : ℕ) → at + count ≤ length w → length (take (at + count - at) (drop at w)) ≡ count
+layer-length w at count h =
+    let long : at + count - at ≡ count = omega arith in
+    ap (λ (n : ℕ). length (take n (drop at w))) long ∙ length-take-le count (drop at w) (omega (arith, length-drop at w))
 
--- what is read through the part that begins at layer t
-module _ (S : Shape) (t at : ℕ) (w : List ℕ) (starts : at ≡ t * stride S) where
-  pub met-part : (set goal : ℕ)
-      → goalMet (S .props) (take (length w - at) (drop at w)) set goal ≡ goalMet (S .props) (propsIn S w t) set goal
-  unfolding propsIn
-  met-part set goal =
-      ap (λ (l : List ℕ). goalMet (S .props) l set goal) (tail-all at w)
-      ∙ met-front (S .props) (drop at w) set goal
-      ∙ ap (λ (x : ℕ). goalMet (S .props) (take (size (S .props)) (drop x w)) set goal) starts
+-- a word of it, where it lies
+pub word-at : (S : Shape) (w : List ℕ) (t i : ℕ) → i < size (S .props) → getD (propsIn S w t) i 0 ≡ getD w (t * stride S + i) 0
+unfolding propsIn
+word-at S w t i h = getD-take (size (S .props)) _ i 0 h ∙ getD-drop (t * stride S) w i 0
 
-  word-part : (i : ℕ) → i < size (S .props) → getD (take (length w - at) (drop at w)) i 0 ≡ getD (propsIn S w t) i 0
-  unfolding propsIn
-  word-part i h =
-      ap (λ (l : List ℕ). getD l i 0) (tail-all at w)
-      ∙ sym (getD-take (size (S .props)) (drop at w) i 0 h)
-      ∙ ap (λ (x : ℕ). getD (take (size (S .props)) (drop x w)) i 0) starts
+-- ---- layers that lie a step apart
 
-pub rests-part : (S : Shape) (t at next count : ℕ) (w : List ℕ) → at ≡ t * stride S → next ≡ (t + 1) * stride S → count ≡ size (S .props)
-    → allBelow count (sameWord (take (length w - at) (drop at w)) (take (length w - next) (drop next w))) ≡ layerRests S w t
-unfolding layerRests
-rests-part S t at next count w e f g =
-    ap (λ (k : ℕ). allBelow k (sameWord (take (length w - at) (drop at w)) (take (length w - next) (drop next w)))) g
-    ∙ all-eq (size (S .props)) _ _ (λ i h. ap₂ same (word-part S t at w e i h)
-    (word-part S (suc t) next w (f ∙ ap (λ (k : ℕ). k * stride S) (add-one t)) i h))
+pub next-start : (t step : ℕ) → (t + 1) * step ≡ t * step + step
+next-start t step = ap (λ (x : ℕ). x * step) (add-one t) ∙ suc-mul t step
+
+pub start-before : (t step : ℕ) → 0 < t → t * step ≡ (t - 1) * step + step
+start-before t step h = let e : t ≡ suc (t - 1) = omega arith in ap (λ (x : ℕ). x * step) e ∙ suc-mul (t - 1) step
+
+-- so many words are the same a step on
+unfoldable pub restsBy : List ℕ → ℕ → ℕ → ℕ → Bool
+restsBy w step count t = allBelow count (sameAt w (t * step) (t * step + step))
+
+pub rests-from : (w : List ℕ) (step count t : ℕ) {at : ℕ} {b : Bool} → at ≡ t * step → b ≡ allBelow count (sameAt w at (at + step)) → restsBy w step count t ≡ b
+unfolding restsBy
+rests-from w step count t e f = ap (λ (x : ℕ). allBelow count (sameAt w x (x + step))) (sym e) ∙ sym f
+
+rests-by : (S : Shape) (w : List ℕ) (t : ℕ) → restsBy w (stride S) (size (S .props)) t ≡ layerRests S w t
+unfolding restsBy layerRests
+rests-by S w t = all-eq (size (S .props)) _ _ (λ i h. ap₂ same
+    (sym (word-at S w t i h))
+    (ap (λ (x : ℕ). getD w (x + i) 0) (sym (suc-mul t (stride S))) ∙ sym (word-at S w (suc t) i h)))
+
+pub rest-by : (S : Shape) (w : List ℕ) (k : ℕ) {step count : ℕ} → step ≡ stride S → count ≡ size (S .props)
+    → firstBelow k (restsBy w step count) ≡ firstRest S k w
+unfolding firstRest
+rest-by S w k e f =
+    ap₂ (λ (a b : ℕ). firstBelow k (restsBy w a b)) e f ∙ first-eq k _ _ (λ t h. rests-by S w t)
+
+-- a product of a layer's number and a step is small
+pub steps-small : (t step : ℕ) → t ≤ maxDepth + 1 → step ≤ 2 * maxLayer → t * step ≤ 1064960
+steps-small t step h k = mul-le-mul h k
+
+-- both layers lie within the words
+pub both-in : {S : Shape} {k : ℕ} {w : List ℕ} {step count : ℕ} → Room S k w → step ≡ stride S → count ≤ size (S .props) → (t : ℕ) → t < k
+    → {at : ℕ} → at ≡ t * step → Both w at (at + step) count
+both-in {S} {k} {w} {step} {count} room e f t h {at} g =
+    let here : at ≡ t * stride S = g ∙ ap (λ (x : ℕ). t * x) e in
+    record {
+      few = omega (arith, size-small (S .props) (omega (arith, room .small .props)));
+      one-has = omega (arith, layer-fits room t (omega arith));
+      other-has = omega (arith, layer-fits room (suc t) h, suc-mul t (stride S));
+    }
+
+-- one word a layer, at a place: of the layers from one on, none before t shows this of the set
+pub record Passing (w : List ℕ) (k set place shows step from at t : ℕ) : Type 0 where
+  pub here : at ≡ t * step + place
+  pub rises : from ≤ t
+  pub within : t ≤ suc k
+  pub each : (u : ℕ) → from ≤ u → u < t → common (getD w (u * step + place) 0) set ≡ shows → ⊥
+
+pub passing-none : {w : List ℕ} {k set place shows step from : ℕ} → from ≤ suc k → Passing w k set place shows step from (from * step + place) from
+passing-none {w} {k} {set} {place} {shows} {step} {from} h = record { here = refl; rises = omega arith; within = h; each = λ u g l. absurd (omega arith) }
+
+module _ {w : List ℕ} {k set place shows step from at t : ℕ} (p : Passing w k set place shows step from at t) where
+  pub passing-more : t ≤ k → (common (getD w at 0) set ≡ shows → ⊥) → Passing w k set place shows step from (at + step) (t + 1)
+  passing-more h e = record {
+    here = omega (arith, p .here, next-start t step);
+    rises = omega (arith, p .rises);
+    within = omega arith;
+    each = λ u g l s. by-cases (decLe t u)
+        (λ m. let same : u ≡ t = omega arith in e (ap (λ (x : ℕ). common (getD w x 0) set) (p .here ∙ ap (λ (x : ℕ). x * step + place) (sym same)) ∙ s))
+        (λ m. p .each u g (omega arith) s);
+  }
+
+  -- the place lies within the words
+  pub passing-in : {S : Shape} → Room S k w → step ≡ stride S → place < size (S .props) → t ≤ k → at < length w
+  passing-in {S} room e h l = omega (arith, p .here, ap (λ (x : ℕ). t * x) e, layer-fits room t l)
+
+  pub passing-done : {S : Shape} → step ≡ stride S → place < size (S .props) → PassedOver S w k set place shows from t
+  passing-done {S} e h = record {
+    rises = p .rises;
+    within = p .within;
+    each = λ u g l s. p .each u g l (ap (λ (x : ℕ). common x set)
+        (ap (λ (x : ℕ). getD w (u * x + place) 0) e ∙ sym (word-at S w u place h)) ∙ s);
+  }

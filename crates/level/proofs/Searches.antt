@@ -9,11 +9,11 @@ use native.Mathlib.Decide.{decLe}
 use native.Mathlib.Numerals.{add-one}
 use native.Mathlib.Omega.{arith}
 use lib.Bits.{bitOr, bitXor, and-le-l, and-le-r, or-add-and, xor-add-and, xor-self}
-use Rattle.rules.specs.Test.{_and_, same}
+use Rattle.rules.specs.Test.{_and_, same, below}
 use Rattle.rules.specs.Over.{allBelow, firstBelow}
-use Rattle.rules.proofs.Tests.{and-of, and-left, and-right, test-eq, same-of, same-at}
+use Rattle.rules.proofs.Tests.{and-of, and-left, and-right, test-eq, same-of, same-at, below-of, below-not}
 use Rattle.rules.proofs.Overs.{all-of, all-at}
-use Rattle.rules.proofs.Firsts.{first-unique}
+use Rattle.rules.proofs.Firsts.{first-at, first-to, first-unique}
 
 -- how many words the code compares at once: at the front of two layers, and behind it
 abbrev pub frontWords : ℕ
@@ -23,7 +23,7 @@ abbrev pub blockWords : ℕ
 blockWords = 32
 
 -- a test that is false does not hold
-not-so : (b : Bool) → b ≡ false → So b → ⊥
+pub not-so : (b : Bool) → b ≡ false → So b → ⊥
 not-so b e t = false≢true (rw e at t)
 
 -- the test holds at each index below i, of n
@@ -74,7 +74,7 @@ held-from f n i l t = record { within = l; each = all-at i f t }
 
 -- ---- words whose differences are joined
 
-xor-same : (a b : ℕ) → bitXor a b ≡ 0 → a ≡ b
+pub xor-same : (a b : ℕ) → bitXor a b ≡ 0 → a ≡ b
 xor-same a b e = omega (arith, xor-add-and a b, and-le-l a b, and-le-r a b)
 
 differ-same : (a b : ℕ) → same (bitXor a b) 0 ≡ same a b
@@ -129,3 +129,35 @@ sought-found {f} {n} {i} s l t = first-unique n f i (s .within) (s .before) (λ 
 -- after all n of them there is none
 pub sought-done : {f : ℕ → Bool} {n i : ℕ} → Sought f n i → n ≤ i → i ≡ firstBelow n f
 sought-done {f} {n} {i} s l = first-unique n f i (s .within) (s .before) (λ h. absurd (omega arith))
+
+-- none up to i, none at i, and none from there on: the search goes on further up
+pub sought-over : {f : ℕ → Bool} {n i j : ℕ} → Sought f n i → (So (f i) → ⊥) → i + 1 ≤ j → j ≤ n → ((k : ℕ) → i + 1 ≤ k → k < j → So (f k) → ⊥) → Sought f n j
+sought-over {f} {n} {i} {j} s e h l over = record {
+  within = l;
+  before = λ k m t. by-cases (decLe (i + 1) k) (λ g. over k g m t) (λ g. below-more _ _ (s .before) e k (omega arith) t);
+}
+
+-- the test holds at no index from i on, of n: the search from the top
+pub record Cleared (f : ℕ → Bool) (n i : ℕ) : Type 0 where
+  pub within : i ≤ n
+  pub from : (k : ℕ) → i ≤ k → k < n → So (f k) → ⊥
+
+pub cleared-none : {f : ℕ → Bool} {n : ℕ} → Cleared f n n
+cleared-none = record { within = omega arith; from = λ k g h t. omega arith }
+
+pub cleared-more : {f : ℕ → Bool} {n i : ℕ} → Cleared f n i → 0 < i → f (i - 1) ≡ false → Cleared f n (i - 1)
+cleared-more {f} {n} {i} s l e = record {
+  within = omega (arith, s .within);
+  from = λ k g h t. by-cases (decLe i k) (λ m. s .from k m h t)
+      (λ m. let here : k ≡ i - 1 = omega arith in not-so (f k) (ap f here ∙ e) t);
+}
+
+-- where it holds, there is a first index
+pub cleared-found : {f : ℕ → Bool} {n i : ℕ} → Cleared f n i → 0 < i → So (f (i - 1)) → true ≡ below (firstBelow n f) n
+cleared-found {f} {n} {i} s l t = sym (below-of _ _ (omega (arith, s .within, first-to n f (i - 1) t)))
+
+-- after all n of them there is none
+pub cleared-done : {f : ℕ → Bool} {n i : ℕ} → Cleared f n i → i ≤ 0 → false ≡ below (firstBelow n f) n
+cleared-done {f} {n} {i} s l =
+    let no : firstBelow n f < n → ⊥ = λ h. s .from (firstBelow n f) (omega arith) h (first-at n f h) in
+    sym (below-not _ _ (omega arith))

@@ -1,45 +1,91 @@
-// The proposition layers, each read through the part of the words that begins with it.
-use crate::goal::goal_met;
+// The proposition layers up to a depth: the first that meets a goal, and whether and where one equals the next.
+use crate::goal::failing;
 use graph::layout::layer_size;
 use graph::layout::layer_start;
+use graph::layout::stride;
 use rules::Shape;
 use words::sets::Props;
 use words::sets::States;
 ghost use mathlib.Core.Path.{_≡_};
 ghost use Prim.Native.Nat.{_+_, _≤_, _<_, _^_};
-ghost use lib.ListN.{length};
+ghost use Rattle.rules.specs.Test.{below};
 ghost use Rattle.rules.specs.Over.{allBelow};
-ghost use Rattle.rules.specs.Layer.{propsIn};
+ghost use Rattle.rules.specs.Layer.{size, propsIn};
 ghost use Rattle.rules.specs.Level as L;
 ghost use Rattle.graph.specs.Checks.{Room};
-ghost use Rattle.graph.specs.Limits.{maxLayer};
-ghost use Rattle.level.specs.Meets.{sameWord, Begun};
+ghost use Rattle.level.specs.Meets.{Judged, shownAt, PassedOver, sameAt, Both, Begun};
 
 // How many words are compared at once: at the front of two layers, and behind it.
 const FIRST: usize = 8;
 
 const BLOCK: usize = 32;
 
-// Whether layer t meets the goal.
-fn met_at(words: &[u64], s: Shape, t: usize, set: States, goal: Props) -> bool
+// The place of a word of layer t that keeps the goal from being met, and the layer's size where it is met.
+fn failing_at(words: &[u64], s: Shape, t: usize, set: States, goal: Props) -> usize
     requires { ⌜ Room s t (now words) × (goal .0 < 2 ^ s .props) ⌝ }
-    ensures { λ r. ⌜ r ≡ L.goalMet (s .props) (propsIn s (now (words .entry)) t) (set .0) (goal .0) ⌝ }
+    ensures { λ r. ⌜ Judged (s .props) (propsIn s (now (words .entry)) t) (set .0) (goal .0) r ⌝ }
 {
     let at = layer_start(s, t);
-    goal_met(&words[at..], s.props, set, goal)
+    let end = at + layer_size(s.props);
+    failing(&words[at..end], s.props, set, goal)
 }
 
-// The first layer from 0 to depth that meets a goal of its propositions, and depth + 1 where none does.
+// What the word at this place shows of the set in a layer that meets the goal: a label all of it, a mutex word nothing.
+fn shown(n: usize, set: States, place: usize) -> u64
+    ensures { λ r. ⌜ r ≡ shownAt n (set .0) place ⌝ }
+{
+    if place < n {
+        return set.0;
+    }
+    0
+}
+
+// The first layer from this one on whose word at the place shows that, and depth + 1 where none does: one word a layer is read.
+fn pass_over(
+    words: &[u64],
+    s: Shape,
+    depth: usize,
+    from: usize,
+    set: States,
+    place: usize,
+    shows: u64,
+) -> usize
+    requires { ⌜ Room s depth (now words) × (from ≤ depth + 1) × (place < size (s .props)) ⌝ }
+    ensures { λ r. ⌜ PassedOver s (now (words .entry)) depth (set .0) place shows from r ⌝ }
+{
+    let step = stride(s);
+    let mut at = from * step + place;
+    let mut t = from;
+    while t <= depth {
+        if words[at] & set.0 == shows {
+            return t;
+        }
+        at += step;
+        t += 1;
+    }
+    t
+}
+
+// The first layer from 0 to depth that meets a goal of its propositions, and depth + 1 where none does. After a layer that does not, those are passed over in which the same word fails.
 fn first_met_of(words: &[u64], s: Shape, depth: usize, set: States, goal: Props) -> usize
     requires { ⌜ Room s depth (now words) × (goal .0 < 2 ^ s .props) ⌝ }
     ensures { λ r. ⌜ r ≡ L.firstMet s depth (set .0) (goal .0) (now (words .entry)) ⌝ }
 {
     let mut t = 0;
     while t <= depth {
-        if met_at(words, s, t, set, goal) {
+        let place = failing_at(words, s, t, set, goal);
+        if layer_size(s.props) <= place {
             return t;
         }
-        t += 1;
+        t = pass_over(
+            words,
+            s,
+            depth,
+            t + 1,
+            set,
+            place,
+            shown(s.props, set, place),
+        );
     }
     t
 }
@@ -53,25 +99,26 @@ pub fn first_met(words: &[u64], s: Shape, depth: usize, set: States, goal: Props
     first_met_of(words, s, depth, set, held)
 }
 
-// Whether two parts have the same words from a place on, so many of them: no word ends the loop early, so that several are compared at once.
-fn same_block(one: &[u64], other: &[u64], at: usize, block: usize) -> bool
-    requires { ⌜ (at + block ≤ length (now one)) × (at + block ≤ length (now other)) ⌝ }
-    ensures { λ r. ⌜ r ≡ allBelow block (λ i. sameWord (now (one .entry)) (now (other .entry)) (at + i)) ⌝ }
+// Whether the words after two places are the same from one on, so many of them: no word ends the loop early, so that several are compared at once.
+fn same_block(words: &[u64], one: usize, other: usize, from: usize, block: usize) -> bool
+    requires { ⌜ Both (now words) one other (from + block) ⌝ }
+    ensures { λ r. ⌜ r ≡ allBelow block (λ i. sameAt (now (words .entry)) one other (from + i)) ⌝ }
 {
     let mut differ = 0;
     for i in 0..block {
-        differ = differ | (one[at + i] ^ other[at + i]);
+        let k = from + i;
+        differ = differ | (words[one + k] ^ words[other + k]);
     }
     differ == 0
 }
 
-// Whether two parts that have the same words up to a place have them up to the end: word by word.
-fn same_last(one: &[u64], other: &[u64], from: usize, count: usize) -> bool
-    requires { ⌜ Begun (now one) (now other) from count ⌝ }
-    ensures { λ r. ⌜ r ≡ allBelow count (sameWord (now (one .entry)) (now (other .entry))) ⌝ }
+// Whether so many words after two places are the same, where those before one are: word by word.
+fn same_last(words: &[u64], one: usize, other: usize, from: usize, count: usize) -> bool
+    requires { ⌜ Begun (now words) one other from count ⌝ }
+    ensures { λ r. ⌜ r ≡ allBelow count (sameAt (now (words .entry)) one other) ⌝ }
 {
     for i in from..count {
-        if one[i] != other[i] {
+        if words[one + i] != words[other + i] {
             return false;
         }
     }
@@ -79,56 +126,68 @@ fn same_last(one: &[u64], other: &[u64], from: usize, count: usize) -> bool
 }
 
 // The same, block by block as far as there are whole ones.
-fn same_from(one: &[u64], other: &[u64], from: usize, count: usize) -> bool
-    requires { ⌜ Begun (now one) (now other) from count × (count ≤ maxLayer) ⌝ }
-    ensures { λ r. ⌜ r ≡ allBelow count (sameWord (now (one .entry)) (now (other .entry))) ⌝ }
+fn same_from(words: &[u64], one: usize, other: usize, from: usize, count: usize) -> bool
+    requires { ⌜ Begun (now words) one other from count ⌝ }
+    ensures { λ r. ⌜ r ≡ allBelow count (sameAt (now (words .entry)) one other) ⌝ }
 {
     let mut at = from;
     while at + BLOCK <= count {
-        if !same_block(one, other, at, BLOCK) {
+        if !same_block(words, one, other, at, BLOCK) {
             return false;
         }
         at += BLOCK;
     }
-    same_last(one, other, at, count)
+    same_last(words, one, other, at, count)
 }
 
-// Whether two parts begin with the same words. Two layers that differ do so mostly among the first labels.
-fn same_words(one: &[u64], other: &[u64], count: usize) -> bool
-    requires { ⌜ (count ≤ maxLayer) × (count ≤ length (now one)) × (count ≤ length (now other)) ⌝ }
-    ensures { λ r. ⌜ r ≡ allBelow count (sameWord (now (one .entry)) (now (other .entry))) ⌝ }
+// The same from the start. Two layers that differ do so mostly among the first labels.
+fn same_words(words: &[u64], one: usize, other: usize, count: usize) -> bool
+    requires { ⌜ Both (now words) one other count ⌝ }
+    ensures { λ r. ⌜ r ≡ allBelow count (sameAt (now (words .entry)) one other) ⌝ }
 {
     if count < FIRST {
-        return same_last(one, other, 0, count);
+        return same_last(words, one, other, 0, count);
     }
-    if !same_block(one, other, 0, FIRST) {
+    if !same_block(words, one, other, 0, FIRST) {
         return false;
     }
-    same_from(one, other, FIRST, count)
+    same_from(words, one, other, FIRST, count)
 }
 
-// Whether layer t, labels and mutex words, equals layer t + 1.
-fn rests_at(words: &[u64], s: Shape, t: usize) -> bool
-    requires { ⌜ Room s (t + 1) (now words) ⌝ }
-    ensures { λ r. ⌜ r ≡ L.layerRests s (now (words .entry)) t ⌝ }
-{
-    let at = layer_start(s, t);
-    let next = layer_start(s, t + 1);
-    let count = layer_size(s.props);
-    same_words(&words[at..], &words[next..], count)
-}
-
-// The first layer below depth that equals the next one, and depth where none does.
+// The first layer below depth that equals the next one, labels and mutex words, and depth where none does.
 pub fn first_rest(words: &[u64], s: Shape, depth: usize) -> usize
     requires { ⌜ Room s depth (now words) ⌝ }
     ensures { λ r. ⌜ r ≡ L.firstRest s depth (now (words .entry)) ⌝ }
 {
+    let count = layer_size(s.props);
+    let step = stride(s);
+    let mut at = 0;
     let mut first = 0;
-    while first + 1 <= depth {
-        if rests_at(words, s, first) {
+    while first < depth {
+        if same_words(words, at, at + step, count) {
             return first;
         }
+        at += step;
         first += 1;
     }
     first
+}
+
+// Whether there is one: sought from the top, where a built graph that rests shows it at once.
+pub fn rests(words: &[u64], s: Shape, depth: usize) -> bool
+    requires { ⌜ Room s depth (now words) ⌝ }
+    ensures { λ r. ⌜ r ≡ below (L.firstRest s depth (now (words .entry))) depth ⌝ }
+{
+    let whole = layer_size(s.props);
+    let step = stride(s);
+    let mut at = depth * step;
+    let mut t = depth;
+    while 0 < t {
+        t -= 1;
+        at -= step;
+        if same_words(words, at, at + step, whole) {
+            return true;
+        }
+    }
+    false
 }

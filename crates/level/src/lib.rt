@@ -6,6 +6,7 @@ pub mod layers;
 
 use crate::layers::first_met;
 use crate::layers::first_rest;
+use crate::layers::rests;
 use graph::checks::check_asked;
 use graph::checks::check_graph;
 use graph::file::FileAnswer;
@@ -45,7 +46,7 @@ fn level_over(words: &[u64], s: Shape, depth: usize, set: States, goal: Props) -
     if t <= depth {
         return LevelAnswer::At(t);
     }
-    if first_rest(words, s, depth) < depth {
+    if rests(words, s, depth) {
         return LevelAnswer::Never;
     }
     LevelAnswer::NotByDepth

@@ -3,7 +3,7 @@
 use mathlib.Core.Path.{_≡_, refl, sym, ap, subst, _∙_}
 use mathlib.Core.List.{List, [], _++_}
 use mathlib.Core.Bool.{Bool, true, false}
-use Prim.Native.Nat.{ℕ, suc, _+_, _≤_, _<_}
+use Prim.Native.Nat.{ℕ, suc, _≤_, _<_}
 use native.Mathlib.Nat.{zero-add}
 use native.Mathlib.Omega.{arith}
 use lib.ListN.{length, drop}
@@ -11,7 +11,7 @@ use Rattle.rules.specs.Test.{below, choose}
 use Rattle.rules.specs.Word.{bit}
 use Rattle.rules.specs.Over.{keep}
 use Rattle.rules.specs.Lists.{listOver}
-use Rattle.rules.specs.Domain.{domain, shapeOf}
+use Rattle.rules.specs.Domain.{Actions, domain, shapeOf}
 use Rattle.rules.specs.Level.{Level, level, never, notByDepth, firstMet, firstRest, levelOf}
 use Rattle.rules.specs.Plan.{Planned, planned, stuck, descend, planAt, planOf, planCount}
 use Rattle.rules.specs.declared.Shape.{Shape}
@@ -20,7 +20,6 @@ use Rattle.graph.specs.Verdict.{Verdict, accepted, refused, laid}
 use Rattle.words.specs.Memory.{putAt}
 use Rattle.graph.specs.Checks.{Room}
 use Rattle.plan.specs.Plan.{Made, made, plannedVerdict}
-use Rattle.plan.specs.Search.{listedActions, listedShape}
 
 -- turned away: the number and the place, and no word changes
 pub plan-refused : (v : Verdict (List ℕ)) (number place : ℕ) (w : List ℕ) → v ≡ refused number place → (refused number place ≡ made v) × (w ≡ laid v w)
@@ -55,42 +54,30 @@ module _ (depth : ℕ) (d : Planned) where
   ends-whole plan e = sym (ap (plannedVerdict depth) e)
 
 -- the level first
-module _ (n : ℕ) (needs adds : List ℕ) (depth set goal : ℕ) (words : List ℕ) (t : ℕ)
-    (met : t ≡ firstMet (listedShape n needs) depth set goal words) where
-  first-is : firstMet (shapeOf (domain (listedActions n needs adds))) depth set goal words ≡ t
-  unfolding domain listedActions
-  first-is = sym met
-
+module _ (A : Actions) (depth set goal : ℕ) (words : List ℕ) (t : ℕ) (met : t ≡ firstMet (shapeOf (domain A)) depth set goal words) where
   level-by : (b : Bool) → below t (suc depth) ≡ b
-      → levelOf (shapeOf (domain (listedActions n needs adds))) depth set goal words
-      ≡ choose b (level t) (choose (below (firstRest (shapeOf (domain (listedActions n needs adds))) depth words) depth) never notByDepth)
+      → levelOf (shapeOf (domain A)) depth set goal words
+      ≡ choose b (level t) (choose (below (firstRest (shapeOf (domain A)) depth words) depth) never notByDepth)
   unfolding levelOf
   level-by b e =
-      ap (λ (x : ℕ). choose (below x (suc depth)) (level x) (choose (below (firstRest (shapeOf (domain
-      (listedActions n needs adds))) depth words) depth) never notByDepth)) first-is
-      ∙ ap (λ (x : Bool). choose x (level t) (choose (below (firstRest (shapeOf (domain (listedActions n needs adds))) depth words) depth) never notByDepth)) e
+      ap (λ (x : ℕ). choose (below x (suc depth)) (level x) (choose (below (firstRest (shapeOf (domain A)) depth words) depth) never notByDepth)) (sym met)
+      ∙ ap (λ (x : Bool). choose x (level t) (choose (below (firstRest (shapeOf (domain A)) depth words) depth) never notByDepth)) e
 
-  none : (b : Bool) → plannedVerdict depth (planAt (listedActions n needs adds) set goal words (choose b never notByDepth)) ≡ refused 13 depth
+  none : (b : Bool) → plannedVerdict depth (planAt A set goal words (choose b never notByDepth)) ≡ refused 13 depth
   unfolding plannedVerdict planAt choose
   none true = refl
   none false = refl
 
-  pub no-level : depth < t → plannedVerdict depth (planOf (listedActions n needs adds) depth set goal words) ≡ refused 13 depth
+  pub no-level : depth < t → plannedVerdict depth (planOf A depth set goal words) ≡ refused 13 depth
   unfolding planOf choose
   no-level h =
-      ap (λ (l : Level). plannedVerdict depth (planAt (listedActions n needs adds) set goal words l)) (level-by false (below-not t (suc depth) (omega arith)))
-      ∙ none (below (firstRest (shapeOf (domain (listedActions n needs adds))) depth words) depth)
+      ap (λ (l : Level). plannedVerdict depth (planAt A set goal words l)) (level-by false (below-not t (suc depth) (omega arith)))
+      ∙ none (below (firstRest (shapeOf (domain A)) depth words) depth)
 
-  pub at-level : t ≤ depth → descend (listedActions n needs adds) words t (listOver n (λ p. keep (bit p goal) set)) [] ≡ planOf
-      (listedActions n needs adds) depth set goal words
-  unfolding planOf planAt choose listedActions
-  at-level h = sym (ap (planAt (listedActions n needs adds) set goal words) (level-by true (below-of t (suc depth) (omega arith))))
+  pub at-level : t ≤ depth → descend A words t (listOver (A .props) (λ p. keep (bit p goal) set)) [] ≡ planOf A depth set goal words
+  unfolding planOf planAt choose
+  at-level h = sym (ap (planAt A set goal words) (level-by true (below-of t (suc depth) (omega arith))))
 
--- the room is that of a list with as many actions
-pub room-counted : {n d : ℕ} {w : List ℕ} (k a : ℕ) → k ≡ a → Room (record { props = n; vertices = a + n }) d w
-    → Room (record { props = n; vertices = k + n }) d w
-room-counted {n} {d} {w} k a e r = subst (λ (x : ℕ). Room (record { props = n; vertices = x + n }) d w) (sym e) r
-
--- and that of a list as long as the depth
+-- the room of a list as long as the depth
 pub room-deep : {S : Shape} {d : ℕ} {w : List ℕ} (k : ℕ) → k ≡ d → Room S d w → Room S k w
 room-deep {S} {d} {w} k e r = subst (λ (x : ℕ). Room S x w) (sym e) r

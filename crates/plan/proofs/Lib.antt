@@ -1,8 +1,10 @@
--- Laws of the plan's search.
-pub mod Listings
+-- Laws of the plan's search, and what an accepted plan means.
+pub mod Remaining
+pub mod Turns
 pub mod Searches
-pub mod Adders
+pub mod Supports
+pub mod Counts
 pub mod Descents
-pub mod ReadPlans
+pub mod Readings
 pub mod Answers
 pub mod Built

@@ -2,23 +2,26 @@
 -- Assumes nothing.
 use mathlib.Core.Path.{_≡_, refl, sym, ap, ap₂, _∙_}
 use mathlib.Core.List.{List, [], _∷_}
-use mathlib.Core.Bool.{Bool, true, false, So}
+use mathlib.Core.Bool.{Bool, false, So}
+use mathlib.Core.Logic.{⊎-elim, by-cases}
 use Prim.Native.Nat.{ℕ, zero, suc, _+_, _-_, _≤_, _<_}
-use native.Mathlib.Nat.{sub-zero}
+use native.Mathlib.Decide.{decLt}
+use native.Mathlib.Nat.{sub-zero, add-zero}
 use native.Mathlib.Numerals.{add-one}
 use native.Mathlib.Omega.{arith}
 use lib.ListN.{length, getD, drop, drop-of-length-le}
 use lib.Seq.{drop-cons}
-use Rattle.rules.specs.Test.{_and_, fails, same, below, choose}
-use Rattle.rules.specs.Word.{bit, common, union, without, single}
-use Rattle.rules.specs.Over.{keep}
+use Rattle.rules.specs.Test.{same, choose}
+use Rattle.rules.specs.Word.{bit, common, single}
 use Rattle.rules.specs.Lists.{listOver}
-use Rattle.rules.specs.Domain.{Actions, persistence, needsOf, addsOf}
+use Rattle.rules.specs.Domain.{Actions, persistence, addsOf}
 use Rattle.rules.specs.Layer.{labelIn}
 use Rattle.rules.specs.Plan.{Support, takes, order, support, Covered, covered, uncovered, coverFrom, cover}
-use Rattle.rules.proofs.Tests.{same-of, same-not}
+use Rattle.rules.proofs.Tests.{holds-or, same-at, same-of, same-not, below-not, is-fails, fails-at, choose-held, choose-failed}
+use Rattle.rules.proofs.Words.{single-has}
 use Rattle.rules.proofs.Layers.{length-listOver, getD-listOver}
-use Rattle.plan.specs.Search.{listedActions, vertexSet, orderAt, LayerLists}
+use Rattle.plan.specs.Search.{took}
+use Rattle.plan.proofs.Turns.{took-none, takes-action, takes-kept}
 
 -- the propositions from p on
 unfoldable pub resting : Actions → List ℕ → List ℕ → ℕ → ℕ → List ℕ → Covered
@@ -32,39 +35,12 @@ after A labels wanted n p s = choose (same (s .left) 0) (coverFrom A labels want
 unfoldable pub searching : Actions → List ℕ → List ℕ → ℕ → ℕ → Support → Covered
 searching A labels wanted p k s = after A labels wanted (A .props - suc p) p (support A labels p (drop k (order A p)) s)
 
--- the vertex at place k of the order
 order-length : (A : Actions) (p : ℕ) → length (order A p) ≡ suc (A .count)
 unfolding order
 order-length A p = ap suc (length-listOver (A .count) (λ a. a))
 
-pub order-long : (A : Actions) (p k : ℕ) → A .count < k → length (order A p) ≤ k
-order-long A p k l = omega (arith, order-length A p)
-
-order-place : (A : Actions) (p k : ℕ) → k ≤ A .count → getD (order A p) k 0 ≡ orderAt (A .count) p k
-unfolding order persistence orderAt choose
-order-place A p zero h = simp (same-of 0 0 refl)
-order-place A p (suc k) h =
-    let e : suc k - 1 ≡ k = omega arith in
-    getD-listOver (A .count) (λ a. a) k (omega arith) ∙ sym e ∙ simp (same-not (suc k) 0 (λ z. omega arith))
-
-pub order-lt : (actions p k : ℕ) → k ≤ actions → orderAt actions p k < actions + p + 1
-unfolding orderAt choose
-order-lt actions p k l = go (same k 0)
-  where
-    go : (b : Bool) → choose b (actions + p) (k - 1) < actions + p + 1
-    go true = omega arith
-    go false = omega arith
-
-pub support-path : {l m l' m' : ℕ} {b b' : List ℕ} → l ≡ l' → m ≡ m' → b ≡ b'
-    → _≡_ {A = Support} (record { left = l; marks = m; needed = b }) (record { left = l'; marks = m'; needed = b' })
-support-path p q r = λ i. record { left = p i; marks = q i; needed = r i }
-
 module _ (A : Actions) (labels wanted : List ℕ) where
-  pub rest-start : (needed : List ℕ) → coverFrom A labels wanted (A .props) 0 0 needed ≡ resting A labels wanted 0 0 needed
-  unfolding resting
-  rest-start needed = rw sub-zero refl
-
-  pub rest-open : (p marks : ℕ) (needed : List ℕ) → p < A .props
+  rest-open : (p marks : ℕ) (needed : List ℕ) → p < A .props
       → resting A labels wanted p marks needed
       ≡ searching A labels wanted p 0 (record { left = labelIn wanted p; marks = marks; needed = needed })
   unfolding resting searching after coverFrom
@@ -95,14 +71,14 @@ module _ (A : Actions) (labels wanted : List ℕ) where
       ∙ simp (same-not (s .left) 0 e)
 
   -- one vertex on
-  pub search-on : (p k v : ℕ) (s t : Support) → v ≡ orderAt (A .count) p k → k ≤ A .count → (s .left ≡ 0 → ⊥)
+  search-on : (p k v : ℕ) (s t : Support) → getD (order A p) k 0 ≡ v → k ≤ A .count → (s .left ≡ 0 → ⊥)
       → t ≡ choose (bit p (addsOf A v)) (takes A labels v s) s → searching A labels wanted p k s ≡ searching A labels wanted p (k + 1) t
   unfolding searching support choose
   search-on p k v s t h l e q =
       ap (λ (vs : List ℕ). after A labels wanted (A .props - suc p) p (support A labels p vs s)) (drop-cons (order A p) k 0 (omega (arith, order-length A p)))
       ∙ ap (λ (x : Support). after A labels wanted (A .props - suc p) p x) (skip (same-not (s .left) 0 e))
       ∙ ap₂ (λ (x : Support) (j : ℕ). after A labels wanted (A .props - suc p) p (support A labels p (drop j (order A p)) x))
-      (ap (λ (x : ℕ). choose (bit p (addsOf A x)) (takes A labels x s) s) (order-place A p k l ∙ sym h) ∙ sym q) (sym (add-one k))
+      (ap (λ (x : ℕ). choose (bit p (addsOf A x)) (takes A labels x s) s) h ∙ sym q) (sym (add-one k))
     where
       skip : same (s .left) 0 ≡ false
           → support A labels p (getD (order A p) k 0 ∷ drop (suc k) (order A p)) s
@@ -111,63 +87,98 @@ module _ (A : Actions) (labels wanted : List ℕ) where
       skip f = ap (λ (b : Bool). choose b s (support A labels p (drop (suc k) (order A p))
           (choose (bit p (addsOf A (getD (order A p) k 0))) (takes A labels (getD (order A p) k 0) s) s))) f
 
--- ---- one vertex, as the code has it
+  -- 'persistence first'
+  order-first : (p : ℕ) → getD (order A p) 0 0 ≡ A .count + p
+  unfolding order persistence
+  order-first p = refl
 
-module _ (n : ℕ) (needs adds : List ℕ) (v : ℕ) where
-  pub needs-listed : needsOf (listedActions n needs adds) v ≡ vertexSet needs v
-  unfolding needsOf listedActions vertexSet
-  needs-listed = refl
+  -- 'Then actions .. in rising number'
+  order-then : (p a : ℕ) → a < A .count → getD (order A p) (a + 1) 0 ≡ a
+  unfolding order
+  order-then p a h = rw add-one (getD-listOver (A .count) (λ a. a) a h)
 
-  pub adds-listed : length adds ≡ length needs → addsOf (listedActions n needs adds) v ≡ vertexSet adds v
-  unfolding addsOf listedActions vertexSet
-  adds-listed e = ap (λ (x : ℕ). choose (below v x) (getD adds v 0) (single (v - x))) (sym e)
+  kept-adds : (p : ℕ) → So (bit p (addsOf A (A .count + p)))
+  unfolding addsOf
+  kept-adds p =
+      let e : A .count + p - A .count ≡ p = omega arith in
+      ap (bit p) (choose-failed _ _ _ (is-fails _ (below-not (A .count + p) (A .count) (omega arith))) ∙ ap single e) ∙ single-has p _ refl
 
-module _ (needs adds labels : List ℕ) (p v left marks : ℕ) (under : List ℕ) (alike : length adds ≡ length needs) (x : ℕ) (is : x ≡ vertexSet adds v) where
-  -- the vertex adds p and takes what it can
-  pub turn-takes : (l m : ℕ) (b : List ℕ) (y : ℕ) → So (bit p x) → y ≡ vertexSet needs v → l ≡ without left (common left (labelIn labels v))
-      → m ≡ choose (below v (length needs) and fails (same (common left (labelIn labels v)) 0)) (union marks (single v)) marks
-      → b ≡ listOver (length under) (λ q. union (labelIn under q) (keep (bit q y) (common left (labelIn labels v))))
-      → _≡_ {A = Support} (record { left = l; marks = m; needed = b })
-      (choose (bit p (addsOf (listedActions (length under) needs adds) v))
-      (takes (listedActions (length under) needs adds) labels v (record { left = left; marks = marks; needed = under }))
-      (record { left = left; marks = marks; needed = under }))
-  unfolding takes choose listedActions needsOf vertexSet
-  turn-takes l m b y h k e f g =
-      support-path e f
-      (g ∙ ap (λ (z : ℕ). listOver (length under) (λ q. union (labelIn under q) (keep (bit q z) (common left (labelIn labels v))))) k)
-      ∙ sym (ap (λ (c : Bool). choose c
-      (takes (listedActions (length under) needs adds) labels v (record { left = left; marks = marks; needed = under }))
-      (record { left = left; marks = marks; needed = under }))
-      (ap (bit p) (adds-listed (length under) needs adds v alike ∙ sym is) ∙ h))
+  -- the persistence of p takes what it can
+  pub search-kept : (p : ℕ) (s : Support) → length (s .needed) ≡ A .props
+      → searching A labels wanted p 0 s ≡ searching A labels wanted p 1 (took (labelIn labels (A .count + p)) (single p) 0 s)
+  search-kept p s long = ⊎-elim
+      (λ e.
+      search-clear p 0 s (same-at _ _ e) ∙ sym (search-clear p 1 s (same-at _ _ e))
+      ∙ ap (searching A labels wanted p 1) (sym (took-none _ _ _ s (ap (λ (x : ℕ). common x (labelIn labels (A .count + p))) (same-at _ _ e)))))
+      (λ e. search-on p 0 (A .count + p) s _ (order-first p) (omega arith) (λ q. fails-at _ e (same-of _ _ q))
+      (sym (choose-held _ _ _ (kept-adds p) ∙ takes-kept A labels s long p)))
+      (holds-or (same (s .left) 0))
 
-  -- or it does not
-  pub turn-not : bit p x ≡ false
-      → _≡_ {A = Support} (record { left = left; marks = marks; needed = under })
-      (choose (bit p (addsOf (listedActions (length under) needs adds) v))
-      (takes (listedActions (length under) needs adds) labels v (record { left = left; marks = marks; needed = under }))
-      (record { left = left; marks = marks; needed = under }))
-  unfolding choose
-  turn-not h =
-      sym (ap (λ (c : Bool). choose c
-      (takes (listedActions (length under) needs adds) labels v (record { left = left; marks = marks; needed = under }))
-      (record { left = left; marks = marks; needed = under }))
-      (ap (bit p) (adds-listed (length under) needs adds v alike ∙ sym is) ∙ h))
+  -- an action that adds p takes what it can
+  pub search-action : (p a : ℕ) (s : Support) → length (s .needed) ≡ A .props → a < A .count → (s .left ≡ 0 → ⊥) → So (bit p (addsOf A a))
+      → searching A labels wanted p (a + 1) s ≡ searching A labels wanted p (a + 1 + 1) (took (labelIn labels a) (A .pre a) (single a) s)
+  search-action p a s long h e t =
+      search-on p (a + 1) a s _ (order-then p a h) (omega arith) e (sym (choose-held _ _ _ t ∙ takes-action A labels s long a h))
 
--- lists that fit a row fit another as long
-pub lists-at : {row row' labels needs adds : List ℕ} → length row' ≡ length row → LayerLists row labels needs adds → LayerLists row' labels needs adds
-lists-at e s = record { props = omega (arith, s .props); lists = s .lists; labelled = omega (arith, s .labelled) }
+  -- one that does not is passed over
+  pass-one : (p a : ℕ) (s : Support) → (a < A .count → bit p (addsOf A a) ≡ false)
+      → searching A labels wanted p (a + 1) s ≡ searching A labels wanted p (a + 1 + 1) s
+  unfolding searching choose
+  pass-one p a s h = by-cases (decLt a (A .count))
+      (λ l. ⊎-elim
+      (λ e. search-clear p (a + 1) s (same-at _ _ e) ∙ sym (search-clear p (a + 1 + 1) s (same-at _ _ e)))
+      (λ e. search-on p (a + 1) a s s (order-then p a l) (omega arith) (λ q. fails-at _ e (same-of _ _ q))
+      (sym (ap (λ (b : Bool). choose b (takes A labels a s) s) (h l))))
+      (holds-or (same (s .left) 0)))
+      (λ l.
+      let one : length (order A p) ≤ a + 1 = omega (arith, order-length A p) in
+      let two : length (order A p) ≤ a + 1 + 1 = omega (arith, order-length A p) in
+      ap (λ (vs : List ℕ). after A labels wanted (A .props - suc p) p (support A labels p vs s))
+      (drop-of-length-le (order A p) one ∙ sym (drop-of-length-le (order A p) two)))
 
--- one vertex on, where the memory below is as long as the layer is wide
-pub turned : (n m : ℕ) (needs adds labels wanted : List ℕ) (p k v : ℕ) (s t : Support) → n ≡ m → v ≡ orderAt (length needs) p k → k ≤ length needs
-    → (s .left ≡ 0 → ⊥) → t ≡ choose (bit p (addsOf (listedActions n needs adds) v)) (takes (listedActions n needs adds) labels v s) s
-    → searching (listedActions m needs adds) labels wanted p k s ≡ searching (listedActions m needs adds) labels wanted p (k + 1) t
-unfolding listedActions
-turned n m needs adds labels wanted p k v s t e h l f q =
-    search-on (listedActions m needs adds) labels wanted p k v s t h l f
-    (q ∙ ap (λ (x : ℕ). choose (bit p (addsOf (listedActions x needs adds) v)) (takes (listedActions x needs adds) labels v s) s) e)
+  pass-over : (d p a : ℕ) (s : Support) → ((j : ℕ) → a ≤ j → j < a + d → j < A .count → bit p (addsOf A j) ≡ false)
+      → searching A labels wanted p (a + 1) s ≡ searching A labels wanted p (a + d + 1) s
+  pass-over zero p a s h = ap (λ (x : ℕ). searching A labels wanted p (x + 1) s) (sym (add-zero a))
+  pass-over (suc d) p a s h =
+      let e : a + 1 + d ≡ a + suc d = omega arith in
+      pass-one p a s (h a (omega arith) (omega arith))
+      ∙ pass-over d p (a + 1) s (λ j l m n. h j (omega arith) (omega arith) n)
+      ∙ ap (λ (x : ℕ). searching A labels wanted p (x + 1) s) e
 
--- a layer begins with nothing needed below
-pub cover-start : (n : ℕ) (needs adds labels wanted under : List ℕ) → under ≡ listOver n (λ q. 0)
-    → coverFrom (listedActions n needs adds) labels wanted n 0 0 under ≡ cover (listedActions n needs adds) labels wanted
-unfolding cover listedActions
-cover-start n needs adds labels wanted under e = ap (coverFrom (listedActions n needs adds) labels wanted n 0 0) e
+  -- up to action b
+  pub pass-to : (p a b : ℕ) (s : Support) → a ≤ b → ((j : ℕ) → a ≤ j → j < b → j < A .count → bit p (addsOf A j) ≡ false)
+      → searching A labels wanted p (a + 1) s ≡ searching A labels wanted p (b + 1) s
+  pass-to p a b s l h =
+      let e : a + (b - a) ≡ b = omega arith in
+      pass-over (b - a) p a s (λ j m n k. h j m (omega arith) k) ∙ ap (λ (x : ℕ). searching A labels wanted p (x + 1) s) e
+
+  -- propositions that are not wanted are passed over
+  rest-over : (d p marks : ℕ) (needed : List ℕ) → ((q : ℕ) → p ≤ q → q < p + d → q < A .props → labelIn wanted q ≡ 0)
+      → resting A labels wanted p marks needed ≡ resting A labels wanted (p + d) marks needed
+  rest-over zero p marks needed h = ap (λ (x : ℕ). resting A labels wanted x marks needed) (sym (add-zero p))
+  rest-over (suc d) p marks needed h =
+      let e : p + 1 + d ≡ p + suc d = omega arith in
+      by-cases (decLt p (A .props))
+      (λ l. rest-open p marks needed l ∙ search-clear p 0 _ (h p (omega arith) (omega arith) l))
+      (λ l. rest-end p marks needed (omega arith) ∙ sym (rest-end (p + 1) marks needed (omega arith)))
+      ∙ rest-over d (p + 1) marks needed (λ q l m n. h q (omega arith) (omega arith) n)
+      ∙ ap (λ (x : ℕ). resting A labels wanted x marks needed) e
+
+  pub rest-to : (p r marks : ℕ) (needed : List ℕ) → p ≤ r → ((q : ℕ) → p ≤ q → q < r → q < A .props → labelIn wanted q ≡ 0)
+      → resting A labels wanted p marks needed ≡ resting A labels wanted r marks needed
+  rest-to p r marks needed l h =
+      let e : p + (r - p) ≡ r = omega arith in
+      rest-over (r - p) p marks needed (λ q m n k. h q m (omega arith) k) ∙ ap (λ (x : ℕ). resting A labels wanted x marks needed) e
+
+  -- p is opened, and its persistence takes what it can
+  pub rest-kept : (p marks : ℕ) (needed : List ℕ) → p < A .props → length needed ≡ A .props
+      → resting A labels wanted p marks needed
+      ≡ searching A labels wanted p 1 (took (labelIn labels (A .count + p)) (single p) 0 (record { left = labelIn wanted p; marks = marks; needed = needed }))
+  rest-kept p marks needed l long = rest-open p marks needed l ∙ search-kept p _ long
+
+  -- a layer begins with nothing needed below
+  pub rest-all : (needed : List ℕ) → needed ≡ listOver (A .props) (λ q. 0) → cover A labels wanted ≡ resting A labels wanted 0 0 needed
+  unfolding cover resting
+  rest-all needed e =
+      ap (λ (l : List ℕ). coverFrom A labels wanted (A .props) 0 0 l) (sym e)
+      ∙ ap (λ (n : ℕ). coverFrom A labels wanted n 0 0 needed) (sym (sub-zero (A .props)))

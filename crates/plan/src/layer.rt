@@ -1,56 +1,117 @@
-// The search for support of one layer.
-use crate::vertex::next_place;
-use crate::vertex::turn;
-use crate::vertex::vertex;
+// One layer of a plan: for each proposition that is needed the vertices that support it, and what they need one layer down.
+use graph::layout::layer_size;
+use graph::layout::layer_start;
+use rules::Shape;
+use words::columns::spread;
+use words::members::lowest;
+use words::members::others;
 use words::sets::PROP_WIDTH;
+use words::sets::Props;
+use words::sets::wide;
 ghost use mathlib.Core.Path.{_≡_};
-ghost use Prim.Native.Nat.{_+_};
+ghost use Prim.Native.Nat.{_+_, _≤_, _<_, _^_};
 ghost use lib.ListN.{length};
-ghost use Rattle.rules.specs.Plan.{coverFrom, cover};
-ghost use Rattle.words.specs.Rows.{columnsOf};
-ghost use Rattle.plan.specs.Search.{listedActions, LayerLists, coveredAs};
+ghost use Rattle.rules.specs.Word as W;
+ghost use Rattle.rules.specs.Lists.{listOver};
+ghost use Rattle.rules.specs.Domain.{domain, shapeOf};
+ghost use Rattle.rules.specs.Layer.{actionsIn};
+ghost use Rattle.words.specs.Width.{propWidth};
+ghost use Rattle.graph.specs.Checks.{Room};
+ghost use Rattle.graph.specs.Limits.{maxActions};
+ghost use Rattle.plan.specs.Search.{listedActions, listedShape, Tables, Live, Turned, LayerLists, Covers};
 
-// The actions marked, or states left uncovered.
+// The actions marked and the propositions needed below; or states are left uncovered.
 pub enum LayerAnswer {
-    Marked(u32),
+    Marked(u32, u32),
     Uncovered,
 }
 
-// Each proposition's states are carried to the layer below; of the actions only its adders come up.
+// The states still uncovered, the actions marked, and the propositions needed below.
+pub struct Took {
+    pub left: u64,
+    pub marks: u32,
+    pub live: u32,
+}
+
+// The persistence of p takes what it can of the states left.
+fn carry(s: Took, p: usize, label: u64, under: &mut [u64]) -> Took
+    requires { ⌜ (p < length (now under)) × (length (now under) ≤ propWidth) × Live (s .live) (now under) ⌝ }
+    ensures { λ r. ⌜ Turned label (W.single p) 0 s (now (under .entry)) r (now (under .exit)) ⌝ }
+{
+    let t = s.left & label;
+    if t == 0 {
+        return s;
+    }
+    under[p] = under[p] | t;
+    Took {
+        left: s.left ^ (s.left & t),
+        marks: s.marks,
+        live: Props(s.live).union(Props::single(p)).0,
+    }
+}
+
+// Action a takes what it can of the states left; one that takes some is marked.
+fn turn(s: Took, a: usize, label: u64, needs: u32, under: &mut [u64]) -> Took
+    requires { ⌜ (a < maxActions) × (needs < 2 ^ length (now under)) × (length (now under) ≤ propWidth) × Live (s .live) (now under) ⌝ }
+    ensures { λ r. ⌜ Turned label needs (W.single a) s (now (under .entry)) r (now (under .exit)) ⌝ }
+{
+    let t = s.left & label;
+    if t == 0 {
+        return s;
+    }
+    spread(&mut *under, Props(needs), t);
+    Took {
+        left: s.left ^ (s.left & t),
+        marks: Props(s.marks).union(Props::single(a)).0,
+        live: s.live | needs,
+    }
+}
+
+// Each proposition's states are carried to the layer below: first by its persistence, then by its adders, rising.
 fn support(
     wanted: &[u64],
+    live: u32,
     labels: &[u64],
     needs: &[u32],
-    adds: &[u32],
     adders: &[u64],
     under: &mut [u64],
 ) -> LayerAnswer
-    requires { ⌜ LayerLists (now wanted) (now labels) (now needs) (now adds) × (length (now under) ≡ length (now wanted)) × (now adders ≡ columnsOf (length (now wanted)) (now adds)) ⌝ }
-    ensures { λ r. ⌜ coveredAs r (now (under .exit))
-        ≡ coverFrom (listedActions (length (now (wanted .entry))) (now (needs .entry)) (now (adds .entry))) (now (labels .entry)) (now (wanted .entry)) (length (now (wanted .entry))) 0 0 (now (under .entry)) ⌝ }
+    requires { ⌜ LayerLists (now wanted) live (now labels) (now needs) (now adders) × (now under ≡ listOver (length (now adders)) (λ q. 0)) ⌝ }
+    ensures { λ r. ⌜ Covers (listedActions (now (needs .entry)) (now (adders .entry))) (now (labels .entry)) (now (wanted .entry)) r (now (under .exit)) ⌝ }
 {
-    let mut marks: u32 = 0;
-    let mut p = 0;
-    'props: while p < wanted.len() {
-        let mut left = wanted[p];
-        let mut k = 0;
-        while k <= needs.len() {
-            if left == 0 {
-                p += 1;
+    let mut s = Took {
+        left: 0,
+        marks: 0,
+        live: 0,
+    };
+    let mut props = wide(live);
+    'props: while 0 < props {
+        let p = lowest(props);
+        props = others(props);
+        s = carry(
+            Took {
+                left: wanted[p],
+                marks: s.marks,
+                live: s.live,
+            },
+            p,
+            labels[needs.len() + p],
+            &mut *under,
+        );
+        let mut by = adders[p];
+        while 0 < by {
+            if s.left == 0 {
                 continue 'props;
             }
-            let v = vertex(k, p, needs.len());
-            let took = turn(left, marks, v, p, labels, needs, adds, &mut *under);
-            left = took.left;
-            marks = took.marks;
-            k = next_place(adders[p], k);
+            let a = lowest(by);
+            s = turn(s, a, labels[a], needs[a], &mut *under);
+            by = others(by);
         }
-        if left != 0 {
+        if s.left != 0 {
             return LayerAnswer::Uncovered;
         }
-        p += 1;
     }
-    LayerAnswer::Marked(marks)
+    LayerAnswer::Marked(s.marks, s.live)
 }
 
 // `to` becomes `from`.
@@ -66,33 +127,47 @@ fn replace(to: &mut [u64], from: &[u64])
 // What is needed becomes what is needed below, by way of the memory `under`.
 fn down(
     needed: &mut [u64],
+    live: u32,
     labels: &[u64],
     needs: &[u32],
-    adds: &[u32],
     adders: &[u64],
     under: &mut [u64],
 ) -> LayerAnswer
-    requires { ⌜ LayerLists (now needed) (now labels) (now needs) (now adds) × (length (now under) ≡ length (now needed)) × (now adders ≡ columnsOf (length (now needed)) (now adds)) ⌝ }
-    ensures { λ r. ⌜ coveredAs r (now (needed .exit))
-        ≡ coverFrom (listedActions (length (now (needed .entry))) (now (needs .entry)) (now (adds .entry))) (now (labels .entry)) (now (needed .entry)) (length (now (needed .entry))) 0 0 (now (under .entry)) ⌝ }
+    requires { ⌜ LayerLists (now needed) live (now labels) (now needs) (now adders) × (now under ≡ listOver (length (now adders)) (λ q. 0)) ⌝ }
+    ensures { λ r. ⌜ Covers (listedActions (now (needs .entry)) (now (adders .entry))) (now (labels .entry)) (now (needed .entry)) r (now (needed .exit)) ⌝ }
 {
-    let answer = support(&*needed, labels, needs, adds, adders, &mut *under);
+    let answer = support(&*needed, live, labels, needs, adders, &mut *under);
     replace(&mut *needed, &*under);
     answer
 }
 
-// One layer down, from nothing needed below.
-pub fn step_down(
+// From layer t + 1 down to layer t, by the action layer between them.
+pub fn fall(
     needed: &mut [u64],
-    labels: &[u64],
+    live: u32,
+    words: &[u64],
+    t: usize,
     needs: &[u32],
-    adds: &[u32],
     adders: &[u64],
 ) -> LayerAnswer
-    requires { ⌜ LayerLists (now needed) (now labels) (now needs) (now adds) × (now adders ≡ columnsOf (length (now needed)) (now adds)) ⌝ }
-    ensures { λ r. ⌜ coveredAs r (now (needed .exit)) ≡ cover (listedActions (length (now (needed .entry))) (now (needs .entry)) (now (adds .entry))) (now (labels .entry)) (now (needed .entry)) ⌝ }
+    requires { ⌜ Tables (now needs) (now adders) × Room (listedShape (now needs) (now adders)) (t + 1) (now words) × (length (now needed) ≡ length (now adders)) × Live live (now needed) ⌝ }
+    ensures { λ r. ⌜ Covers (listedActions (now (needs .entry)) (now (adders .entry)))
+        (actionsIn (shapeOf (domain (listedActions (now (needs .entry)) (now (adders .entry))))) (now (words .entry)) t) (now (needed .entry)) r (now (needed .exit)) ⌝ }
 {
-    let n = needed.len();
+    let n = adders.len();
+    let s = Shape {
+        props: n,
+        vertices: needs.len() + n,
+    };
+    let at = layer_start(s, t) + layer_size(n);
+    let end = at + layer_size(s.vertices);
     let mut under = [0u64; PROP_WIDTH];
-    down(&mut *needed, labels, needs, adds, adders, &mut under[..n])
+    down(
+        needed,
+        live,
+        &words[at..end],
+        needs,
+        adders,
+        &mut under[..n],
+    )
 }

@@ -14,7 +14,7 @@ use Rattle.rules.proofs.Tests.{choose-held, choose-failed, below-of, below-not,
 use Rattle.rules.proofs.Firsts.{first-le}
 use Rattle.graph.specs.Limits.{maxDepth}
 use Rattle.report.specs.Decimal.{decimal}
-use Rattle.report.specs.Text.{restText, restFrom, levelText, cellText, levelFrom, cellsText, lineText, headText, stateText}
+use Rattle.report.specs.Text.{restText, restFrom, levelText, cellText, levelFrom, cellsText, lineText, headText, stateText, threeDigits, headRoom}
 use Rattle.report.proofs.Texts.{decimal-length, runs-length}
 
 -- ---- the rest
@@ -26,7 +26,7 @@ module _ (u depth : ℕ) where
   pub rest-unknown : depth ≤ u → 63 ∷ [] ≡ restText (restFrom u depth)
   rest-unknown h = ap restText (sym (choose-failed (below u depth) (restsAt u) none (is-fails _ (below-not u depth h))))
 
-  pub rest-short : depth < 1000 → length (restText (restFrom u depth)) ≤ 3
+  pub rest-short : depth < threeDigits → length (restText (restFrom u depth)) ≤ 3
   unfolding choose
   rest-short h = go (below u depth) (λ e. below-at u depth e)
     where
@@ -54,7 +54,7 @@ module _ (t u depth : ℕ) where
   level-unknown h l =
       ap (λ (x : Level). cellText x) (sym (met-at-none h ∙ choose-failed (below u depth) never notByDepth (is-fails _ (below-not u depth l))))
 
-  level-short : t < 1000 → length (levelText (levelFrom t u depth)) ≤ 3
+  level-short : t < threeDigits → length (levelText (levelFrom t u depth)) ≤ 3
   unfolding choose
   level-short h = go (below t (suc depth)) (below u depth)
     where
@@ -98,7 +98,7 @@ module _ (S : Shape) (depth : ℕ) (words : List ℕ) (deep : depth ≤ maxDepth
         length-append (decimal s) (lineText (S .props) (λ p. levelOf S depth (single s) (single p) words)),
       )
 
-pub head-short : (depth u : ℕ) → depth < 1000 → length (headText depth (restFrom u depth)) ≤ 19
+pub head-short : (depth u : ℕ) → depth < threeDigits → length (headText depth (restFrom u depth)) ≤ headRoom
 unfolding headText
 head-short depth u h =
     omega (

@@ -89,6 +89,14 @@ verdictText file (refused number place) = refusedText number place
 unfoldable pub levelsText : List ℕ → List ℕ
 levelsText file = verdictText file (fileRule file)
 
+-- a number below this one has up to three digits, as every depth, rest and level has
+abbrev pub threeDigits : ℕ
+threeDigits = 1000
+
+-- no first line is longer
+abbrev pub headRoom : ℕ
+headRoom = 19
+
 -- no text is longer: a first line of 19 bytes, 64 lines of 132 and one of 133
 abbrev pub textRoom : ℕ
 textRoom = 8600

@@ -117,7 +117,7 @@ fn put_all(
 
 // The layer that rests, or `?` where none does.
 fn put_rest(out: &mut [u8], at: usize, rest: usize, depth: usize) -> usize
-    requires { ⌜ (depth < 1000) × (at + 3 ≤ length (now out)) ⌝ }
+    requires { ⌜ (depth < T.threeDigits) × (at + 3 ≤ length (now out)) ⌝ }
     ensures { λ r. ⌜ Wrote (now (out .entry)) at (T.restText (T.restFrom rest depth)) (now (out .exit)) r ⌝ }
 {
     if rest < depth {
@@ -128,7 +128,7 @@ fn put_rest(out: &mut [u8], at: usize, rest: usize, depth: usize) -> usize
 
 // The first line.
 fn put_head(out: &mut [u8], rest: usize, depth: usize) -> usize
-    requires { ⌜ (depth < 1000) × (19 ≤ length (now out)) ⌝ }
+    requires { ⌜ (depth < T.threeDigits) × (T.headRoom ≤ length (now out)) ⌝ }
     ensures { λ r. ⌜ Wrote (now (out .entry)) 0 (T.headText depth (T.restFrom rest depth)) (now (out .exit)) r ⌝ }
 {
     let number = put(&mut *out, 0, b"depth ");

@@ -4,7 +4,7 @@ ghost use Prim.Native.Nat.{_+_, _≤_, _<_};
 ghost use lib.ListN.{length};
 ghost use Rattle.report.specs.Decimal.{decimal};
 ghost use Rattle.report.specs.Decimal.{digit as Decimal·digit};
-ghost use Rattle.report.specs.Text.{cellText, levelFrom};
+ghost use Rattle.report.specs.Text.{cellText, levelFrom, threeDigits};
 ghost use Rattle.report.specs.Wrote.{Wrote};
 
 pub fn put(out: &mut [u8], at: usize, text: &[u8]) -> usize
@@ -38,7 +38,7 @@ pub fn put_decimal(out: &mut [u8], at: usize, n: usize) -> usize
 
 // A space and the level: the first layer that meets the goal, `-` where there is none and the graph rests, `?` where it does not.
 pub fn put_level(out: &mut [u8], at: usize, t: usize, rest: usize, depth: usize) -> usize
-    requires { ⌜ (t < 1000) × (depth < 1000) × (at + 4 ≤ length (now out)) ⌝ }
+    requires { ⌜ (t < threeDigits) × (depth < threeDigits) × (at + 4 ≤ length (now out)) ⌝ }
     ensures { λ r. ⌜ Wrote (now (out .entry)) at (cellText (levelFrom t rest depth)) (now (out .exit)) r ⌝ }
 {
     let next = put(&mut *out, at, b" ");

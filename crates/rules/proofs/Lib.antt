@@ -5,6 +5,8 @@ pub mod Overs
 pub mod Firsts
 pub mod Layers
 pub mod Members
+pub mod Togethers
+pub mod Steps
 pub mod Order
 pub mod Domains
 pub mod Bounds

@@ -6,89 +6,152 @@ use mathlib.Core.Bool.{Bool, true, false, So}
 use mathlib.Core.Logic.{⊎-elim}
 use lib.Count.{trailingZeros}
 use lib.ListN.{length, getD}
-use Rattle.rules.specs.Test.{_and_, _or_, fails, choose}
-use Rattle.rules.specs.Word.{bit, union, without, within, first}
+use Rattle.rules.specs.Test.{_and_, _or_, fails, same, below, choose}
+use Rattle.rules.specs.Word.{bit, common, union, without, within, first}
 use Rattle.rules.specs.Over.{meetOf}
 use Rattle.rules.specs.Lists.{listOver}
 use Rattle.rules.specs.Domain.{Actions}
 use Rattle.rules.specs.Run.{ready, after, stepped}
 use Rattle.rules.proofs.Tests.{test-eq, holds-or, fails-at, and-of, and-left, and-right, or-left, or-right, or-at}
-use Rattle.rules.proofs.Tests.{implies-of, implies-at, below-of, choose-held}
+use Rattle.rules.proofs.Tests.{implies-of, implies-at, below-of, same-of, same-at, choose-held}
 use Rattle.rules.proofs.Overs.{all-of, all-at}
-use Rattle.rules.proofs.Words.{bit-union, bit-without, bit-zero, bit-first, ext-all, within-of, within-at}
+use Rattle.rules.proofs.Words.{bit-common, bit-union, bit-without, bit-first, bit-below, ext, ext-all, within-of, within-at}
+use Rattle.rules.proofs.Words.{common-lt, union-lt, without-lt, first-lt}
 use Rattle.rules.proofs.Members.{meetOf-at, meetOf-of}
 use Rattle.rules.proofs.Layers.{length-listOver, getD-listOver, listOver-eq}
 use Rattle.words.specs.Width.{propWidth, stateWidth, wordWidth}
 use Rattle.words.proofs.MemberLoops.{lowest-in, lowest-lt}
-use Rattle.run.specs.Course.{Some, came, further, setsOf}
+use Rattle.run.specs.Course.{Some, came, spareOf, stayOf, plusOf, further, setsOf}
 use Rattle.run.specs.declared.step.Course.{Course}
-
-abbrev pub courseOf : ℕ → ℕ → Course
-courseOf removed added = record { removed = removed; added = added }
 
 -- ---- one state
 
-bit-came : (p : ℕ) (w : Course) (x : ℕ) → bit p (came w x) ≡ ((bit p x and fails (bit p (w .removed))) or bit p (w .added))
+bit-came : (p : ℕ) (w : Course) (x : ℕ) → bit p (came w x) ≡ ((bit p x and bit p (w .kept)) or bit p (w .now))
 unfolding came
-bit-came p w x =
-    bit-union p (without x (w .removed)) (w .added) ∙ ap (λ (b : Bool). b or bit p (w .added)) (bit-without p x (w .removed))
+bit-came p w x = bit-union p (common x (w .kept)) (w .now) ∙ ap (λ (b : Bool). b or bit p (w .now)) (bit-common p x (w .kept))
 
-not-none : (b : Bool) → ((b and fails false) or false) ≡ b
+pub came-lt : (w : Course) (x : ℕ) → w .now < 2 ^ propWidth → x < 2 ^ propWidth → came w x < 2 ^ propWidth
+unfolding came
+came-lt w x h l = union-lt propWidth _ _ (common-lt propWidth x (w .kept) l) h
+
+-- before the first step a state that has what all have, has what it started with
+came-new : (w : Course) (x : ℕ) → w .kept ≡ first propWidth → x < 2 ^ propWidth → ((p : ℕ) → So (bit p (w .now)) → So (bit p x)) → came w x ≡ x
+came-new w x k h sub = ext-all _ _ (λ p. bit-came p w x ∙ test-eq _ _
+    (λ t. ⊎-elim (λ u. and-left _ _ u) (sub p) (or-at _ _ t))
+    (λ t. or-left _ _ (and-of _ _ t (ap (bit p) k ∙ bit-first p propWidth ∙ below-of _ _ (bit-below p x propWidth h t)))))
+
+-- of what it started with, what is kept, what all have, and what a step lets stay and adds
+one-more : (x k n s q : Bool) → ((((x and k) or n) and s) or q) ≡ ((x and (k and s)) or ((n and s) or q))
+unfolding _and_ _or_
+one-more false k n s q = refl
+one-more true false n s q = refl
+one-more true true n true q = refl
+one-more true true true false q = refl
+one-more true true false false q = refl
+
+-- what a step makes of a word
+unfoldable moved : ℕ → ℕ → ℕ → ℕ
+moved stay plus x = union (common x stay) plus
+
+came-further : (stay plus : ℕ) (w : Course) (x : ℕ) → moved stay plus (came w x) ≡ came (further stay plus w) x
+unfolding further moved
+came-further stay plus w x = ext-all _ _ (λ p.
+    bit-union p (common (came w x) stay) plus
+    ∙ ap (λ (b : Bool). b or bit p plus) (bit-common p (came w x) stay ∙ ap (λ (b : Bool). b and bit p stay) (bit-came p w x))
+    ∙ one-more (bit p x) (bit p (w .kept)) (bit p (w .now)) (bit p stay) (bit p plus)
+    ∙ sym (bit-came p (further stay plus w) x
+    ∙ ap₂ (λ (y z : Bool). (bit p x and y) or z) (bit-common p (w .kept) stay)
+    (bit-union p (common (w .now) stay) plus ∙ ap (λ (b : Bool). b or bit p plus) (bit-common p (w .now) stay))))
+
+-- 'its adds are joined and after that its deletes removed'
+deletes-last : (x l a d : Bool) → (So x → So l) → ((x and (l and fails d)) or (a and fails d)) ≡ ((x or a) and fails d)
 unfolding _and_ _or_ fails
-not-none true = refl
-not-none false = refl
+deletes-last false l a d h = refl
+deletes-last true true a false h = refl
+deletes-last true true true true h = refl
+deletes-last true true false true h = refl
+deletes-last true false a d h = absurd (fails-at false refl (h refl))
 
--- before the first step it has what it started with
-came-new : (w : Course) (x : ℕ) → w .removed ≡ 0 → w .added ≡ 0 → came w x ≡ x
-came-new w x r a = ext-all _ _ (λ p.
-    bit-came p w x ∙ ap₂ (λ (y z : Bool). (bit p x and fails y) or z) (ap (bit p) r ∙ bit-zero p) (ap (bit p) a ∙ bit-zero p) ∙ not-none (bit p x))
+moved-is : (A : Actions) (a x : ℕ) → x < 2 ^ propWidth → moved (stayOf A a) (plusOf A a) x ≡ after A a x
+unfolding after stayOf plusOf moved
+moved-is A a x h = ext-all _ _ (λ p.
+    bit-union p (common x (without (first propWidth) (A .del a))) (without (A .add a) (A .del a))
+    ∙ ap₂ _or_
+    (bit-common p x (without (first propWidth) (A .del a))
+    ∙ ap (λ (b : Bool). bit p x and b) (bit-without p (first propWidth) (A .del a)
+    ∙ ap (λ (b : Bool). b and fails (bit p (A .del a))) (bit-first p propWidth)))
+    (bit-without p (A .add a) (A .del a))
+    ∙ deletes-last (bit p x) (below p propWidth) (bit p (A .add a)) (bit p (A .del a)) (λ t. below-of _ _ (bit-below p x propWidth h t))
+    ∙ sym (bit-without p (union x (A .add a)) (A .del a) ∙ ap (λ (b : Bool). b and fails (bit p (A .del a))) (bit-union p x (A .add a))))
 
--- of what it started with, what was removed, what was added, and what a step adds and deletes
-one-more : (x r a p d : Bool) → ((((x and fails r) or a) or p) and fails d) ≡ ((x and fails (r or d)) or ((a or p) and fails d))
-unfolding _and_ _or_ fails
-one-more false r a p d = refl
-one-more true true a p d = refl
-one-more true false a p false = refl
-one-more true false true p true = refl
-one-more true false false true true = refl
-one-more true false false false true = refl
+-- what all have, and how it stays small
+pub now-further : (stay plus : ℕ) (w : Course) (sure : ℕ) → came w sure ≡ w .now → came (further stay plus w) sure ≡ further stay plus w .now
+unfolding further moved
+now-further stay plus w sure e = sym (came-further stay plus w sure) ∙ ap (moved stay plus) e
 
--- a step does the same to the state, told of it alone or of all steps so far
-came-further : (add del : ℕ) (w : Course) (x : ℕ) → without (union (came w x) add) del ≡ came (further add del w) x
+pub small-further : (stay plus : ℕ) (w : Course) → w .now < 2 ^ propWidth → plus < 2 ^ propWidth → further stay plus w .now < 2 ^ propWidth
 unfolding further
-came-further add del w x = ext-all _ _ (λ p.
-    bit-without p (union (came w x) add) del
-    ∙ ap (λ (b : Bool). b and fails (bit p del)) (bit-union p (came w x) add ∙ ap (λ (b : Bool). b or bit p add) (bit-came p w x))
-    ∙ one-more (bit p x) (bit p (w .removed)) (bit p (w .added)) (bit p add) (bit p del)
-    ∙ sym (bit-came p (further add del w) x
-    ∙ ap₂ (λ (y z : Bool). (bit p x and fails y) or z) (bit-union p (w .removed) del)
-    (bit-without p (union (w .added) add) del ∙ ap (λ (b : Bool). b and fails (bit p del)) (bit-union p (w .added) add))))
+small-further stay plus w h l = union-lt propWidth _ _ (common-lt propWidth (w .now) stay h) l
+
+-- ---- one precondition
+
+-- all there is, of what all have and what is not needed: what is needed is there
+pub spare-bits : (A : Actions) (a now : ℕ) → A .pre a < 2 ^ propWidth → ((p : ℕ) → p < propWidth → So (bit p (union now (spareOf A a)))) → So (within (A .pre a) now)
+unfolding spareOf
+spare-bits A a now h full = within-of propWidth (A .pre a) now h (λ p l t. ⊎-elim
+    (λ u. u)
+    (λ u. absurd (fails-at _ (and-right _ _ (sym (bit-without p (first propWidth) (A .pre a)) ∙ u)) t))
+    (or-at _ _ (sym (bit-union p now _) ∙ full p l)))
+
+pub full-bits : (w p : ℕ) → p < propWidth → So (same w (first propWidth)) → So (bit p w)
+full-bits w p l t = ap (bit p) (same-at _ _ t) ∙ bit-first p propWidth ∙ below-of _ _ l
+
+spare-lt : (A : Actions) (a : ℕ) → spareOf A a < 2 ^ propWidth
+unfolding spareOf
+spare-lt A a = without-lt propWidth (first propWidth) (A .pre a) (first-lt propWidth)
+
+spare-there : (A : Actions) (a now p : ℕ) → So (within (A .pre a) now) → p < propWidth → So (bit p (union now (spareOf A a)))
+unfolding spareOf
+spare-there A a now p t l =
+    bit-union p now _
+    ∙ ⊎-elim
+    (λ u. or-left _ _ (within-at (A .pre a) now p t u))
+    (λ u. or-right _ _ (bit-without p (first propWidth) (A .pre a) ∙ and-of _ _ (bit-first p propWidth ∙ below-of _ _ l) u))
+    (holds-or (bit p (A .pre a)))
+
+pub spare-is : (A : Actions) (a now : ℕ) → A .pre a < 2 ^ propWidth → now < 2 ^ propWidth
+    → same (union now (spareOf A a)) (first propWidth) ≡ within (A .pre a) now
+spare-is A a now h small = test-eq _ _
+    (λ t. spare-bits A a now h (λ p l. full-bits _ p l t))
+    (λ t. same-of _ _ (ext propWidth _ _ (union-lt propWidth now _ small (spare-lt A a)) (first-lt propWidth) (λ p l.
+    spare-there A a now p t l ∙ sym (bit-first p propWidth ∙ below-of _ _ l))))
 
 -- ---- all states
 
-module _ (n : ℕ) (start : ℕ → ℕ) (set : ℕ) where
-  pub sets-new : (w : Course) → w .removed ≡ 0 → w .added ≡ 0 → listOver n start ≡ setsOf n start set w
-  unfolding setsOf choose
-  sets-new w r a = listOver-eq n _ _ (λ s l. go (start s) (bit s set))
-    where
-      go : (x : ℕ) (b : Bool) → x ≡ choose b (came w x) x
-      go x true = sym (came-new w x r a)
-      go x false = refl
-
+module _ (n : ℕ) (start : ℕ → ℕ) (set : ℕ) (narrow : (s : ℕ) → s < n → start s < 2 ^ propWidth) where
   pub sets-length : (w : Course) → length (setsOf n start set w) ≡ n
   unfolding setsOf
   sets-length w = length-listOver n _
 
-  pub sets-further : (A : Actions) (a : ℕ) (w : Course) → stepped A n set a (setsOf n start set w) ≡ setsOf n start set (further (A .add a) (A .del a) w)
-  unfolding stepped after setsOf choose
-  sets-further A a w = listOver-eq n _ _ (λ s l.
-      ap (λ (x : ℕ). choose (bit s set) (without (union x (A .add a)) (A .del a)) x) (getD-listOver n _ s l) ∙ go (start s) (bit s set))
+  pub sets-new : (w : Course) → w .kept ≡ first propWidth → w .now ≡ meetOf n set start (first propWidth) → listOver n start ≡ setsOf n start set w
+  unfolding setsOf choose
+  sets-new w k e = listOver-eq n _ _ (λ s l. go s l (bit s set) refl)
     where
-      go : (x : ℕ) (b : Bool)
-          → choose b (without (union (choose b (came w x) x) (A .add a)) (A .del a)) (choose b (came w x) x)
-          ≡ choose b (came (further (A .add a) (A .del a) w) x) x
-      go x true = came-further (A .add a) (A .del a) w x
-      go x false = refl
+      go : (s : ℕ) → s < n → (b : Bool) → bit s set ≡ b → start s ≡ choose b (came w (start s)) (start s)
+      go s l true t = sym (came-new w (start s) k (narrow s l) (λ p u. meetOf-at p n set (first propWidth) start (sym (ap (bit p) e) ∙ u) .1 s l t))
+      go s l false t = refl
+
+  pub sets-further : (A : Actions) (a : ℕ) (w : Course) → w .now < 2 ^ propWidth
+      → stepped A n set a (setsOf n start set w) ≡ setsOf n start set (further (stayOf A a) (plusOf A a) w)
+  unfolding stepped setsOf choose
+  sets-further A a w h = listOver-eq n _ _ (λ s l.
+      ap (λ (x : ℕ). choose (bit s set) (after A a x) x) (getD-listOver n _ s l) ∙ go (start s) (narrow s l) (bit s set))
+    where
+      go : (x : ℕ) → x < 2 ^ propWidth → (b : Bool)
+          → choose b (after A a (choose b (came w x) x)) (choose b (came w x) x)
+          ≡ choose b (came (further (stayOf A a) (plusOf A a) w) x) x
+      go x l true = sym (moved-is A a (came w x) (came-lt w x h l)) ∙ came-further (stayOf A a) (plusOf A a) w x
+      go x l false = refl
 
   -- the set of a state of the set
   set-in : (w : Course) (s : ℕ) → s < n → So (bit s set) → getD (setsOf n start set w) s 0 ≡ came w (start s)
@@ -104,7 +167,7 @@ module _ (n : ℕ) (start : ℕ → ℕ) (set : ℕ) where
     sure-of p h each = ap (bit p) is ∙ meetOf-of p n set (first propWidth) start (bit-first p propWidth ∙ below-of _ _ h) each
 
     -- a proposition that came to all states of the set, and was not added
-    kept-in : (p : ℕ) → p < propWidth → ((s : ℕ) → s < n → So (bit s set) → So (bit p (start s) and fails (bit p (w .removed)))) → So (bit p (came w sure))
+    kept-in : (p : ℕ) → p < propWidth → ((s : ℕ) → s < n → So (bit s set) → So (bit p (start s) and bit p (w .kept))) → So (bit p (came w sure))
     kept-in p h each =
         bit-came p w sure
         ∙ or-left _ _ (and-of _ _ (sure-of p h (λ s l t. and-left _ _ (each s l t)))
@@ -115,7 +178,7 @@ module _ (n : ℕ) (start : ℕ → ℕ) (set : ℕ) where
     came-all p h each = ⊎-elim
         (λ t. bit-came p w sure ∙ or-right _ _ t)
         (λ f. kept-in p h (λ s l t. ⊎-elim (λ k. k) (λ a. absurd (fails-at _ f a)) (or-at _ _ (sym (bit-came p w (start s)) ∙ each s l t))))
-        (holds-or (bit p (w .added)))
+        (holds-or (bit p (w .now)))
 
     came-each : (p s : ℕ) → So (bit p (came w sure)) → s < n → So (bit s set) → So (bit p (came w (start s)))
     came-each p s t l i =

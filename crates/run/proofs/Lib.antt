@@ -2,4 +2,5 @@
 pub mod Sequences
 pub mod Courses
 pub mod Steps
+pub mod Walks
 pub mod Built

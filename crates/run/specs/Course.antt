@@ -1,12 +1,19 @@
 -- What the steps of a run have done to the states of the set, told once for all of them.
-use Prim.Native.Nat.{ℕ, _<_, _^_}
+use Prim.Native.Nat.{ℕ, zero, suc, _≤_, _<_, _^_}
+use mathlib.Core.Path.{_≡_}
+use mathlib.Core.Bool.{false, So}
 use mathlib.Core.List.{List}
 use lib.ListN.{length, getD}
-use Rattle.rules.specs.Test.{choose}
-use Rattle.rules.specs.Word.{bit, union, without, within}
+use Rattle.rules.specs.Test.{same, choose}
+use Rattle.rules.specs.Word.{bit, common, union, without, first}
+use Rattle.rules.specs.Over.{meetOver}
 use Rattle.rules.specs.Lists.{listOver}
 use Rattle.rules.specs.Domain.{Actions}
+use Rattle.words.specs.Width.{propWidth}
+use Rattle.graph.specs.File.{Taken}
+use Rattle.graph.specs.declared.format.Counts.{Counts}
 use Rattle.run.specs.declared.step.Course.{Course}
+use Rattle.run.specs.declared.step.Walked.{Walked}
 use Rattle.run.specs.declared.step.Stepped.{Stepped}
 use Rattle.run.specs.declared.step.Stepped.the-variants as did
 
@@ -19,17 +26,67 @@ pub record Some (n set : ℕ) : Type 0 where
   pub some : 0 < set
   pub inside : set < 2 ^ n
 
+-- what a run goes by once every check is passed
+pub record Checked (file : List ℕ) (c : Counts) (set : ℕ) (list out : List ℕ) : Type 0 where
+  pub taken : Taken file c
+  pub some : Some (c .states) set
+  pub known : Known (c .actions) list
+  pub fits : c .states ≤ length out
+
+-- three lists with a word for each of n actions
+pub record PerAction (n : ℕ) (spares stays pluses : List ℕ) : Type 0 where
+  pub spare : length spares ≡ n
+  pub stay : length stays ≡ n
+  pub plus : length pluses ≡ n
+
 -- what a state of the set has, if it started with x
 unfoldable pub came : Course → ℕ → ℕ
-came w x = union (without x (w .removed)) (w .added)
+came w x = union (common x (w .kept)) (w .now)
 
--- the same with one step more, 'its adds are joined and after that its deletes removed'
+-- of an action: all that it does not need
+unfoldable pub spareOf : Actions → ℕ → ℕ
+spareOf A a = without (first propWidth) (A .pre a)
+
+-- 'its adds are joined and after that its deletes removed': what stays, and what it adds to that
+unfoldable pub stayOf : Actions → ℕ → ℕ
+stayOf A a = without (first propWidth) (A .del a)
+
+unfoldable pub plusOf : Actions → ℕ → ℕ
+plusOf A a = without (A .add a) (A .del a)
+
+-- one step more
 unfoldable pub further : ℕ → ℕ → Course → Course
-further add del w = record { removed = union (w .removed) del; added = without (union (w .added) add) del }
+further stay plus w = record { now = union (common (w .now) stay) plus; kept = common (w .kept) stay }
 
--- what a step answers, given what all states of the set started with
-unfoldable pub stepAnswer : Actions → ℕ → Course → ℕ → Stepped
-stepAnswer A sure w a = choose (within (A .pre a) (came w sure)) (did.Moved (further (A .add a) (A .del a) w)) did.Missing
+-- what a step answers: what all states of the set have is to make up, with what it does not need, all there is
+unfoldable pub stepAnswer : Course → ℕ → ℕ → ℕ → Stepped
+stepAnswer w spare stay plus = choose (same (union (w .now) spare) (first propWidth)) (did.Moved (further stay plus w)) did.Missing
+
+-- the course after the first i steps of the list, whose actions' words stand in two lists
+unfoldable pub courseAt : List ℕ → List ℕ → List ℕ → Course → ℕ → Course
+courseAt stays pluses list w zero = w
+courseAt stays pluses list w (suc i) = further (getD stays (getD list i 0) 0) (getD pluses (getD list i 0) 0) (courseAt stays pluses list w i)
+
+-- full just when step i has its precondition
+unfoldable pub heldAt : List ℕ → List ℕ → List ℕ → List ℕ → Course → ℕ → ℕ
+heldAt spares stays pluses list w i = union (courseAt stays pluses list w i .now) (getD spares (getD list i 0) 0)
+
+-- the lists have the words of each action of the list
+pub record Tables (spares stays pluses list : List ℕ) : Type 0 where
+  pub known : Known (length spares) list
+  pub as-stays : length stays ≡ length spares
+  pub as-pluses : length pluses ≡ length spares
+
+-- where the steps of the list lead, and whether each had its precondition
+pub record Walks (spares stays pluses list : List ℕ) (w : Course) (r : Walked) : Type 0 where
+  pub course-is : r .course ≡ courseAt stays pluses list w (length list)
+  pub held-is : r .held ≡ meetOver (length list) (heldAt spares stays pluses list w) (first propWidth)
+
+-- the steps before r have their preconditions, and step r, if there is one, lacks it
+pub record Stops (spares stays pluses list : List ℕ) (w : Course) (r : ℕ) : Type 0 where
+  pub inside : r ≤ length list
+  pub before : (k : ℕ) → k < r → So (same (heldAt spares stays pluses list w k) (first propWidth))
+  pub at : r < length list → same (heldAt spares stays pluses list w r) (first propWidth) ≡ false
 
 -- the sets of all n states: those outside the set have what they started with
 unfoldable pub setsOf : ℕ → (ℕ → ℕ) → ℕ → Course → List ℕ

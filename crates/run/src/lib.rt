@@ -2,14 +2,18 @@
 mod step;
 
 use crate::step::Course;
-use crate::step::Stepped;
-use crate::step::step;
+use crate::step::find_missing;
+use crate::step::walk;
 use graph::checks::check_output;
 use graph::checks::check_set;
 use graph::file::FileAnswer;
 use graph::file::byte;
 use graph::file::check_file;
 use graph::format::Counts;
+use graph::limits::MAX_ACTIONS;
+use graph::read::added;
+use graph::read::deleted;
+use graph::read::precondition;
 use graph::read::start;
 use graph::refusal::Check;
 use graph::refusal::Refusal;
@@ -25,17 +29,21 @@ ghost use Rattle.rules.specs.Test.{choose};
 ghost use Rattle.rules.specs.Word.{bit, first};
 ghost use Rattle.rules.specs.Over as O;
 ghost use Rattle.rules.specs.Over.{meetOf};
+ghost use Rattle.rules.specs.Lists.{listOver};
 ghost use Rattle.words.specs.Width.{propWidth, stateWidth};
 ghost use Rattle.words.specs.Memory.{putAt};
 ghost use Rattle.graph.specs.Verdict.{laid, written};
-ghost use Rattle.graph.specs.Format.{startOf};
+ghost use Rattle.graph.specs.Format.{actionsOf, startOf};
 ghost use Rattle.graph.specs.File.{Taken};
 ghost use Rattle.graph.specs.Checks.{checkVerdict};
-ghost use Rattle.run.specs.Course.{Known, Some, came, setsOf};
+ghost use Rattle.run.specs.Course.{Some, Checked, PerAction, came, spareOf, stayOf, plusOf, setsOf};
 ghost use Rattle.run.specs.Run.{numbersRule, sequenceRule, endRule, runTaken, runRule, runVerdict};
 
 // The longest list that a run takes.
 const MAX_STEPS: usize = 65535;
+
+// How many steps are walked before it is asked whether each had its precondition.
+const BLOCK: usize = 64;
 
 // The number of sets written, or why the run is turned away.
 pub enum RunAnswer {
@@ -127,25 +135,86 @@ fn lay(file: &[u8], c: Counts, set: States, course: Course, out: &mut [u32])
     }
 }
 
-// The run, once every check is passed: the steps of the list, one after the other. The output is written once the list has ended.
-fn run_passed(file: &[u8], c: Counts, set: States, list: &[u8], out: &mut [u32]) -> RunAnswer
-    requires { ⌜ Taken (now file) c × Some (c .states) (set .0) × Known (c .actions) (now list) × (c .states ≤ length (now out)) ⌝ }
+// Of each action what the steps go by: all that it does not need, what it lets stay, and what it adds to that.
+fn read_steps(file: &[u8], c: Counts, spares: &mut [u32], stays: &mut [u32], pluses: &mut [u32])
+    requires { ⌜ Taken (now file) c × PerAction (c .actions) (now spares) (now stays) (now pluses) ⌝ }
+    ensures { λ r. ⌜ (now (spares .exit) ≡ listOver (c .actions) (spareOf (actionsOf (now (file .entry)) c)))
+        × (now (stays .exit) ≡ listOver (c .actions) (stayOf (actionsOf (now (file .entry)) c)))
+        × (now (pluses .exit) ≡ listOver (c .actions) (plusOf (actionsOf (now (file .entry)) c))) ⌝ }
+{
+    for a in 0..spares.len() {
+        let all = Props::first(PROP_WIDTH);
+        let del = Props(deleted(file, c, a));
+        spares[a] = all.without(Props(precondition(file, c, a))).0;
+        stays[a] = all.without(del).0;
+        pluses[a] = Props(added(file, c, a)).without(del).0;
+    }
+}
+
+// Where the block of steps ends that begins at `at`.
+fn block_end(at: usize, steps: usize) -> usize
+    requires { ⌜ at < steps ⌝ }
+    ensures { λ r. ⌜ (at < r) × (r ≤ steps) ⌝ }
+{
+    if steps - at < BLOCK {
+        return steps;
+    }
+    at + BLOCK
+}
+
+// The run, through memory for the actions' words: block by block, and a block with a step that lacks its precondition once more, step by step.
+// The output is written once the list has ended.
+fn run_in(
+    file: &[u8],
+    c: Counts,
+    set: States,
+    list: &[u8],
+    spares: &mut [u32],
+    stays: &mut [u32],
+    pluses: &mut [u32],
+    out: &mut [u32],
+) -> RunAnswer
+    requires { ⌜ Checked (now file) c (set .0) (now list) (now out) × PerAction (c .actions) (now spares) (now stays) (now pluses) ⌝ }
     ensures { λ r. ⌜ (runVerdict r ≡ written (endRule (now (file .entry)) c (set .0) (now (list .entry))))
         × (now (out .exit) ≡ laid (endRule (now (file .entry)) c (set .0) (now (list .entry))) (now (out .entry))) ⌝ }
 {
-    let sure = shared_start(file, c, set);
-    let mut course = Course::new();
-    let mut i = 0;
-    while i < list.len() {
-        let did = step(file, c, sure, course, byte(list, i));
-        let Stepped::Moved(next) = did else {
-            return RunAnswer::Refused(Refusal::Precondition(i));
-        };
-        course = next;
-        i += 1;
+    read_steps(file, c, &mut *spares, &mut *stays, &mut *pluses);
+    let mut course = Course::new(shared_start(file, c, set));
+    let mut at = 0;
+    while at < list.len() {
+        let end = block_end(at, list.len());
+        let did = walk(&list[at..end], &*spares, &*stays, &*pluses, course);
+        if did.held != Props::first(PROP_WIDTH).0 {
+            let i = find_missing(&list[at..end], &*spares, &*stays, &*pluses, course);
+            return RunAnswer::Refused(Refusal::Precondition(at + i));
+        }
+        course = did.course;
+        at = end;
     }
     lay(file, c, set, course, &mut *out);
     RunAnswer::Ran(c.states)
+}
+
+// The run, once every check is passed.
+fn run_passed(file: &[u8], c: Counts, set: States, list: &[u8], out: &mut [u32]) -> RunAnswer
+    requires { ⌜ Checked (now file) c (set .0) (now list) (now out) ⌝ }
+    ensures { λ r. ⌜ (runVerdict r ≡ written (endRule (now (file .entry)) c (set .0) (now (list .entry))))
+        × (now (out .exit) ≡ laid (endRule (now (file .entry)) c (set .0) (now (list .entry))) (now (out .entry))) ⌝ }
+{
+    let a = c.actions;
+    let mut spares = [0u32; MAX_ACTIONS];
+    let mut stays = [0u32; MAX_ACTIONS];
+    let mut pluses = [0u32; MAX_ACTIONS];
+    run_in(
+        file,
+        c,
+        set,
+        list,
+        &mut spares[..a],
+        &mut stays[..a],
+        &mut pluses[..a],
+        out,
+    )
 }
 
 // The caller's checks over a file that was taken, then the run.

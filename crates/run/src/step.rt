@@ -1,29 +1,26 @@
 // One action, carried out in every state of a set at once: it adds and deletes the same in each, so what was done is told once for all of them.
-use graph::format::Counts;
-use graph::read::added;
-use graph::read::deleted;
-use graph::read::precondition;
+use graph::file::byte;
+use words::sets::PROP_WIDTH;
 use words::sets::Props;
 ghost use mathlib.Core.Path.{_≡_};
-ghost use Prim.Native.Nat.{_<_};
-ghost use Rattle.graph.specs.Format.{actionsOf};
-ghost use Rattle.graph.specs.File.{Taken};
+ghost use Rattle.rules.specs.Word.{first};
+ghost use Rattle.words.specs.Width.{propWidth};
 ghost use Rattle.run.specs.Course as C;
 
-// What the steps so far have done to each state of the set: of its start these are removed, and these added and still there.
+// What the steps so far have done: what each state of the set keeps of its start, and what all of them have now.
 pub struct Course {
-    pub removed: u32,
-    pub added: u32,
+    pub now: u32,
+    pub kept: u32,
 }
 
 impl Course {
-    // Before the first step.
-    pub fn new() -> Course
-        ensures { λ r. ⌜ (r .removed ≡ 0) × (r .added ≡ 0) ⌝ }
+    // Before the first step; `sure` is what all states of the set start with.
+    pub fn new(sure: Props) -> Course
+        ensures { λ r. ⌜ (r .kept ≡ first propWidth) × (r .now ≡ sure .0) ⌝ }
     {
         Course {
-            removed: Props::EMPTY.0,
-            added: Props::EMPTY.0,
+            kept: Props::first(PROP_WIDTH).0,
+            now: sure.0,
         }
     }
 
@@ -31,16 +28,16 @@ impl Course {
     pub fn came(self, x: Props) -> Props
         ensures { λ r. ⌜ r .0 ≡ C.came self (x .0) ⌝ }
     {
-        x.without(Props(self.removed)).union(Props(self.added))
+        x.common(Props(self.kept)).union(Props(self.now))
     }
 
-    // One step more: its adds are joined, and after that its deletes removed.
-    pub fn further(self, add: u32, del: u32) -> Course
-        ensures { λ r. ⌜ r ≡ C.further add del self ⌝ }
+    // One step more, of an action that lets `stay` stay and then adds `plus`.
+    pub fn further(self, stay: u32, plus: u32) -> Course
+        ensures { λ r. ⌜ r ≡ C.further stay plus self ⌝ }
     {
         Course {
-            removed: Props(self.removed).union(Props(del)).0,
-            added: Props(self.added).union(Props(add)).without(Props(del)).0,
+            now: (self.now & stay) | plus,
+            kept: self.kept & stay,
         }
     }
 }
@@ -51,13 +48,61 @@ pub enum Stepped {
     Moved(Course),
 }
 
-// Action a in every state of the set, or in none. `sure` is what all of them started with: what they all have now came of that.
-pub fn step(file: &[u8], c: Counts, sure: Props, course: Course, a: usize) -> Stepped
-    requires { ⌜ Taken (now file) c × (a < c .actions) ⌝ }
-    ensures { λ r. ⌜ r ≡ C.stepAnswer (actionsOf (now (file .entry)) c) (sure .0) course a ⌝ }
+// An action in every state of the set, or in none; `spare` is all that it does not need.
+fn step(course: Course, spare: u32, stay: u32, plus: u32) -> Stepped
+    ensures { λ r. ⌜ r ≡ C.stepAnswer course spare stay plus ⌝ }
 {
-    if !Props(precondition(file, c, a)).within(course.came(sure)) {
+    if course.now | spare != Props::first(PROP_WIDTH).0 {
         return Stepped::Missing;
     }
-    Stepped::Moved(course.further(added(file, c, a), deleted(file, c, a)))
+    Stepped::Moved(course.further(stay, plus))
+}
+
+// Where many steps led, whether or not they had their preconditions: `held` is full just when they had.
+pub struct Walked {
+    pub course: Course,
+    pub held: u32,
+}
+
+// The steps of a list. No way leads out of the loop, so that a step costs a few operations.
+pub fn walk(list: &[u8], spares: &[u32], stays: &[u32], pluses: &[u32], from: Course) -> Walked
+    requires { ⌜ C.Tables (now spares) (now stays) (now pluses) (now list) ⌝ }
+    ensures { λ r. ⌜ C.Walks (now (spares .entry)) (now (stays .entry)) (now (pluses .entry)) (now (list .entry)) from r ⌝ }
+{
+    let mut course = from;
+    let mut held = Props::first(PROP_WIDTH).0;
+    for i in 0..list.len() {
+        let a = byte(list, i);
+        held = held & (course.now | spares[a]);
+        course = course.further(stays[a], pluses[a]);
+    }
+    Walked {
+        course: course,
+        held: held,
+    }
+}
+
+// The first step of a list that lacks its precondition, or the list's length.
+pub fn find_missing(
+    list: &[u8],
+    spares: &[u32],
+    stays: &[u32],
+    pluses: &[u32],
+    from: Course,
+) -> usize
+    requires { ⌜ C.Tables (now spares) (now stays) (now pluses) (now list) ⌝ }
+    ensures { λ r. ⌜ C.Stops (now (spares .entry)) (now (stays .entry)) (now (pluses .entry)) (now (list .entry)) from r ⌝ }
+{
+    let mut course = from;
+    let mut i = 0;
+    while i < list.len() {
+        let a = byte(list, i);
+        let did = step(course, spares[a], stays[a], pluses[a]);
+        let Stepped::Moved(next) = did else {
+            return i;
+        };
+        course = next;
+        i += 1;
+    }
+    i
 }

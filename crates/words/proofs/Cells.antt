@@ -1,99 +1,169 @@
--- Tables of words, row by row.
+-- Tables of words: a row that is written, rows filled one after the other, cells emptied.
 -- Assumes nothing.
-use Prim.Native.Nat.{ℕ, _+_, _-_, _*_, _≤_, _<_}
-use mathlib.Core.Path.{_≡_, sym, ap, ap₂, _∙_}
+use Prim.Native.Nat.{ℕ, _+_, _*_, _^_, _≤_, _<_}
+use mathlib.Core.Path.{_≡_, refl, sym, ap, ap₂, subst, _∙_}
+use mathlib.Core.Bool.{Bool, So}
+use mathlib.Core.Logic.{⊎-elim}
 use mathlib.Core.List.{List, _++_}
+use native.Mathlib.Nat.{add-zero, zero-add, mod-eq-of-lt}
 use native.Mathlib.Omega.{arith}
-use native.Mathlib.Nat.{zero-mul, suc-mul}
-use native.Mathlib.Numerals.{add-one}
-use borrow.Rule.Slice.PartMut.{putMid}
-use lib.ListN.{length, getD, take, drop, length-drop, List·getD-append}
-use lib.Seq.{drop-drop, length-take-le, getD-append-add}
-use Rattle.rules.specs.Word.{union}
-use Rattle.rules.specs.Over.{joinOf}
-use Rattle.rules.specs.Lists.{listOver, runOver}
-use Rattle.rules.proofs.Layers.{length-listOver, getD-listOver, listOver-eq, runOver-eq, length-runOver, run-split, part-at}
+use lib.Bits.{and-mask}
+use lib.Count.{trailingZeros}
+use lib.ListN.{length, getD, set, length-set}
+use lib.Seq.{getD-set-same, getD-set-other}
+use Rattle.rules.specs.Test.{choose, same}
+use Rattle.rules.specs.Word.{bit, common, without, single, first}
+use Rattle.rules.specs.Lists.{listOver}
+use Rattle.rules.proofs.Layers.{length-listOver, getD-listOver, listOver-eq, list-append, which}
+use Rattle.rules.proofs.Overs.{below-suc}
+use Rattle.rules.proofs.Tests.{choose-held, choose-failed, holds-or, same-at, same-of, fails-at}
+use Rattle.rules.proofs.Words.{bit-zero, without-lt}
 use Rattle.words.specs.Memory.{putAt}
-use Rattle.words.specs.Rows.{tableOf, cellIn}
-use Rattle.words.proofs.Writes.{put-whole, Runs, run-none, run-more, run-done}
-use Rattle.words.proofs.MemberLoops.{row-fits}
+use Rattle.words.specs.Rows.{rowLength, partLength, tableLength, cell, Target, InParts}
+use Rattle.words.specs.Width.{wordWidth}
+use Rattle.words.proofs.MemberLoops.{lowest-in, lowest-lt}
+use Rattle.words.proofs.Spreads.{bit-left, stays}
+use Rattle.words.proofs.Writes.{put-length, put-word, put-put, put-below, put-above, put-over, put-same}
 
--- ---- rows and tables
+-- word k from column `col` on of row i, by its place
+pub cell-at : (table : List ℕ) (i col k : ℕ) {at : ℕ} → at ≡ i * rowLength + col → getD table (at + k) 0 ≡ cell table i (col + k)
+unfolding cell
+cell-at table i col k {at} e = let p : at + k ≡ i * rowLength + (col + k) = omega arith in ap (λ (x : ℕ). getD table x 0) p
 
--- a row of a table, and the whole table, by their words
-pub table-cell : (rows width : ℕ) (f : ℕ → ℕ → ℕ) (i j : ℕ) → i < rows → j < width → cellIn width (tableOf rows width f) i j ≡ f i j
-unfolding tableOf cellIn
-table-cell rows width f i j hi hj =
-    let g : ℕ → List ℕ = λ i. listOver width (f i) in
-    let (rest, e) = run-split g rows i hi in
-    let l : length (runOver i g) ≡ i * width = length-runOver g width i (λ k h. length-listOver width (f k)) in
-    ap₂ (λ (t : List ℕ) (x : ℕ). getD t (x + j) 0) e (sym l) ∙ getD-append-add (runOver i g) (g i ++ rest) j 0
-    ∙ List·getD-append (g i) rest 0 j (omega (arith, length-listOver width (f i))) ∙ getD-listOver width (f i) j hj
+-- a word cut to all bits
+pub cut-none : (x : ℕ) → x < 2 ^ wordWidth → common x (first wordWidth) ≡ x
+cut-none x h = and-mask x wordWidth ∙ mod-eq-of-lt h
 
--- the part of a table that is a row
-pub row-of : (rows width : ℕ) (f : ℕ → ℕ → ℕ) (i : ℕ) → i < rows → take width (drop (i * width) (tableOf rows width f)) ≡ listOver width (f i)
-unfolding tableOf
-row-of rows width f i hi =
-    let g : ℕ → List ℕ = λ i. listOver width (f i) in
-    let (rest, e) = run-split g rows i hi in
-    ap (λ (t : List ℕ). take width (drop (i * width) t)) e
-    ∙ part-at (runOver i g) (g i) rest (i * width) width (length-runOver g width i (λ k h. length-listOver width (f k))) (length-listOver width (f i))
+-- ---- a row that is written, from its first word on
 
-pub table-length : (rows width : ℕ) (f : ℕ → ℕ → ℕ) → length (tableOf rows width f) ≡ rows * width
-unfolding tableOf
-table-length rows width f = length-runOver _ width rows (λ i h. length-listOver width (f i))
+module _ (row m : ℕ) (f : ℕ → ℕ) (w : List ℕ) (whole : length w ≡ tableLength) (h : row < rowLength) (few : m ≤ rowLength) where
+  room : row * rowLength + length (listOver m f) ≤ length w
+  room = omega (arith, length-listOver m f)
 
--- a part lent in the middle, that comes back whole
-pub put-mid : (at k : ℕ) (w p : List ℕ) → length p ≡ k → putMid at k w p ≡ putAt at p w
-unfolding putAt
-put-mid at k w p e =
-    ap (λ (l : List ℕ). take at w ++ (p ++ l)) (drop-drop k at w ∙ ap (λ (x : ℕ). drop (at + x) w) (sym e))
+  pub row-length : length (putAt (row * rowLength) (listOver m f) w) ≡ tableLength
+  row-length = put-length (row * rowLength) (listOver m f) w room ∙ whole
 
--- how long such a part is
-pub mid-length : (at n : ℕ) (w : List ℕ) → at + n ≤ length w → length (take (at + n - at) (drop at w)) ≡ n
-mid-length at n w h = let e : at + n - at ≡ n = omega arith in
-    ap (λ (x : ℕ). length (take x (drop at w))) e ∙ length-take-le n (drop at w) (omega (arith, length-drop at w))
+  -- its words
+  pub cell-put : (k : ℕ) → k < m → cell (putAt (row * rowLength) (listOver m f) w) row k ≡ f k
+  unfolding cell
+  cell-put k l = put-word (row * rowLength) (listOver m f) w room k (omega (arith, length-listOver m f)) ∙ getD-listOver m f k l
 
--- ---- a loop that fills a table row by row: i of its rows are filled, up to `at`
+  -- every other row stays
+  pub cell-stays : (i j : ℕ) → j < rowLength → (i ≡ row → ⊥) → cell (putAt (row * rowLength) (listOver m f) w) i j ≡ cell w i j
+  unfolding cell
+  cell-stays i j l other = ⊎-elim
+      (λ le. put-below (row * rowLength) (listOver m f) w room (i * rowLength + j) (omega arith))
+      (λ le. put-above (row * rowLength) (listOver m f) w room (i * rowLength + j) (omega (arith, length-listOver m f)))
+      (which i row)
 
-pub record Filled (f : ℕ → ℕ → ℕ) (rows width : ℕ) (w₀ : List ℕ) (i at : ℕ) (w : List ℕ) : Type 0 where
-  pub whole : length w₀ ≡ rows * width
-  pub place : at ≡ i * width
-  pub runs : Runs (λ i. listOver width (f i)) 0 rows w₀ i at w
+-- ---- a row of one part or two, that is put by parts
 
-pub filled-none : {f : ℕ → ℕ → ℕ} {rows width : ℕ} {w : List ℕ} → length w ≡ rows * width → Filled f rows width w 0 0 w
-filled-none {f} {rows} {width} e = record { whole = e; place = sym (zero-mul width); runs = run-none (omega arith) }
+module _ (row : ℕ) {w w₁ : List ℕ} (t : Target w row) where
+  -- its second part, while the first is put
+  pub part-stays : (f : ℕ → ℕ) → w₁ ≡ putAt (row * rowLength + 0) (listOver partLength f) w → (k : ℕ) → cell w₁ row (partLength + k) ≡ cell w row (partLength + k)
+  unfolding cell
+  part-stays f e k =
+      let l : length (listOver partLength f) ≡ partLength = length-listOver partLength f in
+      ap (λ (x : List ℕ). getD x (row * rowLength + (partLength + k)) 0) e
+      ∙ put-above (row * rowLength + 0) (listOver partLength f) w (omega arith) (row * rowLength + (partLength + k)) (omega arith)
 
-module _ {f : ℕ → ℕ → ℕ} {rows width : ℕ} {w₀ : List ℕ} {i at : ℕ} {w : List ℕ} (s : Filled f rows width w₀ i at w) where
-  pub next-row : i < rows → at + width ≤ length w
-  next-row h = omega (arith, s .place, s .whole, s .runs .long, row-fits i rows width (rows * width) h (omega arith))
+  module _ (g : ℕ → ℕ) (e : w₁ ≡ putAt (row * rowLength + 0) (listOver partLength (λ k. g (0 + k))) w) where
+    first-part : w₁ ≡ putAt (row * rowLength) (listOver partLength g) w
+    first-part = e ∙ ap₂ (λ (x : ℕ) (l : List ℕ). putAt x l w) (add-zero (row * rowLength)) (listOver-eq partLength _ g (λ k h. ap g (zero-add k)))
 
-  pub filled-more : {p : List ℕ} → i < rows → p ≡ listOver width (f i) → Filled f rows width w₀ (i + 1) (at + width) (putMid at (at + width - at) w p)
-  filled-more {p} h e =
-      let lp : length p ≡ at + width - at = ap length e ∙ length-listOver width (f i) ∙ omega arith in
-      record {
-        whole = s .whole;
-        place = omega (arith, s .place, suc-mul i width, ap (λ (x : ℕ). x * width) (add-one i));
-        runs = run-more width (s .runs) h (omega (arith, next-row h, s .runs .long)) (length-listOver width (f i))
-            (put-mid at (at + width - at) w p lp ∙ ap (λ (l : List ℕ). putAt at l w) e);
-      }
+    pub row-narrow : (width : ℕ) → InParts width → width ≤ partLength → w₁ ≡ putAt (row * rowLength) (listOver width g) w
+    row-narrow width parts h =
+        let one : width ≡ partLength = ⊎-elim (λ q. q) (λ q. absurd (omega arith)) parts in
+        first-part ∙ ap (λ (n : ℕ). putAt (row * rowLength) (listOver n g) w) (sym one)
 
-  pub filled-done : rows ≤ i → w ≡ tableOf rows width f
-  unfolding tableOf
-  filled-done h = run-done (s .runs) h ∙ put-whole (runOver rows (λ i. listOver width (f i))) w₀ (table-length rows width f ∙ sym (s .whole))
+    -- the second part is made while the first is put already
+    pub row-wide : (width : ℕ) {w₂ : List ℕ} {g₂ : ℕ → ℕ} → InParts width → partLength < width → ((k : ℕ) → g₂ k ≡ g (partLength + k))
+        → w₂ ≡ putAt (row * rowLength + partLength) (listOver partLength g₂) w₁ → w₂ ≡ putAt (row * rowLength) (listOver width g) w
+    row-wide width {w₂} {g₂} parts h same-words d =
+        let two : width ≡ rowLength = ⊎-elim (λ q. absurd (omega arith)) (λ q. q) parts in
+        let l : length (listOver partLength g) ≡ partLength = length-listOver partLength g in
+        d ∙ ap₂ (λ (x : ℕ) (v : List ℕ). putAt (row * rowLength + x) (listOver partLength g₂) v) (sym l) first-part
+        ∙ put-put (row * rowLength) (listOver partLength g) w (omega arith) (listOver partLength g₂)
+        ∙ ap (λ (v : List ℕ). putAt (row * rowLength) (listOver partLength g ++ v) w) (listOver-eq partLength g₂ _ (λ k h. same-words k))
+        ∙ ap (λ (v : List ℕ). putAt (row * rowLength) v w) (sym (list-append partLength partLength g) ∙ ap (λ (n : ℕ). listOver n g) (sym two))
 
--- rows joined to an empty one
-pub joined-row : (rows set : ℕ) (table row₀ : List ℕ) {row row' : List ℕ} → row ≡ listOver (length row₀) (λ j. 0)
-    → row' ≡ listOver (length row) (λ j. union (getD row j 0) (joinOf rows set (λ i. cellIn (length row) table i j)))
-    → row' ≡ listOver (length row₀) (λ j. joinOf rows set (λ i. cellIn (length row₀) table i j))
-joined-row rows set table row₀ {row} {row'} e q =
-    let l : length row ≡ length row₀ = ap length e ∙ length-listOver (length row₀) (λ j. 0) in
-    q
-    ∙ ap (λ (n : ℕ). listOver n (λ j. union (getD row j 0) (joinOf rows set (λ i. cellIn n table i j)))) l
-    ∙ listOver-eq (length row₀) _ _ (λ j h. ap (λ (x : ℕ). union x (joinOf rows set (λ i. cellIn (length row₀) table i j)))
-    (ap (λ (r : List ℕ). getD r j 0) e ∙ getD-listOver (length row₀) (λ j. 0) j h))
+-- ---- a table filled row by row: i rows are filled, with f row by row
 
--- equal words make equal tables
-pub tableOf-eq : (rows width : ℕ) (f g : ℕ → ℕ → ℕ) → ((i j : ℕ) → i < rows → j < width → f i j ≡ g i j) → tableOf rows width f ≡ tableOf rows width g
-unfolding tableOf
-tableOf-eq rows width f g h = runOver-eq rows _ _ (λ i k. listOver-eq width (f i) (g i) (λ j l. h i j k l))
+pub record Rows (f : ℕ → ℕ → ℕ) (width i : ℕ) (w : List ℕ) : Type 0 where
+  pub long : length w ≡ tableLength
+  pub is : (j k : ℕ) → j < i → k < width → cell w j k ≡ f j k
+
+pub rows-none : {f : ℕ → ℕ → ℕ} {width : ℕ} {w : List ℕ} → length w ≡ tableLength → Rows f width 0 w
+rows-none e = record { long = e; is = λ j k h. absurd (omega arith) }
+
+pub rows-more : {f : ℕ → ℕ → ℕ} {width i : ℕ} {w w' : List ℕ} → Rows f width i w → length w' ≡ tableLength
+    → ((j k : ℕ) → j < i → k < width → cell w' j k ≡ cell w j k) → ((k : ℕ) → k < width → cell w' i k ≡ f i k) → Rows f width (i + 1) w'
+rows-more {f} {width} {i} {w} {w'} s e old new = record {
+  long = e;
+  is = λ j k h l. below-suc (λ j. cell w' j k ≡ f j k) i (new k l) (λ j h. old j k h l ∙ s .is j k h l) j (omega arith);
+}
+
+-- by a row that is put
+pub rows-put : {f : ℕ → ℕ → ℕ} {width i : ℕ} {w w' : List ℕ} → Rows f width i w → i < rowLength → width ≤ rowLength
+    → w' ≡ putAt (i * rowLength) (listOver width (f i)) w → Rows f width (i + 1) w'
+rows-put {f} {width} {i} {w} {w'} s h few e = rows-more s (ap length e ∙ row-length i width (f i) w (s .long) h few)
+    (λ j k l g. ap (λ (t : List ℕ). cell t j k) e ∙ cell-stays i width (f i) w (s .long) h few j k (omega arith) (λ q. omega arith))
+    (λ k g. ap (λ (t : List ℕ). cell t i k) e ∙ cell-put i width (f i) w (s .long) h few k g)
+
+-- ---- a loop that empties the cells of a row that a set names: what is still to be done gives what is to be done at first
+
+-- the table with these cells of a row emptied
+pub emptied : ℕ → ℕ → List ℕ → List ℕ
+emptied row set w = putAt (row * rowLength) (listOver rowLength (λ k. choose (bit k set) 0 (cell w row k))) w
+
+pub record Clears (row set₀ : ℕ) (w₀ : List ℕ) (left : ℕ) (w : List ℕ) : Type 0 where
+  pub inside : left < 2 ^ rowLength
+  pub long : length w ≡ length w₀
+  pub is : emptied row left w ≡ emptied row set₀ w₀
+
+pub clears-none : {row set : ℕ} {w : List ℕ} → set < 2 ^ rowLength → Clears row set w set w
+clears-none h = record { inside = h; long = refl; is = refl }
+
+pub clears-more : {row set₀ left left' q at : ℕ} {w₀ w : List ℕ} → Clears row set₀ w₀ left w → length w₀ ≡ tableLength → row < rowLength → 0 < left
+    → q ≡ trailingZeros wordWidth left → at ≡ row * rowLength + q → left' ≡ without left (single (trailingZeros wordWidth left))
+    → Clears row set₀ w₀ left' (set w at 0)
+unfolding emptied cell
+clears-more {row} {set₀} {left} {left'} {q} {at} {w₀} {w} s whole h some e ea g =
+    let w' = set w at 0 in
+    let base = row * rowLength in
+    let low : q < rowLength = omega (arith, lowest-lt rowLength left (omega arith) (s .inside) some) in
+    let in-left : So (bit q left) = ap (λ (x : ℕ). bit x left) e ∙ lowest-in rowLength left (omega arith) (s .inside) some in
+    let g' : left' ≡ without left (single q) = g ∙ ap (λ (x : ℕ). without left (single x)) (sym e) in
+    let same-words : listOver rowLength (λ k. choose (bit k left') 0 (getD w' (base + k) 0)) ≡ listOver rowLength (λ k. choose (bit k left) 0 (getD w (base + k) 0)) =
+    listOver-eq rowLength _ _ (λ k l. ⊎-elim
+    (λ u.
+    let k-at : base + k ≡ at = omega (arith, same-at k q u) in
+    ap (λ (x : ℕ). choose (bit k left') 0 x) (ap (λ (x : ℕ). getD w' x 0) k-at ∙ getD-set-same w at 0 0 (omega (arith, s .long)))
+    ∙ choose-zero (bit k left')
+    ∙ sym (choose-held (bit k left) 0 (getD w (base + k) 0) (ap (λ (x : ℕ). bit x left) (same-at k q u) ∙ in-left)))
+    (λ u. ap₂ (λ (b : Bool) (x : ℕ). choose b 0 x) (bit-left k q left left' g' ∙ stays (bit k left) (same k q) u)
+    (getD-set-other w at (base + k) 0 0 (λ r. fails-at (same k q) u (same-of k q (omega arith)))))
+    (holds-or (same k q))) in
+    record {
+      inside = subst (λ (x : ℕ). x < 2 ^ rowLength) (sym g) (without-lt rowLength left _ (s .inside));
+      long = length-set w at 0 ∙ s .long;
+      is = ap (λ (l : List ℕ). putAt base l w') same-words
+          ∙ ap (λ (x : ℕ). putAt base (listOver rowLength (λ k. choose (bit k left) 0 (getD w (base + k) 0))) (set w x 0)) ea
+          ∙ put-over base (listOver rowLength (λ k. choose (bit k left) 0 (getD w (base + k) 0))) w
+          (omega (arith, s .long, length-listOver rowLength (λ k. choose (bit k left) 0 (getD w (base + k) 0)))) q 0
+          (omega (arith, length-listOver rowLength (λ k. choose (bit k left) 0 (getD w (base + k) 0))))
+          ∙ s .is;
+    }
+  where
+    choose-zero : (b : Bool) → choose {A = ℕ} b 0 0 ≡ 0
+    choose-zero b = ⊎-elim (λ t. choose-held b 0 0 t) (λ t. choose-failed b 0 0 t) (holds-or b)
+
+pub clears-done : {row set₀ left : ℕ} {w₀ w : List ℕ} → Clears row set₀ w₀ left w → length w₀ ≡ tableLength → row < rowLength → left ≤ 0
+    → w ≡ putAt (row * rowLength) (listOver rowLength (λ k. choose (bit k set₀) 0 (cell w₀ row k))) w₀
+unfolding emptied cell choose
+clears-done {row} {set₀} {left} {w₀} {w} s whole h none =
+    let e : left ≡ 0 = omega arith in
+    sym (put-same (row * rowLength) rowLength w (omega (arith, s .long)))
+    ∙ ap (λ (l : List ℕ). putAt (row * rowLength) l w) (listOver-eq rowLength _ _ (λ k l.
+    ap (λ (b : Bool). choose b 0 (getD w (row * rowLength + k) 0)) (sym (ap (bit k) e ∙ bit-zero k))))
+    ∙ s .is

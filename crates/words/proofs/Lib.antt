@@ -5,6 +5,5 @@ pub mod Writes
 pub mod MemberLoops
 pub mod Lowest
 pub mod Cells
-pub mod Mirrors
 pub mod Spreads
 pub mod Zeros

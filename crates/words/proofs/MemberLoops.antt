@@ -1,16 +1,15 @@
--- Loops over the members of a set: what they join or share, and rows joined word by word.
+-- Loops over the members of a set: what they join or share, for one word and for the words of a row.
 -- Assumes nothing.
-use Prim.Native.Nat.{ℕ, _+_, _-_, _*_, _^_, _≤_, _<_}
+use Prim.Native.Nat.{ℕ, _-_, _^_, _≤_, _<_}
 use mathlib.Core.Path.{_≡_, refl, sym, ap, ap₂, subst, _∙_}
 use mathlib.Core.Bool.{Bool, true, false, So}
 use mathlib.Core.List.{List}
 use native.Mathlib.Omega.{arith}
-use native.Mathlib.Nat.{lt-of-lt-of-le, suc-mul, mul-le-mul-right}
+use native.Mathlib.Nat.{lt-of-lt-of-le}
 use lib.Bits.{bitAnd, and-le-r, or-zero-r}
 use lib.Count.{trailingZeros}
-use lib.ListN.{length, getD, take, drop}
+use lib.ListN.{length, getD}
 use lib.Pow.{pow-mono}
-use lib.Seq.{ext-getD, getD-drop}
 use Rattle.rules.specs.Test.{_and_, _or_}
 use Rattle.rules.specs.Word.{bit, common, union, without, single}
 use Rattle.rules.specs.Over.{joinOf, meetOf}
@@ -19,8 +18,8 @@ use Rattle.words.specs.Width.{wordWidth}
 use Rattle.rules.proofs.Words.{bit-union, bit-common, bit-below, ext-all, lowest-has, without-lowest, without-lt}
 use Rattle.rules.proofs.Tests.{test-eq, and-assoc, and-of, and-left, and-right}
 use Rattle.rules.proofs.Members.{join-empty, join-pick, meetOf-at, meet-empty, meet-pick}
-use Rattle.rules.proofs.Layers.{length-listOver, getD-listOver}
-use Rattle.words.proofs.Writes.{tail-all}
+use Rattle.rules.proofs.Layers.{length-listOver, getD-listOver, listOver-eq}
+use Rattle.words.proofs.Writes.{list-all}
 
 -- ---- words joined and cut, by their bits
 
@@ -29,12 +28,12 @@ unfolding _or_
 or-regroup true b c = refl
 or-regroup false b c = refl
 
-pub union-assoc : (a b c : ℕ) → union (union a b) c ≡ union a (union b c)
+union-assoc : (a b c : ℕ) → union (union a b) c ≡ union a (union b c)
 union-assoc a b c = ext-all _ _ (λ s.
     bit-union s (union a b) c ∙ ap (λ (x : Bool). x or bit s c) (bit-union s a b) ∙ or-regroup (bit s a) (bit s b) (bit s c)
     ∙ sym (bit-union s a (union b c) ∙ ap (λ (x : Bool). bit s a or x) (bit-union s b c)))
 
-pub common-assoc : (a b c : ℕ) → common (common a b) c ≡ common a (common b c)
+common-assoc : (a b c : ℕ) → common (common a b) c ≡ common a (common b c)
 common-assoc a b c = ext-all _ _ (λ s.
     bit-common s (common a b) c ∙ ap (λ (x : Bool). x and bit s c) (bit-common s a b) ∙ and-assoc (bit s a) (bit s b) (bit s c)
     ∙ sym (bit-common s a (common b c) ∙ ap (λ (x : Bool). bit s a and x) (bit-common s b c)))
@@ -57,19 +56,19 @@ pub others-is : (set : ℕ) → set < 2 ^ wordWidth → 0 < set → (bitAnd set 
 others-is set h some =
     (without-lowest wordWidth set h (λ e. omega arith), omega (arith, and-le-r set (set - 1)))
 
--- ---- a loop over the members: what they join, with those that are left
+-- ---- a loop over the members: w with what they join, while some are left
 
-pub record Members (f : ℕ → ℕ) (n set₀ left joined : ℕ) : Type 0 where
+pub record Members (f : ℕ → ℕ) (w n set₀ left joined : ℕ) : Type 0 where
   pub inside : left < 2 ^ n
-  pub is : union joined (joinOf n left f) ≡ joinOf n set₀ f
+  pub is : union joined (joinOf n left f) ≡ union w (joinOf n set₀ f)
 
-pub members-none : {f : ℕ → ℕ} {n set : ℕ} → set < 2 ^ n → Members f n set set 0
+pub members-none : {f : ℕ → ℕ} {w n set : ℕ} → set < 2 ^ n → Members f w n set set w
 members-none h = record { inside = h; is = refl }
 
-pub members-more : {f : ℕ → ℕ} {n set₀ left joined b r left' : ℕ} → Members f n set₀ left joined → n ≤ wordWidth → 0 < left
+pub members-more : {f : ℕ → ℕ} {w n set₀ left joined b r left' : ℕ} → Members f w n set₀ left joined → n ≤ wordWidth → 0 < left
     → b ≡ f (trailingZeros wordWidth left)
-    → r ≡ union joined b → left' ≡ without left (single (trailingZeros wordWidth left)) → Members f n set₀ left' r
-members-more {f} {n} {set₀} {left} {joined} {b} {r} {left'} m few some e q l = record {
+    → r ≡ union joined b → left' ≡ without left (single (trailingZeros wordWidth left)) → Members f w n set₀ left' r
+members-more {f} {w} {n} {set₀} {left} {joined} {b} {r} {left'} m few some e q l = record {
   inside = subst (λ (x : ℕ). x < 2 ^ n) (sym l) (without-lt n left _ (m .inside));
   is = ap₂ (λ (x y : ℕ). union x (joinOf n y f)) (q ∙ ap (union joined) e) l
       ∙ union-assoc joined (f (trailingZeros wordWidth left)) (joinOf n (without left (single (trailingZeros wordWidth left))) f)
@@ -78,8 +77,8 @@ members-more {f} {n} {set₀} {left} {joined} {b} {r} {left'} m few some e q l =
       ∙ m .is;
 }
 
-pub members-done : {f : ℕ → ℕ} {n set₀ left joined : ℕ} → Members f n set₀ left joined → left ≤ 0 → joined ≡ joinOf n set₀ f
-members-done {f} {n} {set₀} {left} {joined} m h =
+pub members-done : {f : ℕ → ℕ} {w n set₀ left joined : ℕ} → Members f w n set₀ left joined → left ≤ 0 → joined ≡ union w (joinOf n set₀ f)
+members-done {f} {w} {n} {set₀} {left} {joined} m h =
     let e : left ≡ 0 = omega arith in
     sym (or-zero-r joined) ∙ ap (union joined) (sym (join-empty n f)) ∙ ap (λ (x : ℕ). union joined (joinOf n x f)) (sym e) ∙ m .is
 
@@ -114,46 +113,19 @@ shares-done {f} {w} {n} {set₀} {left} {met} m h =
     ext-all _ _ (λ s. test-eq _ _ (λ t. bit-common s met w ∙ and-of _ _ t (m .part s t)) (λ t. and-left _ _ (sym (bit-common s met w) ∙ t)))
     ∙ ap (common met) (sym (meet-empty n w f)) ∙ ap (λ (x : ℕ). common met (meetOf n x f w)) (sym e) ∙ m .is
 
--- the same word by word of a row: word j joins f i j
-pub record Lanes (f : ℕ → ℕ → ℕ) (n set₀ : ℕ) (row₀ : List ℕ) (left : ℕ) (row : List ℕ) : Type 0 where
-  pub inside : left < 2 ^ n
-  pub long : length row ≡ length row₀
-  pub is : (j : ℕ) → j < length row₀ → union (getD row j 0) (joinOf n left (λ i. f i j)) ≡ union (getD row₀ j 0) (joinOf n set₀ (λ i. f i j))
+-- ---- a loop over the members, word by word of a row: P k left says what word k is while these are left
 
-pub lanes-none : {f : ℕ → ℕ → ℕ} {n set : ℕ} {row : List ℕ} → set < 2 ^ n → Lanes f n set row set row
-lanes-none h = record { inside = h; long = refl; is = λ j l. refl }
+pub record Lanes (P : ℕ → ℕ → ℕ → Type 0) (n left : ℕ) (row : List ℕ) : Type 0 where
+  pub long : length row ≡ n
+  pub is : (k : ℕ) → k < n → P k left (getD row k 0)
 
-pub lanes-more : {f : ℕ → ℕ → ℕ} {n set₀ left left' : ℕ} {row₀ row row' : List ℕ} {b : ℕ → ℕ} → Lanes f n set₀ row₀ left row → n ≤ wordWidth → 0 < left
-    → ((j : ℕ) → j < length row → b j ≡ f (trailingZeros wordWidth left) j) → row' ≡ listOver (length row) (λ j. union (getD row j 0) (b j))
-    → left' ≡ without left (single (trailingZeros wordWidth left)) → Lanes f n set₀ row₀ left' row'
-lanes-more {f} {n} {set₀} {left} {left'} {row₀} {row} {row'} {b} m few some e q l = record {
-  inside = subst (λ (x : ℕ). x < 2 ^ n) (sym l) (without-lt n left _ (m .inside));
-  long = ap length q ∙ length-listOver (length row) _ ∙ m .long;
-  is = λ j h.
-      let g : j < length row = omega (arith, m .long) in
-      ap₂ (λ (x y : ℕ). union x (joinOf n y (λ i. f i j)))
-      (ap (λ (x : List ℕ). getD x j 0) q ∙ getD-listOver (length row) _ j g ∙ ap (union (getD row j 0)) (e j g)) l
-      ∙ union-assoc (getD row j 0) (f (trailingZeros wordWidth left) j) (joinOf n (without left (single (trailingZeros wordWidth left))) (λ i. f i j))
-      ∙ ap (union (getD row j 0))
-      (sym (join-pick n left (trailingZeros wordWidth left) (λ i. f i j) (lowest-lt n left few (m .inside) some) (lowest-in n left few (m .inside) some)))
-      ∙ m .is j h;
-}
+module _ {P : ℕ → ℕ → ℕ → Type 0} {n left : ℕ} {row : List ℕ} (m : Lanes P n left row) where
+  pub lanes-more : {left' : ℕ} {row' : List ℕ} {g : ℕ → ℕ} → ((k : ℕ) → P k left (getD row k 0) → P k left' (g k)) → row' ≡ listOver n g
+      → Lanes P n left' row'
+  lanes-more {left'} {row'} {g} step e = record {
+    long = ap length e ∙ length-listOver n g;
+    is = λ k h. subst (P k left') (sym (ap (λ (l : List ℕ). getD l k 0) e ∙ getD-listOver n g k h)) (step k (m .is k h));
+  }
 
-pub lanes-done : {f : ℕ → ℕ → ℕ} {n set₀ left : ℕ} {row₀ row : List ℕ} → Lanes f n set₀ row₀ left row → left ≤ 0
-    → row ≡ listOver (length row₀) (λ j. union (getD row₀ j 0) (joinOf n set₀ (λ i. f i j)))
-lanes-done {f} {n} {set₀} {left} {row₀} {row} m h =
-    let e : left ≡ 0 = omega arith in
-    ext-getD 0 row _ (m .long ∙ sym (length-listOver (length row₀) _)) (λ j l.
-    let g : j < length row₀ = omega (arith, m .long) in
-    sym (or-zero-r (getD row j 0)) ∙ ap (union (getD row j 0)) (sym (join-empty n (λ i. f i j)))
-    ∙ ap (λ (x : ℕ). union (getD row j 0) (joinOf n x (λ i. f i j))) (sym e) ∙ m .is j g ∙ sym (getD-listOver (length row₀) _ j g))
-
--- ---- rows of a table
-
--- a row of a table lies within it
-pub row-fits : (i rows width len : ℕ) → i < rows → rows * width ≤ len → i * width + width ≤ len
-row-fits i rows width len h r = omega (arith, suc-mul i width, mul-le-mul-right width h)
-
--- a word of the part that begins with a row
-pub part-cell : (at j : ℕ) (table : List ℕ) → getD (take (length table - at) (drop at table)) j 0 ≡ getD table (at + j) 0
-part-cell at j table = ap (λ (l : List ℕ). getD l j 0) (tail-all at table) ∙ getD-drop at table j 0
+  pub lanes-done : {g : ℕ → ℕ} → ((k : ℕ) → P k left (getD row k 0) → getD row k 0 ≡ g k) → row ≡ listOver n g
+  lanes-done {g} last = sym (list-all row (m .long)) ∙ listOver-eq n _ g (λ k h. last k (m .is k h))

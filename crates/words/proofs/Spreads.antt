@@ -34,7 +34,7 @@ pub spreads-none : {t all : ℕ} {row : List ℕ} → length row ≤ wordWidth �
 spreads-none h l = record { few = h; inside = l; long = refl; is = λ j k. refl }
 
 -- bit j of a set without q
-bit-left : (j q set left : ℕ) → left ≡ without set (single q) → bit j left ≡ (bit j set and fails (same j q))
+pub bit-left : (j q set left : ℕ) → left ≡ without set (single q) → bit j left ≡ (bit j set and fails (same j q))
 bit-left j q set left e = ap (bit j) e ∙ bit-without j set (single q) ∙ ap (λ (b : Bool). bit j set and fails b) (bit-single j q)
 
 gone : (b c : Bool) → So c → (b and fails c) ≡ false
@@ -43,7 +43,7 @@ gone true true h = refl
 gone false true h = refl
 gone b false h = absurd (fails-at false refl h)
 
-stays : (b c : Bool) → So (fails c) → (b and fails c) ≡ b
+pub stays : (b c : Bool) → So (fails c) → (b and fails c) ≡ b
 unfolding _and_ fails
 stays true true h = absurd (fails-at true h refl)
 stays false true h = refl

@@ -8,10 +8,14 @@ use native.Mathlib.Numerals.{add-one}
 use native.Mathlib.Omega.{arith}
 use borrow.Rule.Slice.PartMut.{putMid}
 use lib.ListN.{length, getD, take, drop, set, length-append, length-drop, length-set, drop-of-length-le, take-append-drop, List·getD-append}
-use lib.Seq.{getD-take, getD-drop, take-at, drop-at, take-all, take-take, drop-drop, length-take-le, take-append-le, take-add, set-split}
+use lib.Seq.{getD-take, getD-drop, take-at, drop-at, take-all, take-take, drop-drop, length-take-le, take-append-le, take-add, take-set-le, drop-set-lt, ext-getD, set-split}
 use Rattle.rules.specs.Lists.{listOver, runOver}
-use Rattle.rules.proofs.Layers.{length-listOver}
+use Rattle.rules.proofs.Layers.{length-listOver, getD-listOver, listOver-eq, listOver-self}
 use Rattle.words.specs.Memory.{putAt}
+
+-- memories with the same front have the same words and parts there
+pub same-word : (b i : ℕ) (w w₀ : List ℕ) → take b w ≡ take b w₀ → i < b → getD w i 0 ≡ getD w₀ i 0
+same-word b i w w₀ e h = sym (getD-take b w i 0 h) ∙ ap (λ (l : List ℕ). getD l i 0) e ∙ getD-take b w₀ i 0 h
 
 -- ---- the laws of putAt
 
@@ -67,6 +71,37 @@ module _ (at : ℕ) (xs w : List ℕ) (room : at + length xs ≤ length w) where
   put-word i h =
       sym (getD-drop at (putAt at xs w) i 0) ∙ ap (λ (l : List ℕ). getD l i 0) put-back ∙ List·getD-append xs (drop (at + length xs) w) 0 i h
 
+  -- a word before or behind them
+  pub put-below : (i : ℕ) → i < at → getD (putAt at xs w) i 0 ≡ getD w i 0
+  put-below i h = same-word at i (putAt at xs w) w (put-front at (omega arith)) h
+
+  pub put-above : (i : ℕ) → at + length xs ≤ i → getD (putAt at xs w) i 0 ≡ getD w i 0
+  put-above i h =
+      let k = at + length xs in
+      let e : k + (i - k) ≡ i = omega arith in
+      ap (λ (x : ℕ). getD (putAt at xs w) x 0) (sym e) ∙ sym (getD-drop k (putAt at xs w) (i - k) 0) ∙ ap (λ (l : List ℕ). getD l (i - k) 0) put-rest
+      ∙ getD-drop k w (i - k) 0 ∙ ap (λ (x : ℕ). getD w x 0) e
+
+  -- what stood where they are put does not matter
+  pub put-over : (i v : ℕ) → i < length xs → putAt at xs (set w (at + i) v) ≡ putAt at xs w
+  unfolding putAt
+  put-over i v h =
+      ap₂ (λ (l r : List ℕ). l ++ (xs ++ r)) (take-set-le at w (at + i) v (omega arith)) (drop-set-lt (at + length xs) w (at + i) v (omega arith))
+
+-- words put where they stand
+pub put-same : (at n : ℕ) (w : List ℕ) → at + n ≤ length w → putAt at (listOver n (λ k. getD w (at + k) 0)) w ≡ w
+unfolding putAt
+put-same at n w room =
+    let l : length (take n (drop at w)) ≡ n = length-take-le n (drop at w) (omega (arith, length-drop at w)) in
+    let e : listOver n (λ k. getD w (at + k) 0) ≡ take n (drop at w) =
+    ext-getD 0 _ _ (length-listOver n _ ∙ sym l) (λ k h.
+    let g : k < n = omega (arith, length-listOver n (λ k. getD w (at + k) 0)) in
+    getD-listOver n _ k g ∙ sym (getD-take n (drop at w) k 0 g ∙ getD-drop at w k 0)) in
+    ap (λ (x : List ℕ). take at w ++ (x ++ drop (at + length x) w)) e
+    ∙ ap (λ (x : ℕ). take at w ++ (take n (drop at w) ++ drop (at + x) w)) l
+    ∙ ap (λ (x : List ℕ). take at w ++ (take n (drop at w) ++ x)) (sym (drop-drop n at w))
+    ∙ ap (λ (x : List ℕ). take at w ++ x) (take-append-drop n (drop at w)) ∙ take-append-drop at w
+
 -- one word
 pub put-one : (at v : ℕ) (w : List ℕ) → at < length w → set w at v ≡ putAt at (v ∷ []) w
 unfolding putAt
@@ -97,12 +132,14 @@ put-within at b xs w p room e =
     ∙ ap₂ (λ (l r : List ℕ). l ++ (xs ++ r)) (sym (take-add at b w))
     (drop-drop (b + length xs) at w ∙ ap (λ (x : ℕ). drop x w) (sym (add-assoc at b (length xs))))
 
--- memories with the same front have the same words and parts there
-pub same-word : (b i : ℕ) (w w₀ : List ℕ) → take b w ≡ take b w₀ → i < b → getD w i 0 ≡ getD w₀ i 0
-same-word b i w w₀ e h = sym (getD-take b w i 0 h) ∙ ap (λ (l : List ℕ). getD l i 0) e ∙ getD-take b w₀ i 0 h
+-- the words of a list, one by one
+pub list-all : {n : ℕ} (l : List ℕ) → length l ≡ n → listOver n (λ k. getD l k 0) ≡ l
+list-all l e = ap (λ (x : ℕ). listOver x (λ k. getD l k 0)) (sym e) ∙ listOver-self l
 
-pub same-part : (a b : ℕ) (w w₀ : List ℕ) → take b w ≡ take b w₀ → a ≤ b → take a w ≡ take a w₀
-same-part a b w w₀ e h = sym (take-take a b w h) ∙ ap (take a) e ∙ take-take a b w₀ h
+-- a list made of another one, word by word
+pub list-through : (n : ℕ) (f : ℕ → ℕ) (g : ℕ → ℕ → ℕ) {p q : List ℕ} → p ≡ listOver n f → q ≡ listOver n (λ k. g k (getD p k 0))
+    → q ≡ listOver n (λ k. g k (f k))
+list-through n f g e d = d ∙ listOver-eq n _ _ (λ k h. ap (g k) (ap (λ (l : List ℕ). getD l k 0) e ∙ getD-listOver n f k h))
 
 -- ---- a loop that writes f 0, f 1 .. from `base` on: i of n words are written
 
@@ -152,13 +189,9 @@ list-front {f} {base} {n} {i} {w₀} b s h = ap (take b) (s .is) ∙ put-front b
 
 -- a loop that writes from the front on has not yet changed what lies ahead
 pub list-ahead : {f : ℕ → ℕ} {n i : ℕ} {w₀ w : List ℕ} → Lists f 0 n w₀ i w → getD w i 0 ≡ getD w₀ i 0
-list-ahead {f} {n} {i} {w₀} {w} s =
-    let l : i ≡ 0 + length (listOver i f) = omega (arith, length-listOver i f) in
-    let e : drop i w ≡ drop i w₀ =
-    ap (drop i) (s .is) ∙ ap (λ (x : ℕ). drop x (putAt 0 (listOver i f) w₀)) l
-    ∙ put-rest 0 (listOver i f) w₀ (omega (arith, length-listOver i f, s .within, s .room)) ∙ ap (λ (x : ℕ). drop x w₀) (sym l) in
-    ap (λ (x : ℕ). getD w x 0) (sym (add-zero i)) ∙ sym (getD-drop i w 0 0) ∙ ap (λ (x : List ℕ). getD x 0 0) e ∙ getD-drop i w₀ 0 0
-    ∙ ap (λ (x : ℕ). getD w₀ x 0) (add-zero i)
+list-ahead {f} {n} {i} {w₀} s =
+    ap (λ (l : List ℕ). getD l i 0) (s .is)
+    ∙ put-above 0 (listOver i f) w₀ (omega (arith, length-listOver i f, s .within, s .room)) i (omega (arith, length-listOver i f))
 
 -- ---- a loop that writes lists g 0, g 1 .. one behind the other from `base` on: t of n are written, up to `at`
 
@@ -190,6 +223,3 @@ run-more {g} {base} {n} {t} {at} {w₀} {w} {w'} k s h room lg e =
 
 pub run-done : {g : ℕ → List ℕ} {base n t at : ℕ} {w₀ w : List ℕ} → Runs g base n w₀ t at w → n ≤ t → w ≡ putAt base (runOver n g) w₀
 run-done {g} {base} {n} {t} {at} {w₀} s h = let k : t ≡ n = omega (arith, s .within) in s .is ∙ ap (λ (x : ℕ). putAt base (runOver x g) w₀) k
-
-pub run-front : {g : ℕ → List ℕ} {base n t at : ℕ} {w₀ w : List ℕ} (b : ℕ) → Runs g base n w₀ t at w → b ≤ base → take b w ≡ take b w₀
-run-front {g} {base} {n} {t} {at} {w₀} b s h = ap (take b) (s .is) ∙ put-front base (runOver t g) w₀ (omega (arith, s .here, s .inside)) b h

@@ -2,11 +2,11 @@
 -- Assumes nothing.
 use mathlib.Core.Path.{_≡_, refl, sym, ap, _∙_}
 use mathlib.Core.List.{List, _∷_}
-use Prim.Native.Nat.{ℕ, zero, suc, _≤_}
+use Prim.Native.Nat.{ℕ, zero, suc, _≤_, _<_}
 use native.Mathlib.Nat.{not-suc-le-zero, le-of-suc-le-suc}
 use native.Mathlib.Omega.{arith}
 use lib.ListN.{length, getD, take, replicate}
-use lib.Seq.{ext-getD}
+use lib.Seq.{ext-getD, getD-take, length-take-le}
 use Rattle.rules.specs.Lists.{listOver}
 use Rattle.rules.proofs.Layers.{length-listOver, getD-listOver}
 
@@ -28,3 +28,13 @@ zeros n m h = go n m h ∙ ext-getD 0 _ _ (long n ∙ sym (length-listOver n (λ
     none zero i = refl
     none (suc n) zero = refl
     none (suc n) (suc i) = none n i
+
+-- the front of a row of empty words
+pub zeros-front : (n m : ℕ) (row : List ℕ) → row ≡ listOver m (λ q. 0) → n ≤ m → take n row ≡ listOver n (λ q. 0)
+zeros-front n m row e h =
+    ext-getD 0 (take n row) _ (length-take-le n row (omega (arith, long)) ∙ sym (length-listOver n (λ q. 0))) (λ i l.
+    let k : i < n = omega (arith, length-take-le n row (omega (arith, long))) in
+    getD-take n row i 0 k ∙ ap (λ (x : List ℕ). getD x i 0) e ∙ getD-listOver m (λ q. 0) i (omega arith) ∙ sym (getD-listOver n (λ q. 0) i k))
+  where
+    long : length row ≡ m
+    long = ap length e ∙ length-listOver m (λ q. 0)

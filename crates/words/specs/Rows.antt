@@ -1,16 +1,40 @@
--- Tables of words: rows of one width, one behind the other.
+-- Tables of words: rows of one length, one behind the other.
 use Prim.Native.Nat.{ℕ, _+_, _*_, _<_, _^_}
+use mathlib.Core.Path.{_≡_}
+use mathlib.Core.Logic.{_⊎_}
 use mathlib.Core.List.{List}
 use lib.ListN.{length, getD}
-use Rattle.rules.specs.Lists.{listOver, runOver}
+use Rattle.rules.specs.Lists.{listOver}
 use Rattle.rules.specs.Shared.{startLabel}
 
-unfoldable pub tableOf : ℕ → ℕ → (ℕ → ℕ → ℕ) → List ℕ
-tableOf rows width f = runOver rows (λ i. listOver width (f i))
+-- from one row of a table to the next
+abbrev pub rowLength : ℕ
+rowLength = 32
+
+-- the words of a row that are worked on at once
+abbrev pub partLength : ℕ
+partLength = 16
+
+abbrev pub tableLength : ℕ
+tableLength = 1024
 
 -- word j of row i
-unfoldable pub cellIn : ℕ → List ℕ → ℕ → ℕ → ℕ
-cellIn width table i j = getD table (i * width + j) 0
+unfoldable pub cell : List ℕ → ℕ → ℕ → ℕ
+cell table i j = getD table (i * rowLength + j) 0
+
+-- a row of a table, to be written
+pub record Target (table : List ℕ) (row : ℕ) : Type 0 where
+  pub whole : length table ≡ tableLength
+  pub inside : row < rowLength
+
+-- the rows of a table that a set names
+pub record Source (table : List ℕ) (named : ℕ) : Type 0 where
+  pub whole : length table ≡ tableLength
+  pub inside : named < 2 ^ rowLength
+
+-- one part or two
+abbrev pub InParts : ℕ → Type 0
+InParts width = (width ≡ partLength) ⊎ (width ≡ rowLength)
 
 -- of each of n propositions the numbers of the sets that contain it: of start states the labels of layer 0, of vertices' adds the adders
 unfoldable pub columnsOf : ℕ → List ℕ → List ℕ

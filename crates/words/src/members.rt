@@ -1,11 +1,11 @@
-// The members of a set, one after the other from the lowest, and what is joined or shared over them: only the members cost time.
+// The members of a set, one after the other from the lowest, and what is shared over them: only the members cost time.
 ghost use mathlib.Core.Path.{_≡_};
 ghost use Prim.Native.Nat.{_≤_, _<_, _^_};
 ghost use lib.ListN.{length, getD};
 ghost use lib.Count.{trailingZeros};
 ghost use Rattle.rules.specs.Word.{without};
 ghost use Rattle.rules.specs.Word as W;
-ghost use Rattle.rules.specs.Over.{joinOf, meetOf};
+ghost use Rattle.rules.specs.Over.{meetOf};
 ghost use Rattle.words.specs.Width.{wordWidth};
 
 // Just i.
@@ -29,20 +29,6 @@ pub fn others(set: u64) -> u64
     ensures { λ r. ⌜ (r ≡ without set (W.single (trailingZeros wordWidth set))) × (r < set) ⌝ }
 {
     set & (set - 1)
-}
-
-// What is in some word of the row whose index is in the set.
-pub fn join_at(row: &[u64], set: u64) -> u64
-    requires { ⌜ (length (now row) ≤ wordWidth) × (set < 2 ^ length (now row)) ⌝ }
-    ensures { λ r. ⌜ r ≡ joinOf (length (now (row .entry))) set (λ i. getD (now (row .entry)) i 0) ⌝ }
-{
-    let mut left = set;
-    let mut joined = 0;
-    while 0 < left {
-        joined = joined | row[lowest(left)];
-        left = others(left);
-    }
-    joined
 }
 
 // What is in `all` and in each word of the row whose index is in the set.

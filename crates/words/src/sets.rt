@@ -1,9 +1,9 @@
-// Sets of propositions, of start states and of vertices: a type each, so that one is never read as the other.
+// Sets of propositions and of start states: a type each, so that one is never read as the other.
 ghost use mathlib.Core.Path.{_≡_};
 ghost use Prim.Native.Nat.{_≤_, _<_};
 ghost use Rattle.rules.specs.Test.{same};
 ghost use Rattle.rules.specs.Word as W;
-ghost use Rattle.words.specs.Width.{propWidth, stateWidth, wordWidth};
+ghost use Rattle.words.specs.Width.{propWidth, stateWidth};
 
 pub const PROP_WIDTH: usize = 32;
 
@@ -151,27 +151,5 @@ impl States {
         ensures { λ r. ⌜ r ≡ same (self .0) 0 ⌝ }
     {
         self.0 == 0
-    }
-}
-
-// A set of vertices, bit v for vertex v.
-pub struct Vertices(pub u64);
-
-impl Vertices {
-    pub const EMPTY: Vertices = Vertices(0);
-
-    // Just v.
-    pub fn single(v: usize) -> Vertices
-        requires { ⌜ v < wordWidth ⌝ }
-        ensures { λ r. ⌜ r .0 ≡ W.single v ⌝ }
-    {
-        Vertices(1u64 << v)
-    }
-
-    pub fn has(self, v: usize) -> bool
-        requires { ⌜ v < wordWidth ⌝ }
-        ensures { λ r. ⌜ r ≡ W.bit v (self .0) ⌝ }
-    {
-        (self.0 >> v) % 2 == 1
     }
 }

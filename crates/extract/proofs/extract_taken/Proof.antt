@@ -102,10 +102,14 @@ returns-2 c =
 enum-told-2 : tie.Need-enum-told-2
 enum-told-2 c = search needs
 
+stride-requires : tie.Need-stride-requires
+stride-requires c κs =
+    subst Small (sym (at-count c .before .shape .ensures)) (small-of _ (args (at-count c) .pre))
+
 cut-requires : tie.Need-cut-requires
 cut-requires c κs =
-    let w = at-count (c .before) in
-    (omega (arith, counted w, passed (at-graph w) .fits), omega (arith, counted w, output-means _ _ (roomy (c .before))))
+    let w = at-count (c .before .before) in
+    (omega (arith, counted w, passed (at-graph w) .fits), omega (arith, counted w, output-means _ _ (roomy (c .before .before))))
 
 same-length : tie.Need-same-length
 same-length c = search needs
@@ -113,7 +117,7 @@ same-length c = search needs
 returns-3 : tie.Need-returns-3
 unfolding extractTaken
 returns-3 c =
-    let last = c .before .before .before .before in
+    let last = c .before .before .before .before .before in
     let w = at-count last in
     let p = passed (at-graph w) in
     let s = args w in
@@ -136,6 +140,7 @@ extract-taken-spec =
     enum-known-room
     returns-2
     enum-told-2
+    stride-requires
     cut-requires
     same-length
     returns-3)

@@ -1,43 +1,49 @@
--- The lists that were read hold the actions' sets, so the plan over them is the plan of the file's actions.
-use Rattle.plan.proofs.Answers.{equal-rule, room-counted}
-use Rattle.plan.proofs.ReadPlans.{front-length, read-plan}
-use Rattle.plan.specs.Plan.{plannedVerdict}
+-- The lists that are read are the file's actions, so the descent is theirs. Nothing is written before the words are whole; then they are copied and counted.
+use mathlib.Core.List.{[]}
+use mathlib.Core.Path.{_≡_, sym, ap, _∙_}
 use native.Mathlib.Omega.{arith}
-use mathlib.Core.Path.{sym, ap, _∙_}
+use lib.ListN.{length}
+use Rattle.rules.specs.Word.{bit}
+use Rattle.rules.specs.Over.{keep}
+use Rattle.rules.specs.Lists.{listOver}
+use Rattle.rules.specs.Plan.{descend}
+use Rattle.rules.proofs.Layers.{length-listOver}
+use Rattle.graph.specs.Format.{actionsOf}
+use Rattle.plan.specs.Search.{plannedAs}
+use Rattle.plan.proofs.Answers.{plan-refused, plan-given, ends-stuck, ends-whole}
+use Rattle.plan.proofs.Readings.{descends, read-descend, goals-spread}
 use borrow.Author.Needs.{needs}
 use Rattle.plan.proofs.plan_in.Statement.{statement}
 use Rattle.plan.proofs.plan_in.Tie as tie
 
-read-vertices-requires : tie.Need-read-vertices-requires
-read-vertices-requires c κs = search needs
+read-sets-requires : tie.Need-read-sets-requires
+read-sets-requires c κs = search needs
 
-slice-reshare-prefix-plan-over : tie.Need-slice-reshare-prefix-plan-over
-slice-reshare-prefix-plan-over c = search needs
+spread-requires : tie.Need-spread-requires
+spread-requires c κs = let start = c .before .before .before .before .before .before .before .before .before .before .before .before .before .before .before in
+    omega (arith, ap length (start .pre .1 .nothing), length-listOver (start .args .c .props) (λ p. 0), start .pre .0 .ranged .props)
 
-slice-aggregate-plan-over : tie.Need-slice-aggregate-plan-over
-slice-aggregate-plan-over c = sym (front-length
-    (c .before .before .before .before .before .before .before .before .before .before .before .before .before .before .before .before .before .args .c
-    .actions) _ _ _ (omega arith) (c .before .before .before .before .before .before .before .read-vertices .ensures .0))
+descend-requires : tie.Need-descend-requires
+descend-requires c κs =
+    let at-read-sets = c .before .before .before .before .before .before .before .before .before .before .before .before in
+    let start = c .before .before .before .before .before .before .before .before .before .before .before .before .before .before .before .before .before .before .before .before .before .before in
+    descends (start .args .set .0) (start .args .goal .0) (start .pre .0) (start .pre .1) (at-read-sets .read-sets .ensures .0) (at-read-sets .read-sets .ensures .1) (c .before .before .before .before .before .before .spread .ensures)
 
-slice-reshare-prefix-plan-over-2 : tie.Need-slice-reshare-prefix-plan-over-2
-slice-reshare-prefix-plan-over-2 c = search needs
+-- the descent is that of the file's actions, from the goals
+falls : (c : tie.After-descend)
+    → let a = c .before .before .before .before .before .before .before .before .before .before .before .before .before .before .before .before .before .before .before .before .before .before .before .args in
+    plannedAs (c .descend .result) (c .descend .last .1 .1 .1 .1 .1 .0)
+    ≡ descend (actionsOf (a .file .now) (a .c)) (a .words .now) (length (a .plan .now)) (listOver (a .c .props) (λ p. keep (bit p (a .goal .0)) (a .set .0))) []
+falls c =
+    let start = c .before .before .before .before .before .before .before .before .before .before .before .before .before .before .before .before .before .before .before .before .before .before .before in
+    let a = start .args in
+    let read = c .before .before .before .before .before .before .before .before .before .before .before .before .before .read-sets .ensures in
+    c .descend .ensures
+    ∙ read-descend (a .file .now) (a .c) (start .pre .0) _ _ (read .0) (read .1) (a .words .now) (length (a .plan .now)) (a .set .0) (a .goal .0) _
+    (goals-spread (a .c .props) (a .set .0) (a .goal .0) _ _ (start .pre .1 .nothing) (c .before .before .before .before .before .before .before .spread .ensures))
 
-slice-aggregate-plan-over-2 : tie.Need-slice-aggregate-plan-over-2
-slice-aggregate-plan-over-2 c = sym (front-length
-    (c .before .before .before .before .before .before .before .before .before .before .before .before .before .before .before .before .before .before .args
-    .c .actions) _ _ _ (omega arith) (c .before .before .before .before .before .before .before .before .read-vertices .ensures .1))
-
-plan-over-requires : tie.Need-plan-over-requires
-plan-over-requires c κs =
-    let start = c .before .before .before .before .before .before .before .before .before .before .before .before .before .before .before .before
-    .before .before .before in
-    let at-read = c .before .before .before .before .before .before .before .before .before in
-    let e = front-length (start .args .c .actions) _ _ _ (omega arith) (at-read .read-vertices .ensures .0) in
-    let f = front-length (start .args .c .actions) _ _ _ (omega arith) (at-read .read-vertices .ensures .1) in (
-      room-counted _ _ e (start .pre .0 .1),
-      record { few = omega (arith, e, start .pre .0 .0 .ranged .actions); alike = f ∙ sym e },
-      start .pre .0 .2,
-    )
+enum-known-got : tie.Need-enum-known-got
+enum-known-got c = search needs
 
 same-length : tie.Need-same-length
 same-length c = search needs
@@ -52,29 +58,61 @@ same-length-4 : tie.Need-same-length-4
 same-length-4 c = search needs
 
 returns : tie.Need-returns
-returns c =
-    let at-read-vertices = c .before .before .before .before .before .before .before .before .before .before .before .before in
-    let a = c .before .before .before .before .before .before .before .before .before .before .before .before .before .before .before .before .before
-    .before .before .before .before .before .args in
-    equal-rule (a .out .now) _ _
-    (ap (plannedVerdict (a .depth))
-    (read-plan (a .file .now) (a .c) _ _ (a .depth) (a .set .0) (a .goal .0) (a .words .now)
-    (at-read-vertices .read-vertices .ensures .0)
-    (at-read-vertices .read-vertices .ensures .1)))
-    (c .before .before .plan-over .ensures)
+returns c = λ depth.
+    plan-refused _ _ _ _ (ends-stuck depth _ _ (sym (ap (λ r. plannedAs r (c .before .before .before .before .before .before .before .descend .last .1 .1 .1 .1 .1 .0)) (c .before .got .given .1)) ∙ falls (c .before .before .before .before .before .before .before)))
+
+enum-told : tie.Need-enum-told
+enum-told c = search needs
+
+copy-requires : tie.Need-copy-requires
+copy-requires c κs = search needs
+
+count-requires : tie.Need-count-requires
+count-requires c κs = omega (arith, c .before .before .before .before .before .before .before .before .before .before .before .before .before .before .before .before .before .before .before .before .before .before .before .before .before .before .before .before .before .before .before .before .before .before .before .pre .1 .room .deep, c .before .before .before .before .before .before .before .before .before .before .before .before .descend .kept .1 .1 .1 .1 .1 .0)
+
+same-length-5 : tie.Need-same-length-5
+same-length-5 c = search needs
+
+same-length-6 : tie.Need-same-length-6
+same-length-6 c = search needs
+
+same-length-7 : tie.Need-same-length-7
+same-length-7 c = search needs
+
+same-length-8 : tie.Need-same-length-8
+same-length-8 c = search needs
+
+same-length-9 : tie.Need-same-length-9
+same-length-9 c = search needs
+
+returns-2 : tie.Need-returns-2
+returns-2 c =
+    let at-descend = c .before .before .before .before .before .before .before .before .before .before .before .before .before in
+    λ depth.
+    plan-given _ (at-descend .descend .last .1 .1 .1 .1 .1 .0) _ _ _
+    (ends-whole depth _ (at-descend .descend .last .1 .1 .1 .1 .1 .0)
+    (sym (ap (λ r. plannedAs r (at-descend .descend .last .1 .1 .1 .1 .1 .0)) (c .before .before .before .before .before .before .before .enum-told .given .1)) ∙ falls at-descend))
+    (c .count .ensures) (c .before .before .before .before .copy .ensures)
 
 pub plan-in-spec : {M : Type 1} → statement M
 plan-in-spec =
     tie.close
     (tie.spec
-    read-vertices-requires
-    slice-reshare-prefix-plan-over
-    slice-aggregate-plan-over
-    slice-reshare-prefix-plan-over-2
-    slice-aggregate-plan-over-2
-    plan-over-requires
+    read-sets-requires
+    spread-requires
+    descend-requires
+    enum-known-got
     same-length
     same-length-2
     same-length-3
     same-length-4
-    returns)
+    returns
+    enum-told
+    copy-requires
+    count-requires
+    same-length-5
+    same-length-6
+    same-length-7
+    same-length-8
+    same-length-9
+    returns-2)

@@ -4,7 +4,7 @@ use borrow.Author.Needs.{needs}
 use lib.ListN.{length}
 use Rattle.graph.specs.Verdict.{Verdict, accepted}
 use Rattle.graph.specs.Checks.{checkVerdict, askedRule, graphRule, outputRule}
-use Rattle.graph.proofs.Ladder.{graph-means, output-means, small-of}
+use Rattle.graph.proofs.Ladder.{graph-means, asked-means, goal-means, output-means, small-of}
 use Rattle.graph.proofs.Verdicts.{told, then-refused, then-accepted}
 use Rattle.plan.specs.Plan.{planTaken}
 use Rattle.plan.proofs.Answers.{plan-refused, equal-rule}
@@ -62,11 +62,15 @@ room-passed : (c : tie.After-enum-told2) → let a = c .before .before .before .
     (a .depth) (length (a .out .now)) ≡ accepted tt
 room-passed c = told checkVerdict (c .before .before .check-output .ensures) (c .enum-told2 .given .1)
 
-plan-read-requires : tie.Need-plan-read-requires
-plan-read-requires c κs =
+plan-over-requires : tie.Need-plan-over-requires
+plan-over-requires c κs =
     let start = c .before .before .before .before .before .before .before .before .before .before .before in
-    let p = graph-means _ _ _ _ (graph-passed (c .before .before .before .before)) in
-    (start .pre, record { small = small-of _ (start .pre .ranged); deep = p .deep; fits = p .fits }, output-means _ _ (room-passed (c .before)))
+    let p = graph-means _ _ _ _ (graph-passed (c .before .before .before .before)) in (
+      start .pre,
+      record { small = small-of _ (start .pre .ranged); deep = p .deep; fits = p .fits },
+      goal-means _ _ (asked-means _ _ _ (p .fine) .1),
+      output-means _ _ (room-passed (c .before)),
+    )
 
 same-length : tie.Need-same-length
 same-length c = search needs
@@ -77,7 +81,7 @@ returns-3 c =
     equal-rule (c .before .before .before .before .before .before .before .before .before .before .before .before .before .before .args .out .now) _ _
     (sym (then-accepted _ _ _ (graph-passed (c .before .before .before .before .before .before .before))
     ∙ then-accepted _ _ _ (room-passed (c .before .before .before .before))))
-    (c .before .before .plan-read .ensures)
+    (c .before .before .plan-over .ensures)
 
 pub plan-taken-spec : {M : Type 1} → statement M
 plan-taken-spec =
@@ -92,6 +96,6 @@ plan-taken-spec =
     enum-known-room
     returns-2
     enum-told-2
-    plan-read-requires
+    plan-over-requires
     same-length
     returns-3)

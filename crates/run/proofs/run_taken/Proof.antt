@@ -76,13 +76,13 @@ list-passed c = told checkVerdict (c .before .before .check-sequence .ensures) (
 run-passed-requires : tie.Need-run-passed-requires
 run-passed-requires c κs =
     let at-room = c .before .before .before .before in
-    let at-set = at-room .before .before .before in (
-      at-set .before .before .before .before .before .before .pre,
-      some-means _ _ (set-passed at-set),
-      sequence-means _ _ (list-passed
-          (c .before)) .1,
-      output-means _ _ (room-passed at-room),
-    )
+    let at-set = at-room .before .before .before in
+    record {
+      taken = at-set .before .before .before .before .before .before .pre;
+      some = some-means _ _ (set-passed at-set);
+      known = sequence-means _ _ (list-passed (c .before)) .1;
+      fits = output-means _ _ (room-passed at-room);
+    }
 
 same-length : tie.Need-same-length
 same-length c = search needs

@@ -1,65 +1,47 @@
--- The loop carries out the moves, after which the bits are closed up.
-use mathlib.Core.Path.{refl, ap}
-use Prim.Native.Nat.{_-_}
+-- From move to move; where nothing goes down in the last two, they change nothing.
+use mathlib.Core.Path.{_≡_, _∙_}
 use native.Mathlib.Omega.{arith}
-use lib.ListN.{length}
-use Rattle.rules.proofs.Layers.{length-listOver}
+use Prim.Native.Nat.{ℕ, _^_, _/_, _<_}
+use Rattle.rules.specs.Word.{common, union, without}
 use Rattle.words.specs.Width.{stateWidth}
-use Rattle.extract.specs.Moves.{mostMoves, moving, masksOf}
-use Rattle.extract.proofs.MoveLoops.{Closes, close-none, close-more, close-done, shift-lt}
+use Rattle.extract.specs.Moves.{MovesOf, closing}
+use Rattle.extract.specs.declared.close.Moves.{Moves}
+use Rattle.extract.proofs.Moves.{closing-first, closing-next, closing-still, closing-last}
+use Rattle.extract.proofs.MoveLoops.{none-joined}
 use Rattle.extract.proofs.close.close_up.Statement.{statement}
 use Rattle.extract.proofs.close.close_up.Tie as tie
 
-abbrev Inv-loop : tie.InvT-loop
-Inv-loop masks w moves word₀ i₀ word i = Closes masks w moves word₀ word i
+-- what a move makes of a word
+abbrev move : ℕ → ℕ → ℕ → ℕ
+move x m d = union (without x m) (common x m / 2 ^ d)
 
-abbrev μ-loop : tie.MeasureT-loop
-μ-loop masks w moves word₀ i₀ word i = moves - i
+-- the word after four moves
+four : (m : Moves) (w : ℕ) → m .set < 2 ^ stateWidth → MovesOf (m .set) m
+    → move (move (move (move (common (m .set) w) (m .m0) 1) (m .m1) 2) (m .m2) 4) (m .m3) 8 ≡ closing stateWidth (m .set) w 4
+four m w small p =
+    closing-next stateWidth (m .set) w 3 _ _ (closing-next stateWidth (m .set) w 2 _ _ (closing-next stateWidth (m .set) w 1 _ _
+    (closing-next stateWidth (m .set) w 0 _ _ (closing-first stateWidth (m .set) w small) (p .mask0)) (p .mask1)) (p .mask2)) (p .mask3)
 
-loop-holds : tie.Need-loop-holds Inv-loop μ-loop
-loop-holds c = close-none
-
-mul-going : tie.Need-mul-going Inv-loop μ-loop
-mul-going c = omega (arith, c .before .before .before .pre .1 .few)
-
-shared-slice-read-going : tie.Need-shared-slice-read-going Inv-loop μ-loop
-unfolding masksOf
-shared-slice-read-going c =
-    let s = c .before .before .before .before in
-    omega (arith, s .pre .1 .few, ap length (s .pre .0), length-listOver mostMoves (moving stateWidth (s .args .set .0)))
-
-shl-word : tie.Need-shl-word Inv-loop μ-loop
-shl-word c = omega (arith, c .before .before .before .before .pre .1 .few)
-
-shr-word : tie.Need-shr-word Inv-loop μ-loop
-shr-word c = shift-lt _ (omega (arith, c .before .before .before .before .pre .1 .few))
-
-add-i : tie.Need-add-i Inv-loop μ-loop
-add-i c = omega (arith, c .before .before .before .before .pre .1 .few)
-
-loop-less : tie.Need-loop-less Inv-loop μ-loop
-loop-less c = omega arith
-
-loop-again : tie.Need-loop-again Inv-loop μ-loop
-loop-again c = close-more (c .before .before .loop .inv) (omega arith) (omega (arith, c .before .before .before .before .pre .1 .few))
-
-returns : tie.Need-returns Inv-loop μ-loop
+returns : tie.Need-returns
 returns c =
-    let s = c .before .before .before in
-    close-done (s .args .set .0) (c .before .loop .inv) (omega arith) (s .pre .1) (omega arith) (s .pre .0) refl
+    let s = c .before .before .before .before .before .before .before .before .before .before .before in
+    let m = s .args .m in
+    let none = none-joined (m .m4) (m .m5) (c .if1 .taken) in
+    closing-still stateWidth (m .set) (s .args .w) 5 _ (m .m5)
+    (closing-still stateWidth (m .set) (s .args .w) 4 _ (m .m4) (four m (s .args .w) (omega arith) (s .pre)) (s .pre .mask4) (none .0)) (s .pre .mask5) (none .1)
+    ∙ closing-last stateWidth (m .set) (s .args .w) (omega arith)
+
+returns-2 : tie.Need-returns-2
+returns-2 c =
+    let s = c .before .before .before .before .before .before .before .before .before .before .before .before .before .before .before in
+    let m = s .args .m in
+    closing-next stateWidth (m .set) (s .args .w) 5 _ _
+    (closing-next stateWidth (m .set) (s .args .w) 4 _ _ (four m (s .args .w) (omega arith) (s .pre)) (s .pre .mask4)) (s .pre .mask5)
+    ∙ closing-last stateWidth (m .set) (s .args .w) (omega arith)
 
 pub close-up-spec : {M : Type 1} → statement M
 close-up-spec =
     tie.close
     (tie.spec
-    Inv-loop
-    μ-loop
-    loop-holds
-    mul-going
-    shared-slice-read-going
-    shl-word
-    shr-word
-    add-i
-    loop-less
-    loop-again
-    returns)
+    returns
+    returns-2)

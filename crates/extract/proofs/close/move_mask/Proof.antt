@@ -1,12 +1,12 @@
 -- The loop takes one state of the set after the other, counts those that lie below, and joins where it stands if it goes down.
 use borrow.Author.Needs.{needs}
 use native.Mathlib.Omega.{arith}
-use Rattle.extract.proofs.MoveLoops.{Masked, mask-none, mask-more, mask-done, next-under, next-lt}
+use Rattle.extract.proofs.MoveLoops.{Masked, mask-none, mask-more, movingAt, moving-next, moving-done, next-under, next-lt}
 use Rattle.extract.proofs.close.move_mask.Statement.{statement}
 use Rattle.extract.proofs.close.move_mask.Tie as tie
 
 abbrev Inv-loop : tie.InvT-loop
-Inv-loop i left₀ under₀ mask₀ left under mask = Masked left₀ i left under mask
+Inv-loop i left₀ under₀ mask₀ left under mask = Masked (movingAt left₀ i) left₀ left under mask
 
 abbrev μ-loop : tie.MeasureT-loop
 μ-loop i left₀ under₀ mask₀ left under mask = left
@@ -35,10 +35,11 @@ loop-less c = c .others .ensures .1
 loop-again : tie.Need-loop-again Inv-loop μ-loop
 loop-again c =
     let l = c .before .before .before .before .loop .inv in
-    mask-more l (search needs) (c .before .before .lowest .ensures) (c .before .moving-at .ensures) (c .others .ensures .0)
+    mask-more l (search needs) (moving-next _ (l .ranked) (search needs) (c .before .before .lowest .ensures) (c .before .moving-at .ensures))
+    (c .others .ensures .0)
 
 returns : tie.Need-returns Inv-loop μ-loop
-returns c = mask-done (c .before .loop .inv) (omega arith)
+returns c = moving-done _ (c .before .loop .inv) (omega arith)
 
 pub move-mask-spec : {M : Type 1} → statement M
 move-mask-spec =

@@ -1,17 +1,14 @@
--- It lends its arrays, cut to size.
-use mathlib.Core.Path.{sym, ap, _∙_}
+-- It lends its arrays, the lists cut to size.
+use mathlib.Core.Path.{refl, sym, ap, _∙_}
 use Prim.Native.Nat.{ℕ}
 use native.Mathlib.Omega.{arith}
+use borrow.Author.Needs.{needs}
 use lib.ListN.{replicate}
 use lib.Seq.{length-take-le}
 use Rattle.rules.specs.Lists.{listOver}
 use Rattle.words.proofs.Zeros.{zeros}
-use borrow.Author.Needs.{needs}
 use Rattle.graph.proofs.build.build_words.Statement.{statement}
 use Rattle.graph.proofs.build.build_words.Tie as tie
-
-add-v : tie.Need-add-v
-add-v c = search needs
 
 array-borrow-prefix-needs : tie.Need-array-borrow-prefix-needs
 array-borrow-prefix-needs c = search needs
@@ -43,30 +40,59 @@ array-borrow-prefix-adders c = search needs
 slice-aggregate-build-in-5 : tie.Need-slice-aggregate-build-in-5
 slice-aggregate-build-in-5 c = sym (length-take-le _ _ (omega arith))
 
-array-borrow-prefix-interfering : tie.Need-array-borrow-prefix-interfering
-array-borrow-prefix-interfering c = search needs
+array-borrow-prefix-foes : tie.Need-array-borrow-prefix-foes
+array-borrow-prefix-foes c = search needs
 
 slice-aggregate-build-in-6 : tie.Need-slice-aggregate-build-in-6
 slice-aggregate-build-in-6 c = sym (length-take-le _ _ (omega arith))
 
+slice-aggregate-build-in-7 : tie.Need-slice-aggregate-build-in-7
+slice-aggregate-build-in-7 c = search needs
+
+slice-aggregate-build-in-8 : tie.Need-slice-aggregate-build-in-8
+slice-aggregate-build-in-8 c = search needs
+
+slice-aggregate-build-in-9 : tie.Need-slice-aggregate-build-in-9
+slice-aggregate-build-in-9 c = search needs
+
+slice-aggregate-build-in-10 : tie.Need-slice-aggregate-build-in-10
+slice-aggregate-build-in-10 c = search needs
+
+slice-aggregate-build-in-11 : tie.Need-slice-aggregate-build-in-11
+slice-aggregate-build-in-11 c = search needs
+
+slice-aggregate-build-in-12 : tie.Need-slice-aggregate-build-in-12
+slice-aggregate-build-in-12 c = search needs
+
+slice-aggregate-build-in-13 : tie.Need-slice-aggregate-build-in-13
+slice-aggregate-build-in-13 c = search needs
+
 build-in-requires : tie.Need-build-in-requires
-build-in-requires c κs =
-    let start = c .before .before .before .before .before .before .before .before .before .before in
+build-in-requires c κs = let start = c .before .before .before .before .before .before .before .before .before .before .before .before .before .before .before .before in
     let few = length-take-le {A = ℕ} (start .args .c .props) (replicate 32 0) (start .pre .0 .ranged .props) in (
       start .pre,
       record {
-        needs-long = length-take-le _ _ (omega arith);
-        adds-long = length-take-le _ _ (omega arith);
-        dels-long = length-take-le _ _ (omega arith);
+        lists = record {
+          needs-long = length-take-le _ _ (omega arith);
+          adds-long = length-take-le _ _ (omega arith);
+          dels-long = length-take-le _ _ (omega arith);
+          adders-long = few;
+          foes-long = length-take-le _ _ (omega arith);
+          no-adders = zeros (start .args .c .props) 32 (start .pre .0 .ranged .props) ∙ ap (λ (x : ℕ). listOver x (λ p. 0)) (sym few);
+        };
         starts-long = length-take-le _ _ (omega arith);
-        adders-long = few;
-        interfering-long = length-take-le _ _ (omega arith);
-        no-adders = zeros (start .args .c .props) 32 (start .pre .0 .ranged .props) ∙ ap (λ (x : ℕ). listOver x (λ p. 0)) (sym few);
+        no-labels = zeros 32 32 (omega arith);
+        live-long = refl;
+        t-long = refl;
+        r-long = refl;
+        mates-long = refl;
+        besides-long = refl;
+        spare-long = refl;
       },
     )
 
 same-length : tie.Need-same-length
-same-length c = search needs
+same-length c = c .before .before .before .before .before .before .before .before .before .before .before .before .before .before .before .build-in .kept .1 .1 .1 .0
 
 returns : tie.Need-returns
 returns c = search needs
@@ -75,7 +101,6 @@ pub build-words-spec : {M : Type 1} → statement M
 build-words-spec =
     tie.close
     (tie.spec
-    add-v
     array-borrow-prefix-needs
     slice-aggregate-build-in
     array-borrow-prefix-adds
@@ -86,8 +111,15 @@ build-words-spec =
     slice-aggregate-build-in-4
     array-borrow-prefix-adders
     slice-aggregate-build-in-5
-    array-borrow-prefix-interfering
+    array-borrow-prefix-foes
     slice-aggregate-build-in-6
+    slice-aggregate-build-in-7
+    slice-aggregate-build-in-8
+    slice-aggregate-build-in-9
+    slice-aggregate-build-in-10
+    slice-aggregate-build-in-11
+    slice-aggregate-build-in-12
+    slice-aggregate-build-in-13
     build-in-requires
     same-length
     returns)

@@ -1,59 +1,125 @@
--- `steps::steps` meets its contract: where the steps end before the depth, the graph rests, and all later words are copies of the last step's.
-use Prim.Native.Nat.{_+_, _-_, _*_, _≤_}
+-- The steps that are made, and copies of the last one where the graph rests.
+use mathlib.Core.Path.{_≡_, sym, ap, ap₂, _∙_}
+use Prim.Native.Nat.{ℕ, _+_, _-_, _*_}
 use native.Mathlib.Omega.{arith}
-use lib.ListN.{length}
 use borrow.Author.Needs.{needs}
-use Rattle.rules.specs.Layer.{stride}
-use Rattle.graph.proofs.Repeats.{left-room, left-near, left-put}
-use Rattle.graph.specs.Listed.{listedDomain}
+use lib.ListN.{length}
+use Rattle.rules.specs.Lists.{runOver}
+use Rattle.rules.specs.Domain.{domain}
+use Rattle.rules.specs.Layer.{size}
+use Rattle.rules.specs.Together.{layerBy}
+use Rattle.words.specs.Memory.{putAt}
+use Rattle.words.specs.Rows.{cell}
+use Rattle.layers.specs.Step.{stepWords}
+use Rattle.graph.specs.Steps.{propFrom}
+use Rattle.layers.proofs.Rows.{parts-le}
+use Rattle.graph.proofs.Builds.{told-sizes}
+use Rattle.graph.proofs.Repeats.{small-product, repeat-room, left-put}
 use Rattle.graph.proofs.steps.steps.Statement.{statement}
 use Rattle.graph.proofs.steps.steps.Tie as tie
+
+-- from one step to the next
+far-is : (c : tie.After-layer-size2) → c .layer-size2 .result + c .before .layer-size .result
+    ≡ size (length (c .before .before .before .before .before .before .before .before .before .before .before .before .before .before .before .before .before .before .before .before .before .before .before .before .before .before .before .before .before .before .before .before .before .before .before .before .before .before .before .before .args .needs .now) + c .before .before .before .before .before .before .before .before .before .before .before .before .before .before .before .before .before .before .before .before .before .before .before .before .before .before .before .before .before .before .before .before .before .before .before .before .before .before .before .before .args .n) + size (c .before .before .before .before .before .before .before .before .before .before .before .before .before .before .before .before .before .before .before .before .before .before .before .before .before .before .before .before .before .before .before .before .before .before .before .before .before .before .before .before .args .n)
+far-is c = ap₂ (λ (x y : ℕ). x + y) (c .layer-size2 .ensures .0) (c .before .layer-size .ensures .0)
 
 steps-until-requires : tie.Need-steps-until-requires
 steps-until-requires c κs = search needs
 
 layer-size-requires : tie.Need-layer-size-requires
-layer-size-requires c κs = search needs
+layer-size-requires c κs = let start = c .before .before .before .before .before .before .before .before .before .before .before .before .before .before .before .before .before .before .before .before .before .before .before .before .before .before .before .before .before .before .before .before .before .before .before .before .before .before in
+    let w = start .pre .mating .wide in
+    omega (arith, w .props, parts-le (w .parts))
 
-stride-requires : tie.Need-stride-requires
-stride-requires c κs = record { props = search needs; vertices = search needs }
+add-layer-size : tie.Need-add-layer-size
+add-layer-size c = let start = c .before .before .before .before .before .before .before .before .before .before .before .before .before .before .before .before .before .before .before .before .before .before .before .before .before .before .before .before .before .before .before .before .before .before .before .before .before .before .before in
+    let w = start .pre .mating .wide in
+    omega (arith, w .props, w .actions, parts-le (w .parts))
 
--- the words that are left have room
-room : (c : tie.After-stride)
-    → let at = c .before .layer-size .result in
-    let far = c .stride .result in
-    let t = c .before .before .before .before .steps-until .result in
-    let a = c .before .before .before .before .before .before .before .before .before .before .args in
-    at + t * far + (a .depth - t) * far ≤ length (a .words .now)
-unfolding listedDomain stride
-room c = left-room (c .before .before .before .before .steps-until .ensures) (search needs) _ _ (search needs) (search needs)
+layer-size-requires-2 : tie.Need-layer-size-requires-2
+layer-size-requires-2 c κs = let start = c .before .before .before .before .before .before .before .before .before .before .before .before .before .before .before .before .before .before .before .before .before .before .before .before .before .before .before .before .before .before .before .before .before .before .before .before .before .before .before in
+    let w = start .pre .mating .wide in
+    omega (arith, w .props, w .actions, parts-le (w .parts))
+
+add-apart : tie.Need-add-apart
+add-apart c = search needs
 
 mul-to : tie.Need-mul-to
-mul-to c = omega (arith, room c)
+mul-to c = let start = c .before .before .before .before .before .before .before .before .before .before .before .before .before .before .before .before .before .before .before .before .before .before .before .before .before .before .before .before .before .before .before .before .before .before .before .before .before .before .before .before in
+    let far = c .layer-size2 .result + c .before .layer-size .result in
+    omega (
+      arith,
+      small-product {a = c .before .before .before .before .before .before .before .before .before .before .before .before .before .before .before .before .before .before .steps-until .result} {b = far} (omega (arith, c .before .before .before .before .before .before .before .before .before .before .before .before .before .before .before .before .before .before .steps-until .ensures .0, start .pre .deep))
+          (omega (arith, c .layer-size2 .ensures .1, c .before .layer-size .ensures .1)),
+    )
 
 add-to : tie.Need-add-to
-add-to c = omega (arith, room c)
+add-to c = let start = c .before .before .before .before .before .before .before .before .before .before .before .before .before .before .before .before .before .before .before .before .before .before .before .before .before .before .before .before .before .before .before .before .before .before .before .before .before .before .before .before in
+    let far = c .layer-size2 .result + c .before .layer-size .result in
+    omega (
+      arith,
+      c .before .layer-size .ensures .1,
+      small-product {a = c .before .before .before .before .before .before .before .before .before .before .before .before .before .before .before .before .before .before .steps-until .result} {b = far} (omega (arith, c .before .before .before .before .before .before .before .before .before .before .before .before .before .before .before .before .before .before .steps-until .ensures .0, start .pre .deep))
+          (omega (arith, c .layer-size2 .ensures .1, c .before .layer-size .ensures .1)),
+    )
 
 sub-left : tie.Need-sub-left
 sub-left c = search needs
 
 mul-left : tie.Need-mul-left
-mul-left c = omega (arith, room c)
+mul-left c = let start = c .before .before .before .before .before .before .before .before .before .before .before .before .before .before .before .before .before .before .before .before .before .before .before .before .before .before .before .before .before .before .before .before .before .before .before .before .before .before .before .before in
+    let far = c .layer-size2 .result + c .before .layer-size .result in
+    omega (
+      arith,
+      small-product {a = start .args .depth - c .before .before .before .before .before .before .before .before .before .before .before .before .before .before .before .before .before .before .steps-until .result} {b = far} (omega (arith, start .pre .deep))
+          (omega (arith, c .layer-size2 .ensures .1, c .before .layer-size .ensures .1)),
+    )
 
 repeat-requires : tie.Need-repeat-requires
-unfolding listedDomain stride
-repeat-requires c κs = (
-  left-near (c .before .before .before .before .before .steps-until .ensures) (search needs) _ _ (search needs) (search needs),
-  omega (arith, room (c .before)),
-)
+repeat-requires c κs = let start = c .before .before .before .before .before .before .before .before .before .before .before .before .before .before .before .before .before .before .before .before .before .before .before .before .before .before .before .before .before .before .before .before .before .before .before .before .before .before .before .before .before in
+    let far = c .before .layer-size2 .result + c .before .before .layer-size .result in
+    repeat-room (c .before .before .layer-size .result) far (c .before .before .before .before .before .before .before .before .before .before .before .before .before .before .before .before .before .before .before .steps-until .result) (start .args .depth) _ (c .before .before .before .before .before .before .before .before .before .before .before .before .before .before .before .before .before .before .before .steps-until .ensures .0) (c .before .before .before .before .before .before .before .before .before .before .before .before .before .before .before .before .before .before .before .steps-until .ensures .1)
+    (omega (
+      arith,
+      start .pre .fits,
+      c .before .before .before .before .before .before .before .before .before .before .before .before .before .before .before .before .before .before .before .steps-until .kept .0,
+      c .before .before .layer-size .ensures .0,
+      ap (λ (x : ℕ). start .args .depth * x) (far-is (c .before)),
+    ))
 
 same-length : tie.Need-same-length
 same-length c = search needs
 
+same-length-2 : tie.Need-same-length-2
+same-length-2 c = search needs
+
+same-length-3 : tie.Need-same-length-3
+same-length-3 c = search needs
+
+same-length-4 : tie.Need-same-length-4
+same-length-4 c = search needs
+
+same-length-5 : tie.Need-same-length-5
+same-length-5 c = search needs
+
+same-length-6 : tie.Need-same-length-6
+same-length-6 c = search needs
+
+same-length-7 : tie.Need-same-length-7
+same-length-7 c = search needs
+
+same-length-8 : tie.Need-same-length-8
+same-length-8 c = search needs
+
 returns : tie.Need-returns
-unfolding listedDomain stride
-returns c = left-put (c .before .before .before .before .before .before .before .before .steps-until .ensures) (search needs) _ _ (search needs) (search needs)
-    _ (c .before .before .repeat .ensures)
+returns c = λ A told del is.
+    let start = c .before .before .before .before .before .before .before .before .before .before .before .before .before .before .before .before .before .before .before .before .before .before .before .before .before .before .before .before .before .before .before .before .before .before .before .before .before .before .before .before .before .before .before .before in
+    let a = start .args in
+    let (v, e) = told-sizes A (a .n) (a .needs .now) (a .adds .now) (a .adders .now) (a .foes .now) told in
+    let q : size (length (a .needs .now) + a .n) + size (a .n) ≡ size (domain A .vertices) + size (domain A .props) = ap₂ (λ (x y : ℕ). x + y) (sym v) (sym e) in
+    left-put (c .before .before .before .before .before .before .before .before .before .before .before .before .before .before .before .before .before .before .before .before .before .before .steps-until .ensures .2 A told del is)
+    (omega (arith, start .pre .fits, ap (λ (x : ℕ). a .depth * x) q, e)) _ _ (c .before .before .before .before .before .layer-size .ensures .0 ∙ sym e) (far-is (c .before .before .before .before) ∙ q) _ (c .before .before .repeat .ensures)
+    ∙ ap (λ (x : ℕ). putAt x (runOver (a .depth) (λ k. stepWords (domain A) (a .all) (propFrom (domain A) (a .all) (layerBy (domain A .props) (cell (a .t .now))) k))) (a .words .now)) e
 
 pub steps-spec : {M : Type 1} → statement M
 steps-spec =
@@ -61,11 +127,20 @@ steps-spec =
     (tie.spec
     steps-until-requires
     layer-size-requires
-    stride-requires
+    add-layer-size
+    layer-size-requires-2
+    add-apart
     mul-to
     add-to
     sub-left
     mul-left
     repeat-requires
     same-length
+    same-length-2
+    same-length-3
+    same-length-4
+    same-length-5
+    same-length-6
+    same-length-7
+    same-length-8
     returns)

@@ -1,114 +1,145 @@
--- `steps::steps_until` meets its contract: each turn writes two layers behind the proposition layer that the turn before wrote, and is the
--- last where the new proposition layer equals that one.
-use Prim.Native.Nat.{_+_, _-_, _≤_}
+-- The loop writes one step after the other, until nothing changes or the depth is reached.
 use mathlib.Core.Path.{sym, _∙_}
+use Prim.Native.Nat.{_-_, _+_}
 use native.Mathlib.Omega.{arith}
-use lib.ListN.{length, take}
 use borrow.Author.Needs.{needs as simple}
-use Rattle.rules.specs.Layer.{size, stride as strideOf}
-use Rattle.graph.proofs.Builds.{Stepping, step-room, stepping-none, stepping-more}
-use Rattle.graph.proofs.Repeats.{stepped-rest, stepped-all}
-use Rattle.words.proofs.Writes.{tail-length}
-use Rattle.graph.specs.Listed.{listedDomain}
+use borrow.Rule.Slice.PartMut.{same-len-mid}
+use lib.ListN.{length}
+use Rattle.words.proofs.Places.{size-small}
+use Rattle.layers.proofs.Rows.{parts-le}
+use Rattle.graph.proofs.Builds.{Stepping, stepping-none, room, ready, stepping-more, stepping-rest, stepping-all}
 use Rattle.graph.proofs.steps.steps_until.Statement.{statement}
 use Rattle.graph.proofs.steps.steps_until.Tie as tie
 
 abbrev Inv-loop : tie.InvT-loop
-Inv-loop words₀ n needs adders interfering all depth count apart at₀ t₀ words at t =
-    Stepping (listedDomain n needs adders interfering) all (take (size n) words₀) depth words₀ t at words
+Inv-loop words₀ n needs adds dels adders foes all many width depth labels₀ live₀ t₀ r₀ mates₀ besides₀ spare₀ act apart at₀ k₀ words labels live t r mates besides spare at k =
+    Stepping n width depth all needs adds dels adders foes labels₀ t₀ words₀ k at words labels live t r mates besides spare
 
 abbrev μ-loop : tie.MeasureT-loop
-μ-loop words₀ n needs adders interfering all depth count apart at₀ t₀ words at t = depth - t
+μ-loop words₀ n needs adds dels adders foes all many width depth labels₀ live₀ t₀ r₀ mates₀ besides₀ spare₀ act apart at₀ k₀ words labels live t r mates besides spare at k =
+    depth - k
+
+add-layer-size : tie.Need-add-layer-size Inv-loop μ-loop
+add-layer-size c = let start = c .before .before .before .before .before .before .before .before .before .before .before .before .before in
+    let w = start .pre .mating .wide in
+    omega (arith, w .props, w .actions, parts-le (w .parts))
 
 layer-size-requires : tie.Need-layer-size-requires Inv-loop μ-loop
-layer-size-requires c κs = search simple
+layer-size-requires c κs = let start = c .before .before .before .before .before .before .before .before .before .before .before .before .before in
+    let w = start .pre .mating .wide in
+    omega (arith, w .props, w .actions, parts-le (w .parts))
 
-stride-requires : tie.Need-stride-requires Inv-loop μ-loop
-stride-requires c κs = record { props = search simple; vertices = search simple }
+layer-size-requires-2 : tie.Need-layer-size-requires-2 Inv-loop μ-loop
+layer-size-requires-2 c κs = let start = c .before .before .before .before .before .before .before .before .before .before .before .before .before .before in
+    let w = start .pre .mating .wide in
+    omega (arith, w .props, parts-le (w .parts))
+
+add-apart : tie.Need-add-apart Inv-loop μ-loop
+add-apart c = omega (arith, c .before .layer-size .ensures .1, c .layer-size2 .ensures .1)
+
+layer-size-requires-3 : tie.Need-layer-size-requires-3 Inv-loop μ-loop
+layer-size-requires-3 c κs = let start = c .before .before .before .before .before .before .before .before .before .before .before .before .before .before .before in
+    let w = start .pre .mating .wide in
+    omega (arith, w .props, parts-le (w .parts))
 
 loop-holds : tie.Need-loop-holds Inv-loop μ-loop
-unfolding listedDomain
-loop-holds c = let a = c .before .before .before .before .before .before .args in
-    stepping-none (listedDomain (a .n) (a .needs .now) (a .adders .now) (a .interfering .now)) (a .all) (a .depth) (a .words .now) (omega arith)
-
--- the step has room
-room : (c : tie.In-loop Inv-loop μ-loop) → let a = c .before .before .before .before .before .before .before .before .args in
-    c .before .loop .at + (size (a .n) + size (length (a .needs .now))) + size (a .n) ≤ length (c .before .loop .words)
-unfolding listedDomain
-room c = let a = c .before .before .before .before .before .before .before .before .args in
-    omega (
-      arith,
-      c .before .loop .inv .runs .long,
-      step-room (listedDomain (a .n) (a .needs .now) (a .adders .now) (a .interfering .now)) (a .depth) (c .before .loop .t) (c .before .loop .at)
-          (length (a .words .now)) (c .before .loop .inv .place) (search simple) (search simple),
-    )
+loop-holds c = let a = c .before .before .before .before .before .before .before .before .before .before .before .before .before .before .before .before .args in
+    stepping-none (a .n) (a .width) (a .depth) (a .all) _ (a .needs .now) (a .adds .now) (a .dels .now) (a .adders .now) (a .foes .now) (a .labels .now) (a .t .now) (a .words .now)
+    (a .live .now) (a .r .now) (a .mates .now) (a .besides .now) (a .spare .now) (c .before .before .before .before .before .before .before .before .before .before .before .before .before .before .before .before .pre) (c .layer-size3 .ensures .0)
 
 mul-step : tie.Need-mul-step Inv-loop μ-loop
-mul-step c = omega (arith, room c)
+mul-step c = omega (arith, room (c .before .loop .inv) (c .loop-test .taken))
 
 sub-step : tie.Need-sub-step Inv-loop μ-loop
-sub-step c = omega (arith, room c)
+sub-step c = omega (arith, room (c .before .loop .inv) (c .loop-test .taken))
 
 part-step-start : tie.Need-part-step-start Inv-loop μ-loop
-part-step-start c = omega (arith, room c)
+part-step-start c = omega (arith, room (c .before .loop .inv) (c .loop-test .taken))
 
 part-step-end : tie.Need-part-step-end Inv-loop μ-loop
 part-step-end c = search simple
 
 step-requires : tie.Need-step-requires Inv-loop μ-loop
-step-requires c κs =
-    let at-loop = c .before .before in
-    let fit = room (c .before) in
-    (search simple, omega (arith, tail-length (at-loop .loop .at) (at-loop .loop .words) (omega arith)))
-
-mul-rested : tie.Need-mul-rested Inv-loop μ-loop
-mul-rested c = omega (arith, room (c .before .before .before .before))
-
-sub-rested : tie.Need-sub-rested Inv-loop μ-loop
-sub-rested c = omega (arith, room (c .before .before .before .before))
-
-part-rested-start : tie.Need-part-rested-start Inv-loop μ-loop
-part-rested-start c = omega (arith, room (c .before .before .before .before .before))
-
-part-rested-end : tie.Need-part-rested-end Inv-loop μ-loop
-part-rested-end c = search simple
-
-rested-requires : tie.Need-rested-requires Inv-loop μ-loop
-unfolding strideOf
-rested-requires c κs = omega (arith, room (c .before .before .before .before .before .before))
+step-requires c κs = ready (c .before .before .before .before .before .before .before .before .before .loop .inv) (c .before .before .before .before .before .before .before .before .loop-test .taken) _ (c .before .before .before .before .before .before .before .before .before .before .before .before .layer-size .ensures .0)
 
 add-result : tie.Need-add-result Inv-loop μ-loop
-add-result c = omega arith
+add-result c = omega (arith, c .before .before .before .before .before .before .before .before .before .before .before .before .before .before .before .before .before .before .before .before .before .before .before .before .before .before .loop-test .taken, c .before .before .before .before .before .before .before .before .before .before .before .before .before .before .before .before .before .before .before .before .before .before .before .before .before .before .before .before .before .before .before .before .before .before .before .before .before .before .before .before .before .before .before .before .pre .deep)
 
 same-length : tie.Need-same-length Inv-loop μ-loop
-same-length c = search simple
-
-returns : tie.Need-returns Inv-loop μ-loop
-unfolding listedDomain strideOf
-returns c = stepped-rest (c .before .before .before .before .before .before .before .before .before .loop .inv) _ _ _ (search simple) (search simple)
-    (omega arith) (omega arith) (c .before .before .before .before .before .before .step .ensures) (sym (c .before .rested .ensures) ∙ c .if1 .taken)
-
-add-at : tie.Need-add-at Inv-loop μ-loop
-unfolding strideOf
-add-at c = omega (arith, room (c .before .before .before .before .before .before .before .before))
-
-add-t : tie.Need-add-t Inv-loop μ-loop
-add-t c = omega arith
-
-loop-less : tie.Need-loop-less Inv-loop μ-loop
-loop-less c = omega arith
-
-loop-again : tie.Need-loop-again Inv-loop μ-loop
-unfolding listedDomain strideOf
-loop-again c = stepping-more (c .before .before .before .before .before .before .before .before .before .loop .inv) _ _ (search simple) (search simple)
-    (omega arith) (c .before .before .before .before .before .before .step .ensures)
+same-length c = let at-loop = c .before .before .before .before .before .before .before .before .before .before .before .before .before .before .before .before .before .before .before .before .before .before .before .before .before .before .before in
+    same-len-mid (at-loop .loop .at) (length (at-loop .loop .words) - at-loop .loop .at) (at-loop .loop .words) (c .before .before .before .before .before .before .before .before .before .before .before .before .before .before .before .before .before .step .last .0) (c .before .before .before .before .before .before .before .before .before .before .before .before .before .before .before .before .before .step .kept .0) ∙ at-loop .loop .inv .long
 
 same-length-2 : tie.Need-same-length-2 Inv-loop μ-loop
-same-length-2 c = c .before .loop .inv .runs .long
+same-length-2 c = c .before .before .before .before .before .before .before .before .before .before .before .before .before .before .before .before .before .step .kept .1 .1 .1 .1 .1 .1 .1 .1 .1 .1 .1 .0 ∙ c .before .before .before .before .before .before .before .before .before .before .before .before .before .before .before .before .before .before .before .before .before .before .before .before .before .before .before .loop .inv .lent .labels-long ∙ sym (c .before .before .before .before .before .before .before .before .before .before .before .before .before .before .before .before .before .before .before .before .before .before .before .before .before .before .before .before .before .before .before .before .before .before .before .before .before .before .before .before .before .before .before .before .pre .labels-long)
+
+same-length-3 : tie.Need-same-length-3 Inv-loop μ-loop
+same-length-3 c = c .before .before .before .before .before .before .before .before .before .before .before .before .before .before .before .before .before .step .kept .1 .1 .1 .1 .1 .1 .1 .1 .1 .1 .1 .1 .0 ∙ c .before .before .before .before .before .before .before .before .before .before .before .before .before .before .before .before .before .before .before .before .before .before .before .before .before .before .before .loop .inv .lent .mating .live-long ∙ sym (c .before .before .before .before .before .before .before .before .before .before .before .before .before .before .before .before .before .before .before .before .before .before .before .before .before .before .before .before .before .before .before .before .before .before .before .before .before .before .before .before .before .before .before .before .pre .mating .live-long)
+
+same-length-4 : tie.Need-same-length-4 Inv-loop μ-loop
+same-length-4 c = c .before .before .before .before .before .before .before .before .before .before .before .before .before .before .before .before .before .step .kept .1 .1 .1 .1 .1 .1 .1 .1 .1 .1 .1 .1 .1 .0 ∙ c .before .before .before .before .before .before .before .before .before .before .before .before .before .before .before .before .before .before .before .before .before .before .before .before .before .before .before .loop .inv .lent .t-long ∙ sym (c .before .before .before .before .before .before .before .before .before .before .before .before .before .before .before .before .before .before .before .before .before .before .before .before .before .before .before .before .before .before .before .before .before .before .before .before .before .before .before .before .before .before .before .before .pre .t-long)
+
+same-length-5 : tie.Need-same-length-5 Inv-loop μ-loop
+same-length-5 c = c .before .before .before .before .before .before .before .before .before .before .before .before .before .before .before .before .before .step .kept .1 .1 .1 .1 .1 .1 .1 .1 .1 .1 .1 .1 .1 .1 .0 ∙ c .before .before .before .before .before .before .before .before .before .before .before .before .before .before .before .before .before .before .before .before .before .before .before .before .before .before .before .loop .inv .lent .mating .r-long ∙ sym (c .before .before .before .before .before .before .before .before .before .before .before .before .before .before .before .before .before .before .before .before .before .before .before .before .before .before .before .before .before .before .before .before .before .before .before .before .before .before .before .before .before .before .before .before .pre .mating .r-long)
+
+same-length-6 : tie.Need-same-length-6 Inv-loop μ-loop
+same-length-6 c = c .before .before .before .before .before .before .before .before .before .before .before .before .before .before .before .before .before .step .kept .1 .1 .1 .1 .1 .1 .1 .1 .1 .1 .1 .1 .1 .1 .1 .0 ∙ c .before .before .before .before .before .before .before .before .before .before .before .before .before .before .before .before .before .before .before .before .before .before .before .before .before .before .before .loop .inv .lent .mating .mates-long ∙ sym (c .before .before .before .before .before .before .before .before .before .before .before .before .before .before .before .before .before .before .before .before .before .before .before .before .before .before .before .before .before .before .before .before .before .before .before .before .before .before .before .before .before .before .before .before .pre .mating .mates-long)
+
+same-length-7 : tie.Need-same-length-7 Inv-loop μ-loop
+same-length-7 c = c .before .before .before .before .before .before .before .before .before .before .before .before .before .before .before .before .before .step .kept .1 .1 .1 .1 .1 .1 .1 .1 .1 .1 .1 .1 .1 .1 .1 .1 .0 ∙ c .before .before .before .before .before .before .before .before .before .before .before .before .before .before .before .before .before .before .before .before .before .before .before .before .before .before .before .loop .inv .lent .mating .besides-long ∙ sym (c .before .before .before .before .before .before .before .before .before .before .before .before .before .before .before .before .before .before .before .before .before .before .before .before .before .before .before .before .before .before .before .before .before .before .before .before .before .before .before .before .before .before .before .before .pre .mating .besides-long)
+
+same-length-8 : tie.Need-same-length-8 Inv-loop μ-loop
+same-length-8 c = c .before .before .before .before .before .before .before .before .before .before .before .before .before .before .before .before .before .step .kept .1 .1 .1 .1 .1 .1 .1 .1 .1 .1 .1 .1 .1 .1 .1 .1 .1 .0 ∙ c .before .before .before .before .before .before .before .before .before .before .before .before .before .before .before .before .before .before .before .before .before .before .before .before .before .before .before .loop .inv .lent .mating .spare-long ∙ sym (c .before .before .before .before .before .before .before .before .before .before .before .before .before .before .before .before .before .before .before .before .before .before .before .before .before .before .before .before .before .before .before .before .before .before .before .before .before .before .before .before .before .before .before .before .pre .mating .spare-long)
+
+returns : tie.Need-returns Inv-loop μ-loop
+returns c = let did = c .before .before .before .before .before .before .before .before .before .before .before .before .before .before .before .before .before .step in (
+  omega (arith, c .before .before .before .before .before .before .before .before .before .before .before .before .before .before .before .before .before .before .before .before .before .before .before .before .before .before .loop-test .taken),
+  λ h. omega arith,
+  stepping-rest (c .before .before .before .before .before .before .before .before .before .before .before .before .before .before .before .before .before .before .before .before .before .before .before .before .before .before .before .loop .inv) (c .before .before .before .before .before .before .before .before .before .before .before .before .before .before .before .before .before .before .before .before .before .before .before .before .before .before .loop-test .taken) (did .last .1 .1 .1 .1 .1 .1 .1 .1 .1 .1 .1 .0) (did .last .1 .1 .1 .1 .1 .1 .1 .1 .1 .1 .1 .1 .0) (did .last .1 .1 .1 .1 .1 .1 .1 .1 .1 .1 .1 .1 .1 .0) (did .last .1 .1 .1 .1 .1 .1 .1 .1 .1 .1 .1 .1 .1 .1 .0) (did .last .1 .1 .1 .1 .1 .1 .1 .1 .1 .1 .1 .1 .1 .1 .1 .0) (did .last .1 .1 .1 .1 .1 .1 .1 .1 .1 .1 .1 .1 .1 .1 .1 .1 .0) (did .last .1 .1 .1 .1 .1 .1 .1 .1 .1 .1 .1 .1 .1 .1 .1 .1 .1 .0)
+      (did .last .0) _ (did .ensures) (c .if1 .taken),
+)
+
+add-at : tie.Need-add-at Inv-loop μ-loop
+add-at c = let at-loop = c .before .before .before .before .before .before .before .before .before .before .before .before .before .before .before .before .before .before .before .before .before .before .before .before .before .before .before in
+    omega (arith, room (at-loop .loop .inv) (c .before .before .before .before .before .before .before .before .before .before .before .before .before .before .before .before .before .before .before .before .before .before .before .before .before .before .loop-test .taken), c .before .before .before .before .before .before .before .before .before .before .before .before .before .before .before .before .before .before .before .before .before .before .before .before .before .before .before .before .before .before .layer-size .ensures .0, c .before .before .before .before .before .before .before .before .before .before .before .before .before .before .before .before .before .before .before .before .before .before .before .before .before .before .before .before .before .layer-size2 .ensures .0)
+
+add-k : tie.Need-add-k Inv-loop μ-loop
+add-k c = omega (arith, c .before .before .before .before .before .before .before .before .before .before .before .before .before .before .before .before .before .before .before .before .before .before .before .before .before .before .loop-test .taken, c .before .before .before .before .before .before .before .before .before .before .before .before .before .before .before .before .before .before .before .before .before .before .before .before .before .before .before .before .before .before .before .before .before .before .before .before .before .before .before .before .before .before .before .before .pre .deep)
+
+loop-less : tie.Need-loop-less Inv-loop μ-loop
+loop-less c = omega (arith, c .before .before .before .before .before .before .before .before .before .before .before .before .before .before .before .before .before .before .before .before .before .before .before .before .before .before .loop-test .taken)
+
+loop-again : tie.Need-loop-again Inv-loop μ-loop
+loop-again c = let did = c .before .before .before .before .before .before .before .before .before .before .before .before .before .before .before .before .before .step in
+    stepping-more (c .before .before .before .before .before .before .before .before .before .before .before .before .before .before .before .before .before .before .before .before .before .before .before .before .before .before .before .loop .inv) (c .before .before .before .before .before .before .before .before .before .before .before .before .before .before .before .before .before .before .before .before .before .before .before .before .before .before .loop-test .taken) (did .last .1 .1 .1 .1 .1 .1 .1 .1 .1 .1 .1 .0) (did .last .1 .1 .1 .1 .1 .1 .1 .1 .1 .1 .1 .1 .0) (did .last .1 .1 .1 .1 .1 .1 .1 .1 .1 .1 .1 .1 .1 .0) (did .last .1 .1 .1 .1 .1 .1 .1 .1 .1 .1 .1 .1 .1 .1 .0) (did .last .1 .1 .1 .1 .1 .1 .1 .1 .1 .1 .1 .1 .1 .1 .1 .0) (did .last .1 .1 .1 .1 .1 .1 .1 .1 .1 .1 .1 .1 .1 .1 .1 .1 .0) (did .last .1 .1 .1 .1 .1 .1 .1 .1 .1 .1 .1 .1 .1 .1 .1 .1 .1 .0)
+    (did .last .0) _ (did .ensures) _ (omega (arith, c .before .before .before .before .before .before .before .before .before .before .before .before .before .before .before .before .before .before .before .before .before .before .before .before .before .before .before .before .before .before .layer-size .ensures .0, c .before .before .before .before .before .before .before .before .before .before .before .before .before .before .before .before .before .before .before .before .before .before .before .before .before .before .before .before .before .layer-size2 .ensures .0)) (did .kept .0) (did .kept .1 .1 .1 .1 .1 .1 .1 .1 .1 .1 .1 .0) (did .kept .1 .1 .1 .1 .1 .1 .1 .1 .1 .1 .1 .1 .0) (did .kept .1 .1 .1 .1 .1 .1 .1 .1 .1 .1 .1 .1 .1 .0) (did .kept .1 .1 .1 .1 .1 .1 .1 .1 .1 .1 .1 .1 .1 .1 .0)
+    (did .kept .1 .1 .1 .1 .1 .1 .1 .1 .1 .1 .1 .1 .1 .1 .1 .0) (did .kept .1 .1 .1 .1 .1 .1 .1 .1 .1 .1 .1 .1 .1 .1 .1 .1 .0) (did .kept .1 .1 .1 .1 .1 .1 .1 .1 .1 .1 .1 .1 .1 .1 .1 .1 .1 .0)
+
+same-length-9 : tie.Need-same-length-9 Inv-loop μ-loop
+same-length-9 c = c .before .loop .inv .long
+
+same-length-10 : tie.Need-same-length-10 Inv-loop μ-loop
+same-length-10 c = c .before .loop .inv .lent .labels-long ∙ sym (c .before .before .before .before .before .before .before .before .before .before .before .before .before .before .before .before .before .before .pre .labels-long)
+
+same-length-11 : tie.Need-same-length-11 Inv-loop μ-loop
+same-length-11 c = c .before .loop .inv .lent .mating .live-long ∙ sym (c .before .before .before .before .before .before .before .before .before .before .before .before .before .before .before .before .before .before .pre .mating .live-long)
+
+same-length-12 : tie.Need-same-length-12 Inv-loop μ-loop
+same-length-12 c = c .before .loop .inv .lent .t-long ∙ sym (c .before .before .before .before .before .before .before .before .before .before .before .before .before .before .before .before .before .before .pre .t-long)
+
+same-length-13 : tie.Need-same-length-13 Inv-loop μ-loop
+same-length-13 c = c .before .loop .inv .lent .mating .r-long ∙ sym (c .before .before .before .before .before .before .before .before .before .before .before .before .before .before .before .before .before .before .pre .mating .r-long)
+
+same-length-14 : tie.Need-same-length-14 Inv-loop μ-loop
+same-length-14 c = c .before .loop .inv .lent .mating .mates-long ∙ sym (c .before .before .before .before .before .before .before .before .before .before .before .before .before .before .before .before .before .before .pre .mating .mates-long)
+
+same-length-15 : tie.Need-same-length-15 Inv-loop μ-loop
+same-length-15 c = c .before .loop .inv .lent .mating .besides-long ∙ sym (c .before .before .before .before .before .before .before .before .before .before .before .before .before .before .before .before .before .before .pre .mating .besides-long)
+
+same-length-16 : tie.Need-same-length-16 Inv-loop μ-loop
+same-length-16 c = c .before .loop .inv .lent .mating .spare-long ∙ sym (c .before .before .before .before .before .before .before .before .before .before .before .before .before .before .before .before .before .before .pre .mating .spare-long)
 
 returns-2 : tie.Need-returns-2 Inv-loop μ-loop
-unfolding listedDomain
-returns-2 c = stepped-all (c .before .loop .inv) (search simple)
+returns-2 c = (omega arith, λ h. absurd (omega arith), stepping-all (c .before .loop .inv) (c .loop-test .left))
 
 pub steps-until-spec : {M : Type 1} → statement M
 steps-until-spec =
@@ -116,25 +147,37 @@ steps-until-spec =
     (tie.spec
     Inv-loop
     μ-loop
+    add-layer-size
     layer-size-requires
-    stride-requires
+    layer-size-requires-2
+    add-apart
+    layer-size-requires-3
     loop-holds
     mul-step
     sub-step
     part-step-start
     part-step-end
     step-requires
-    mul-rested
-    sub-rested
-    part-rested-start
-    part-rested-end
-    rested-requires
     add-result
     same-length
+    same-length-2
+    same-length-3
+    same-length-4
+    same-length-5
+    same-length-6
+    same-length-7
+    same-length-8
     returns
     add-at
-    add-t
+    add-k
     loop-less
     loop-again
-    same-length-2
+    same-length-9
+    same-length-10
+    same-length-11
+    same-length-12
+    same-length-13
+    same-length-14
+    same-length-15
+    same-length-16
     returns-2)

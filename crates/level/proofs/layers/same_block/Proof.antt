@@ -8,13 +8,17 @@ use Rattle.level.proofs.layers.same_block.Statement.{statement}
 use Rattle.level.proofs.layers.same_block.Tie as tie
 
 abbrev Inv-loop : tie.InvT-loop
-Inv-loop one other at block differ₀ i₀ differ i = Compared (λ k. getD one (at + k) 0) (λ k. getD other (at + k) 0) block i differ
+Inv-loop words one other from block differ₀ i₀ differ i =
+    Compared (λ k. getD words (one + (from + k)) 0) (λ k. getD words (other + (from + k)) 0) block i differ
 
 abbrev μ-loop : tie.MeasureT-loop
-μ-loop one other at block differ₀ i₀ differ i = block - i
+μ-loop words one other from block differ₀ i₀ differ i = block - i
 
 loop-holds : tie.Need-loop-holds Inv-loop μ-loop
 loop-holds c = compared-none
+
+add-k : tie.Need-add-k Inv-loop μ-loop
+add-k c = search needs
 
 add-differ : tie.Need-add-differ Inv-loop μ-loop
 add-differ c = search needs
@@ -54,6 +58,7 @@ same-block-spec =
     Inv-loop
     μ-loop
     loop-holds
+    add-k
     add-differ
     mul-differ
     shared-slice-read-differ

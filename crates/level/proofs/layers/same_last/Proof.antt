@@ -2,25 +2,31 @@
 use Prim.Native.Nat.{_-_}
 use borrow.Author.Needs.{needs as simple}
 use Rattle.rules.proofs.Tests.{same-of, same-not}
-use Rattle.level.specs.Meets.{sameWord}
+use Rattle.level.specs.Meets.{sameAt}
 use Rattle.level.proofs.Searches.{Held, held-from, held-more, held-done, held-not}
 use Rattle.level.proofs.layers.same_last.Statement.{statement}
 use Rattle.level.proofs.layers.same_last.Tie as tie
 
 abbrev Inv-loop : tie.InvT-loop
-Inv-loop one other from count i₀ i = Held (sameWord one other) count i
+Inv-loop words one other from count i₀ i = Held (sameAt words one other) count i
 
 abbrev μ-loop : tie.MeasureT-loop
-μ-loop one other from count i₀ i = count - i
+μ-loop words one other from count i₀ i = count - i
 
 loop-holds : tie.Need-loop-holds Inv-loop μ-loop
-loop-holds c = held-from (sameWord (c .args .one .now) (c .args .other .now)) _ _ (search simple) (c .pre .equal)
+loop-holds c = held-from (sameAt (c .args .words .now) (c .args .one) (c .args .other)) _ _ (search simple) (c .pre .equal)
+
+add-if1 : tie.Need-add-if1 Inv-loop μ-loop
+add-if1 c = search simple
 
 mul-if1 : tie.Need-mul-if1 Inv-loop μ-loop
 mul-if1 c = search simple
 
 shared-slice-read-if1 : tie.Need-shared-slice-read-if1 Inv-loop μ-loop
 shared-slice-read-if1 c = search simple
+
+add-if1-2 : tie.Need-add-if1-2 Inv-loop μ-loop
+add-if1-2 c = search simple
 
 mul-if1-2 : tie.Need-mul-if1-2 Inv-loop μ-loop
 mul-if1-2 c = search simple
@@ -50,8 +56,10 @@ same-last-spec =
     Inv-loop
     μ-loop
     loop-holds
+    add-if1
     mul-if1
     shared-slice-read-if1
+    add-if1-2
     mul-if1-2
     shared-slice-read-if1-2
     returns

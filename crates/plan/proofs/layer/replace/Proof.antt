@@ -1,5 +1,5 @@
 -- The loop writes one word after the other, up to the end.
-use Rattle.plan.proofs.Listings.{list-is}
+use Rattle.rules.proofs.Layers.{listOver-self}
 use Rattle.words.proofs.Writes.{Lists, list-none, list-more, list-whole}
 use borrow.Author.Needs.{needs}
 use lib.ListN.{length, getD}
@@ -44,7 +44,7 @@ same-length : tie.Need-same-length Inv-loop μ-loop
 same-length c = c .before .loop .inv .long
 
 returns : tie.Need-returns Inv-loop μ-loop
-returns c = list-whole (c .before .loop .inv) (omega arith) (search needs) ∙ list-is _
+returns c = list-whole (c .before .loop .inv) (omega arith) (search needs) ∙ listOver-self _
 
 pub replace-spec : {M : Type 1} → statement M
 replace-spec =

@@ -1,178 +1,151 @@
--- What is left of the layer, with the state now, is the whole layer, at each head of the two loops.
-use Rattle.plan.proofs.Searches.{resting, searching, rest-start, rest-open, rest-end, search-clear, search-end, order-lt, lists-at, turned}
-use Rattle.plan.proofs.Adders.{adders-long, to-next}
-use Rattle.words.specs.Rows.{columnsOf}
-use Rattle.plan.specs.Search.{listedActions, LayerLists}
-use Rattle.rules.specs.Plan.{coverFrom}
-use Rattle.rules.specs.Layer.{labelIn}
-use lib.ListN.{length}
+-- What is left of the layer, with the search now, is the whole layer, at each head of the two loops.
+use Prim.Native.Nat.{ℕ, _^_, _<_}
+use mathlib.Core.Path.{refl, sym, ap, subst, _∙_}
 use native.Mathlib.Omega.{arith}
-use Prim.Native.Nat.{_+_, _-_, _≤_, _<_}
-use mathlib.Core.Path.{_≡_, refl, sym, _∙_}
+use lib.ListN.{length, getD}
+use Rattle.rules.proofs.Layers.{length-listOver}
+use Rattle.plan.proofs.Supports.{Laying, Seeking, lay-none, lay-lt, lay-open, lay-end, seek-lt, seek-on, seek-clear, seek-end}
 use Rattle.plan.proofs.layer.support.Statement.{statement}
 use Rattle.plan.proofs.layer.support.Tie as tie
 
 abbrev Inv-loop : tie.InvT-loop
-Inv-loop wanted labels needs adds adders under₀ marks₀ p₀ left₀ k₀ under marks p left k = LayerLists wanted labels needs adds × (p ≡ p₀) × (p < length wanted)
-    × (length under ≡ length wanted) × (adders ≡ columnsOf (length wanted) adds)
-    × (resting (listedActions (length wanted) needs adds) labels wanted p₀ marks₀ under₀
-    ≡ searching (listedActions (length wanted) needs adds) labels wanted p k
-    (record { left = left; marks = marks; needed = under }))
+Inv-loop wanted live labels needs adders under₀ s₀ props p by₀ under s by = Seeking wanted live labels needs adders p under s by
 
 abbrev μ-loop : tie.MeasureT-loop
-μ-loop wanted labels needs adds adders under₀ marks₀ p₀ left₀ k₀ under marks p left k = length needs + 1 - k
+μ-loop wanted live labels needs adders under₀ s₀ props p by₀ under s by = by
 
 abbrev Inv-props : tie.InvT-props
-Inv-props wanted labels needs adds adders under₀ marks₀ p₀ under marks p = LayerLists wanted labels needs adds × (p ≤ length wanted) × (length under
-    ≡ length wanted)
-    × (adders ≡ columnsOf (length wanted) adds)
-    × (coverFrom (listedActions (length wanted) needs adds) labels wanted (length wanted) 0 0 under₀ ≡ resting (listedActions
-    (length wanted) needs adds) labels wanted p marks under)
+Inv-props wanted live labels needs adders under₀ s₀ props₀ under s props = Laying wanted live labels needs adders under s props
 
 abbrev μ-props : tie.MeasureT-props
-μ-props wanted labels needs adds adders under₀ marks₀ p₀ under marks p = length wanted - p
+μ-props wanted live labels needs adders under₀ s₀ props₀ under s props = props
+
+wide-requires : tie.Need-wide-requires Inv-loop μ-loop Inv-props μ-props
+wide-requires c κs = tt
 
 props-holds : tie.Need-props-holds Inv-loop μ-loop Inv-props μ-props
-unfolding listedActions
-props-holds c =
-    let start = c .before .before .before .before .before .before in (
-      start .pre .0,
-      omega arith,
-      start .pre .1,
-      start .pre .2,
-      rest-start (listedActions (length
-          (start .args .wanted .now)) (start .args .needs .now)
-          (start .args .adds .now)) _ _ _,
+props-holds c = let start = c .before .before .before .before .before .before in lay-none (start .pre .0) (start .pre .1) refl refl (c .wide .ensures)
+
+lowest-requires : tie.Need-lowest-requires Inv-loop μ-loop Inv-props μ-props
+lowest-requires c κs = tt
+
+others-requires : tie.Need-others-requires Inv-loop μ-loop Inv-props μ-props
+others-requires c κs = c .before .props-test .taken
+
+mul-t13 : tie.Need-mul-t13 Inv-loop μ-loop Inv-props μ-props
+mul-t13 c =
+    let at-props = c .before .before .before in
+    omega (arith, c .before .lowest .ensures, lay-lt (at-props .props .inv) (c .before .before .props-test .taken), at-props .props .inv .lists .wide)
+
+shared-slice-read-t15 : tie.Need-shared-slice-read-t15 Inv-loop μ-loop Inv-props μ-props
+shared-slice-read-t15 c =
+    let at-props = c .before .before .before .before in
+    omega (arith, c .before .before .lowest .ensures, lay-lt (at-props .props .inv) (c .before .before .before .props-test .taken), at-props .props .inv .lists .wide)
+
+add-carry : tie.Need-add-carry Inv-loop μ-loop Inv-props μ-props
+add-carry c =
+    let at-props = c .before .before .before .before in
+    omega (arith, c .before .before .lowest .ensures, lay-lt (at-props .props .inv) (c .before .before .before .props-test .taken), at-props .props .inv .lists .wide, at-props .props .inv .lists .tables .few, at-props .props .inv .lists .tables .props)
+
+mul-carry : tie.Need-mul-carry Inv-loop μ-loop Inv-props μ-props
+mul-carry c =
+    let at-props = c .before .before .before .before in
+    omega (arith, c .before .before .lowest .ensures, lay-lt (at-props .props .inv) (c .before .before .before .props-test .taken), at-props .props .inv .lists .wide, at-props .props .inv .lists .tables .few, at-props .props .inv .lists .tables .props)
+
+shared-slice-read-carry : tie.Need-shared-slice-read-carry Inv-loop μ-loop Inv-props μ-props
+shared-slice-read-carry c =
+    let at-props = c .before .before .before .before .before in
+    omega (arith, c .before .before .before .lowest .ensures, lay-lt (at-props .props .inv) (c .before .before .before .before .props-test .taken), at-props .props .inv .lists .wide, at-props .props .inv .lists .labelled)
+
+carry-requires : tie.Need-carry-requires Inv-loop μ-loop Inv-props μ-props
+carry-requires c κs =
+    let at-props = c .before .before .before .before .before .before in
+    let l = at-props .props in (
+      omega (arith, c .before .before .before .before .lowest .ensures, lay-lt (at-props .props .inv) (c .before .before .before .before .before .props-test .taken), at-props .props .inv .lists .wide, l .inv .long),
+      omega (arith, l .inv .long, l .inv .lists .tables .props),
+      l .inv .live,
     )
 
-mul-left : tie.Need-mul-left Inv-loop μ-loop Inv-props μ-props
-mul-left c = omega arith
+mul-by : tie.Need-mul-by Inv-loop μ-loop Inv-props μ-props
+mul-by c =
+    let at-props = c .before .before .before .before .before .before .before .before .before in
+    omega (arith, c .before .before .before .before .before .before .before .lowest .ensures, lay-lt (at-props .props .inv) (c .before .before .before .before .before .before .before .before .props-test .taken), at-props .props .inv .lists .wide, at-props .props .inv .lists .tables .props)
 
-shared-slice-read-left : tie.Need-shared-slice-read-left Inv-loop μ-loop Inv-props μ-props
-shared-slice-read-left c = omega arith
+shared-slice-read-by : tie.Need-shared-slice-read-by Inv-loop μ-loop Inv-props μ-props
+shared-slice-read-by c =
+    let at-props = c .before .before .before .before .before .before .before .before .before .before in
+    omega (arith, c .before .before .before .before .before .before .before .before .lowest .ensures, lay-lt (at-props .props .inv) (c .before .before .before .before .before .before .before .before .before .props-test .taken), at-props .props .inv .lists .wide)
 
 loop-holds : tie.Need-loop-holds Inv-loop μ-loop Inv-props μ-props
-unfolding listedActions labelIn
-loop-holds c =
-    let at-props = c .before .before in
-    let start = at-props .before .before .before .before .before .before .before in (
-      at-props .props .inv .0,
-      refl,
-      omega arith,
-      at-props .props .inv .2,
-      at-props .props .inv .3,
-      rest-open (listedActions (length
-          (start .args .wanted .now))
-          (start .args .needs .now)
-          (start .args .adds .now)) _ _ _ _ _ (omega arith),
-    )
-
-add-p : tie.Need-add-p Inv-loop μ-loop Inv-props μ-props
-add-p c = omega arith
+loop-holds c = lay-open (c .before .before .before .before .before .before .before .before .before .before .props .inv) (c .before .before .before .before .before .before .before .before .before .props-test .taken) (c .before .before .before .before .before .before .before .before .lowest .ensures) refl refl (c .before .before .before .carry .ensures)
 
 props-less : tie.Need-props-less Inv-loop μ-loop Inv-props μ-props
-props-less c = omega arith
+props-less c = c .before .before .before .before .before .before .before .before .before .before .before .others .ensures .1
 
 props-again : tie.Need-props-again Inv-loop μ-loop Inv-props μ-props
-props-again c =
-    let at-loop = c .before .before in (
-      at-loop .loop .inv .0,
-      omega arith,
-      at-loop .loop .inv .3,
-      at-loop .loop .inv .4,
-      c .before .before .before .before .before .props .inv .4 ∙ at-loop .loop .inv .5 ∙ search-clear _ _ _ _ _ _ (c .if1 .taken),
-    )
+props-again c = seek-clear (c .before .before .before .before .before .before .before .before .before .before .before .before .before .before .props .inv) (c .before .before .before .before .before .before .before .before .before .before .before .before .before .props-test .taken) (c .before .before .before .before .before .before .before .before .before .before .before .before .lowest .ensures) (c .before .before .before .before .before .before .before .before .before .before .before .others .ensures .0) (c .before .before .before .loop .inv) (c .if1 .taken)
 
-vertex-requires : tie.Need-vertex-requires Inv-loop μ-loop Inv-props μ-props
-vertex-requires c κs = omega arith
+lowest-requires-2 : tie.Need-lowest-requires-2 Inv-loop μ-loop Inv-props μ-props
+lowest-requires-2 c κs = tt
+
+mul-turn : tie.Need-mul-turn Inv-loop μ-loop Inv-props μ-props
+mul-turn c =
+    let at-loop = c .before .before .before .before in
+    omega (arith, c .lowest2 .ensures, seek-lt (at-loop .loop .inv) (c .before .before .before .loop-test .taken), at-loop .loop .inv .lists .tables .few)
+
+shared-slice-read-turn : tie.Need-shared-slice-read-turn Inv-loop μ-loop Inv-props μ-props
+shared-slice-read-turn c =
+    let at-loop = c .before .before .before .before .before in
+    omega (arith, c .before .lowest2 .ensures, seek-lt (at-loop .loop .inv) (c .before .before .before .before .loop-test .taken), at-loop .loop .inv .lists .tables .few, at-loop .loop .inv .lists .labelled)
+
+mul-turn-2 : tie.Need-mul-turn-2 Inv-loop μ-loop Inv-props μ-props
+mul-turn-2 c =
+    let at-loop = c .before .before .before .before .before in
+    omega (arith, c .before .lowest2 .ensures, seek-lt (at-loop .loop .inv) (c .before .before .before .before .loop-test .taken), at-loop .loop .inv .lists .tables .few)
+
+shared-slice-read-turn-2 : tie.Need-shared-slice-read-turn-2 Inv-loop μ-loop Inv-props μ-props
+shared-slice-read-turn-2 c =
+    let at-loop = c .before .before .before .before .before .before in
+    omega (arith, c .before .before .lowest2 .ensures, seek-lt (at-loop .loop .inv) (c .before .before .before .before .before .loop-test .taken), at-loop .loop .inv .lists .tables .few)
 
 turn-requires : tie.Need-turn-requires Inv-loop μ-loop Inv-props μ-props
-turn-requires c κs = let l = c .before .before .before .before .loop in (
-  omega (arith, l .inv .2, l .inv .3),
-  omega (
-    arith,
-    c .before .vertex .ensures,
-    order-lt (length
-        (c .before .before .before .before .before .before .before .before .before .before .before .before .before .before .args .needs .now)) (l .p) (l .k)
-        (c .before .before .before .loop-test .taken),
-    l .inv .2,
-    l .inv .3,
-  ),
-  lists-at (l .inv .3) (l .inv .0),
-)
+turn-requires c κs =
+    let at-lowest2 = c .before .before .before in
+    let at-loop-test = at-lowest2 .before .before .before in
+    let at-loop = at-loop-test .before in
+    let l = at-loop .loop in (
+      omega (arith, at-lowest2 .lowest2 .ensures, seek-lt (at-loop .loop .inv) (at-loop-test .loop-test .taken), at-loop .loop .inv .lists .tables .few),
+      subst (λ (x : ℕ). getD (c .before .before .before .before .before .before .before .before .before .before .before .before .before .before .before .before .before .before .before .before .before .before .before .before .before .args .needs .now) (at-lowest2 .lowest2 .result) 0 < 2 ^ x) (sym (l .inv .long)) (l .inv .lists .tables .pre _ (omega (arith, at-lowest2 .lowest2 .ensures, seek-lt (at-loop .loop .inv) (at-loop-test .loop-test .taken), at-loop .loop .inv .lists .tables .few))),
+      omega (arith, l .inv .long, l .inv .lists .tables .props),
+      l .inv .live,
+    )
 
-mul-next-place : tie.Need-mul-next-place Inv-loop μ-loop Inv-props μ-props
-mul-next-place c = omega (arith, adders-long _ _ _ (c .before .before .before .before .before .before .before .loop .inv .4))
-
-shared-slice-read-next-place : tie.Need-shared-slice-read-next-place Inv-loop μ-loop Inv-props μ-props
-shared-slice-read-next-place c = omega (arith, adders-long _ _ _ (c .before .before .before .before .before .before .before .before .loop .inv .4))
-
-next-place-requires : tie.Need-next-place-requires Inv-loop μ-loop Inv-props μ-props
-next-place-requires c κs = omega (
-  arith,
-  c .before .before .before .before .before .before .before .loop-test .taken,
-  c .before .before .before .before .before .before .before .before .loop .inv .0 .lists .few,
-)
+others-requires-2 : tie.Need-others-requires-2 Inv-loop μ-loop Inv-props μ-props
+others-requires-2 c κs = c .before .before .before .before .before .before .before .before .before .loop-test .taken
 
 loop-less : tie.Need-loop-less Inv-loop μ-loop Inv-props μ-props
-loop-less c = omega (arith, c .next-place .ensures, c .before .before .before .before .before .before .before .before .loop-test .taken)
+loop-less c = c .others2 .ensures .1
 
 loop-again : tie.Need-loop-again Inv-loop μ-loop Inv-props μ-props
-loop-again c =
-    let at-turn = c .before .before .before .before in
-    let l = c .before .before .before .before .before .before .before .before .before .loop in (
-      l .inv .0,
-      l .inv .1,
-      omega arith,
-      at-turn .turn .kept .1 .1 .1 .1 .1 .1 .1 .0 ∙ l .inv .3,
-      l .inv .4,
-      l .inv .5
-          ∙ turned (length (l .under)) _ _ _ _ _ _ _ _ _ _ (l .inv .3) (c .before .before .before .before .before .before .vertex .ensures)
-          (c .before .before .before .before .before .before .before .before .loop-test .taken)
-          (c .before .before .before .before .before .before .before .if1 .left) (at-turn .turn .ensures)
-          ∙ to-next _ _ _ (l .inv .0 .lists .alike) _ (l .inv .4) _ _ _ _ _ _ (l .inv .2) (c .next-place .ensures),
-    )
+loop-again c = seek-on (c .before .before .before .before .before .before .before .before .before .before .before .loop .inv) (c .before .before .before .before .before .before .before .before .before .before .loop-test .taken) (c .before .before .before .before .before .before .before .before .if1 .left) (c .before .before .before .before .before .before .before .lowest2 .ensures) (c .others2 .ensures .0) refl refl (c .before .before .before .turn .ensures)
 
 same-length : tie.Need-same-length Inv-loop μ-loop Inv-props μ-props
-same-length c = c .before .before .loop .inv .3 ∙ sym (c .before .before .before .before .before .before .before .before .before .before .before
-    .before .pre .1)
+same-length c = c .before .before .before .loop .inv .long ∙ sym (ap length (c .before .before .before .before .before .before .before .before .before .before .before .before .before .before .before .before .before .before .before .before .before .pre .1) ∙ length-listOver _ _)
 
 returns : tie.Need-returns Inv-loop μ-loop Inv-props μ-props
-unfolding listedActions
-returns c =
-    let start = c .before .before .before .before .before .before .before .before .before .before .before .before in
-    sym (c .before .before .before .before .before .props .inv .4 ∙ c .before .before .loop .inv .5 ∙ search-end (listedActions (length
-    (start .args .wanted .now))
-    (start .args .needs .now)
-    (start .args .adds .now)) _ _ _ _ _ (omega arith)
-    (c .if2 .taken))
-
-add-p-2 : tie.Need-add-p-2 Inv-loop μ-loop Inv-props μ-props
-add-p-2 c = omega arith
+returns c = seek-end (c .before .before .before .loop .inv) (c .before .before .loop-test .left) (c .if2 .taken)
 
 props-less-2 : tie.Need-props-less-2 Inv-loop μ-loop Inv-props μ-props
-props-less-2 c = omega arith
+props-less-2 c = c .before .before .before .before .before .before .before .before .before .before .before .others .ensures .1
 
 props-again-2 : tie.Need-props-again-2 Inv-loop μ-loop Inv-props μ-props
-props-again-2 c =
-    let at-loop = c .before .before in (
-      at-loop .loop .inv .0,
-      omega arith,
-      at-loop .loop .inv .3,
-      at-loop .loop .inv .4,
-      c .before .before .before .before .before .props .inv .4 ∙ at-loop .loop .inv .5 ∙ search-clear _ _ _ _ _ _ (c .if2 .left),
-    )
+props-again-2 c = seek-clear (c .before .before .before .before .before .before .before .before .before .before .before .before .before .before .props .inv) (c .before .before .before .before .before .before .before .before .before .before .before .before .before .props-test .taken) (c .before .before .before .before .before .before .before .before .before .before .before .before .lowest .ensures) (c .before .before .before .before .before .before .before .before .before .before .before .others .ensures .0) (c .before .before .before .loop .inv) (c .if2 .left)
 
 same-length-2 : tie.Need-same-length-2 Inv-loop μ-loop Inv-props μ-props
-same-length-2 c = omega arith
+same-length-2 c = c .before .props .inv .long ∙ sym (ap length (c .before .before .before .before .before .before .before .before .pre .1) ∙ length-listOver _ _)
 
 returns-2 : tie.Need-returns-2 Inv-loop μ-loop Inv-props μ-props
-unfolding listedActions
-returns-2 c =
-    let start = c .before .before .before .before .before .before .before .before in
-    sym (c .before .props .inv .4 ∙ rest-end (listedActions (length (start .args .wanted .now))
-    (start .args .needs .now)
-    (start .args .adds .now)) _ _ _ _ _ (omega arith))
+returns-2 c = lay-end (c .before .props .inv) (c .props-test .left)
 
 pub support-spec : {M : Type 1} → statement M
 support-spec =
@@ -182,23 +155,32 @@ support-spec =
     μ-loop
     Inv-props
     μ-props
+    wide-requires
     props-holds
-    mul-left
-    shared-slice-read-left
+    lowest-requires
+    others-requires
+    mul-t13
+    shared-slice-read-t15
+    add-carry
+    mul-carry
+    shared-slice-read-carry
+    carry-requires
+    mul-by
+    shared-slice-read-by
     loop-holds
-    add-p
     props-less
     props-again
-    vertex-requires
+    lowest-requires-2
+    mul-turn
+    shared-slice-read-turn
+    mul-turn-2
+    shared-slice-read-turn-2
     turn-requires
-    mul-next-place
-    shared-slice-read-next-place
-    next-place-requires
+    others-requires-2
     loop-less
     loop-again
     same-length
     returns
-    add-p-2
     props-less-2
     props-again-2
     same-length-2

@@ -1,5 +1,5 @@
 -- The loop writes one word after the other.
-use Rattle.plan.proofs.Listings.{list-is}
+use Rattle.rules.proofs.Layers.{listOver-self}
 use Rattle.words.proofs.Writes.{Lists, list-none, list-more, list-done}
 use Rattle.words.specs.Memory.{putAt}
 use lib.ListN.{length, getD}
@@ -47,7 +47,7 @@ same-length c = c .before .loop .inv .long
 returns : tie.Need-returns Inv-loop μ-loop
 returns c =
     let start = c .before .before in
-    list-done (c .before .loop .inv) (omega arith) ∙ ap (λ (l : List ℕ). putAt 0 l (start .args .out .now)) (list-is
+    list-done (c .before .loop .inv) (omega arith) ∙ ap (λ (l : List ℕ). putAt 0 l (start .args .out .now)) (listOver-self
     (start .args .plan .now))
 
 pub copy-spec : {M : Type 1} → statement M

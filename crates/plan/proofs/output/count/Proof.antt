@@ -1,5 +1,5 @@
 -- The count so far and that of the words left make the count of all; a word has at most as many marks as it has bits.
-use Rattle.plan.proofs.Listings.{count-more, count-done}
+use Rattle.plan.proofs.Counts.{count-more, count-done}
 use Rattle.rules.specs.Plan.{planCount}
 use Rattle.words.specs.Width.{propWidth}
 use Rattle.graph.specs.Limits.{maxDepth}

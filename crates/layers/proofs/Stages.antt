@@ -1,0 +1,461 @@
+-- The words that the code writes into its tables are those of the rules.
+-- Assumes nothing.
+use Prim.Native.Nat.{ℕ, _+_, _-_, _*_, _≤_, _<_, _^_}
+use mathlib.Core.Path.{_≡_, refl, sym, ap, ap₂, subst, _∙_}
+use mathlib.Core.Bool.{Bool, true, false, So}
+use mathlib.Core.Logic.{⊎-elim}
+use mathlib.Core.List.{List}
+use native.Mathlib.Omega.{arith}
+use native.Mathlib.Nat.{zero-add, add-zero}
+use borrow.Rule.Slice.PartMut.{putMid}
+use mathlib.Core.List.{_++_}
+use lib.Bits.{bitXor, xor-add-and, and-le-l, and-le-r}
+use lib.ListN.{length, getD, take, drop}
+use lib.Seq.{getD-take, getD-drop}
+use Rattle.rules.specs.Test.{_and_, _or_, fails, same, choose}
+use Rattle.rules.specs.Word.{bit, common, union, without, single, first}
+use Rattle.rules.specs.Over.{keep, joinOver, joinOf, meetOf}
+use Rattle.rules.specs.Lists.{listOver, runOver}
+use Rattle.rules.specs.Domain.{Domain, Actions, persistence, clobbers, domain}
+use Rattle.rules.specs.Layer.{size, rowOf, layerOf, labelIn, freeIn}
+use Rattle.rules.specs.Shared.{startLabel, vertexLabel, actionLayer, nextLayer}
+use Rattle.rules.specs.Together.{layerBy, Consistent, beside, nextTogether}
+use Rattle.rules.proofs.Tests.{choose-held, choose-failed, and-of, and-left, and-right, or-left, or-right, or-at, fails-of, fails-at, holds-or, test-eq, same-of, same-at, below-of}
+use Rattle.rules.proofs.Words.{bit-common, bit-union, bit-without, bit-single, bit-first, bit-below, common-lt, first-lt, without-lt, ext-all, no-bit-zero}
+use Rattle.rules.proofs.Overs.{joinOver-eq, bit-joinOver, any-of}
+use Rattle.rules.proofs.Layers.{length-layerOf, length-listOver, getD-listOver, listOver-eq, runOver-eq, list-append, run-append}
+use Rattle.rules.proofs.Members.{meet-only, join-only, startLabel-lt}
+use Rattle.rules.proofs.Domains.{needs-action, action-below}
+use Rattle.rules.proofs.Togethers.{vertex-label, label-at, free-own, free-turn, action-by, next-by, next-together, layerBy-eq, consistent-eq}
+use Rattle.rules.proofs.Steps as S
+use Rattle.rules.proofs.Steps.{Sets}
+use Rattle.words.specs.Memory.{putAt}
+use Rattle.words.specs.Rows.{rowLength, tableLength, cell, InParts}
+use Rattle.words.proofs.Writes.{put-word, put-length, put-within}
+use lib.Dec.{eqb}
+use borrow.Author.Tests.{eqb-true}
+use Rattle.layers.specs.Cells.{Width, needsWith, labelFor, withProp, withAction, friendsOf, withFriend, rowIn, mateOf, besideFor}
+use Rattle.layers.specs.Write.{apart, Diagonal, besides, actionWords}
+use Rattle.layers.proofs.Puts.{put-behind}
+use Rattle.layers.proofs.Rows.{parts-le}
+use Rattle.layers.specs.Step.{Told, Tells, overOf, Admitted, Mated, Next, Nexting, Deletes, Ready, Stepped, stepWords}
+
+-- a word of a row
+pub row-cell : (table : List ℕ) (i q : ℕ) → q < rowLength → getD (rowIn table i) q 0 ≡ cell table i q
+unfolding rowIn cell
+row-cell table i q h = getD-take rowLength (drop (i * rowLength) table) q 0 h ∙ getD-drop (i * rowLength) table q 0
+
+module _ (A : Actions) (all : ℕ) (sets : Sets rowLength A) (labels t : List ℕ) (is : Tells A all labels t) where
+  abbrev free : ℕ → ℕ → ℕ
+  free = freeIn (domain A .vertices) (overOf A all t)
+
+  -- the label of an action, as the layer has it
+  pub label-is : (i : ℕ) → i < A .count → labelIn (overOf A all t) i ≡ vertexLabel (domain A .props) all (layerBy (domain A .props) (cell t)) (A .pre i)
+  unfolding domain
+  label-is i h = vertex-label (domain A) all (cell t) (is .consistent) i (action-below A i h)
+      ∙ ap (vertexLabel (A .props) all (layerBy (A .props) (cell t))) (needs-action A i h)
+
+  with-is : (i q : ℕ) → q < A .props → needsWith all labels t (A .pre i) q ≡ S.needsWith rowLength all A sets (cell t) (is .consistent) i q
+  unfolding needsWith
+  with-is i q h = ap (λ (x : ℕ). meetOf rowLength (A .pre i) (λ p. cell t p q) (common x all)) (is .diagonal q h)
+
+  label-code : (i : ℕ) → i < A .count → labelFor all labels t (A .pre i) ≡ vertexLabel (domain A .props) all (layerBy (domain A .props) (cell t)) (A .pre i)
+  unfolding labelFor
+  label-code i h =
+      meet-only rowLength (A .pre i) all _ _ (λ q l m. with-is i q (bit-below q (A .pre i) (A .props) (sets .pre i h) m))
+      ∙ S.admitted rowLength all A sets (cell t) (is .consistent) i h
+
+  pub label-told : (i : ℕ) → i < A .count → labelFor all labels t (A .pre i) ≡ labelIn (overOf A all t) i
+  label-told i h = label-code i h ∙ sym (label-is i h)
+
+  pub prop-told : (i q : ℕ) → i < A .count → q < A .props → withProp all labels t (A .pre i) (A .del i) q ≡ free i (persistence A q)
+  unfolding withProp
+  prop-told i q h k =
+      ap₂ (λ (x y : ℕ). choose (bit q (A .del i)) 0 (common x y)) (with-is i q k) (label-code i h)
+      ∙ S.with-prop rowLength all A sets (cell t) (is .consistent) i q h k
+
+  -- ---- two actions
+
+  module _ (n : ℕ) (needs adds adders foes live r : List ℕ) (told : Told A n needs adds adders foes) (adm : Admitted A all t live r) where
+    lives : (i : ℕ) → i < A .count → getD live i 0 ≡ vertexLabel (domain A .props) all (layerBy (domain A .props) (cell t)) (A .pre i)
+    lives i h = adm .label i h ∙ label-is i h
+
+    need-lt : (i p : ℕ) → i < A .count → So (bit p (getD needs i 0)) → p < A .props
+    need-lt i p h m = bit-below p (A .pre i) (A .props) (sets .pre i h) (ap (bit p) (sym (told .pre i h)) ∙ m)
+
+    -- by rows
+    pub pair-told : (turned : List ℕ) → ((j p : ℕ) → j < A .count → p < A .props → cell turned p j ≡ cell r j p) → (i j : ℕ) → i < A .count → j < A .count
+        → withAction needs foes live turned i j ≡ free i j
+    unfolding withAction
+    pair-told turned turns i j h k = ⊎-elim
+        (λ e. choose-held _ _ _ e ∙ adm .label i h ∙ sym (free-own (domain A .vertices) (overOf A all t) i) ∙ ap (free i) (same-at i j e))
+        (λ d. choose-failed _ _ _ d
+        ∙ ap (λ (x : ℕ). choose (bit j (getD foes i 0)) 0 x)
+        (meet-only rowLength (getD needs i 0) _ _ _ (λ p l m.
+        let hp : p < A .props = need-lt i p h m in turns j p k hp ∙ adm .with-props j p k hp)
+        ∙ ap₂ (λ (set w : ℕ). meetOf rowLength set (λ p. free j (persistence A p)) w) (told .pre i h) (ap₂ common (lives j k) (lives i h)))
+        ∙ S.with-action rowLength all A sets (cell t) (is .consistent) i j (bit j (getD foes i 0)) h k (λ q. fails-at _ d (same-of i j q)) (told .hurt i j h k))
+        (holds-or (same i j))
+
+    -- one by one
+    friend-bits : (i j : ℕ) → bit j (friendsOf needs foes i) ≡ (bit j (first (length needs)) and fails (bit j (getD foes i 0) or same j i))
+    unfolding friendsOf
+    friend-bits i j = bit-without j (first (length needs)) (union (getD foes i 0) (single i))
+        ∙ ap (λ (b : Bool). bit j (first (length needs)) and fails b) (bit-union j (getD foes i 0) (single i) ∙ ap (λ (b : Bool). bit j (getD foes i 0) or b) (bit-single j i))
+
+    pub friend-lt : (i : ℕ) → friendsOf needs foes i < 2 ^ length needs
+    unfolding friendsOf
+    friend-lt i = without-lt (length needs) (first (length needs)) _ (first-lt (length needs))
+
+    friend-is : (i j : ℕ) → i < A .count → So (bit j (friendsOf needs foes i)) → (j < A .count) × So (fails (bit j (getD foes i 0))) × (i ≡ j → ⊥)
+    friend-is i j h m =
+        let u = sym (friend-bits i j) ∙ m in (
+          subst (λ (x : ℕ). j < x) (sym (told .count)) (bit-below j (friendsOf needs foes i) (length needs) (friend-lt i) m),
+          fails-of _ (λ x. fails-at _ (and-right _ _ u) (or-left _ _ x)),
+          λ e. fails-at _ (and-right _ _ u) (or-right _ _ (same-of j i (sym e))),
+        )
+
+    foe-is : (i j : ℕ) → i < A .count → j < A .count → (i ≡ j → ⊥) → So (fails (bit j (friendsOf needs foes i))) → So (bit j (getD foes i 0))
+    foe-is i j h k ne m = ⊎-elim
+        (λ x. x)
+        (λ x. absurd (fails-at _ m (friend-bits i j ∙ and-of _ _
+        (bit-first j (length needs) ∙ below-of j (length needs) (subst (λ (y : ℕ). j < y) (told .count) k))
+        (fails-of _ (λ o. ⊎-elim (fails-at _ x) (λ e. ne (sym (same-at j i e))) (or-at _ _ o))))))
+        (holds-or (bit j (getD foes i 0)))
+
+    turned-hurt : (i j : ℕ) → i < A .count → j < A .count → bit j (getD foes i 0) ≡ (clobbers A j i or clobbers A i j)
+    turned-hurt i j h k = told .hurt i j h k ∙ test-eq _ _ (swap _ _) (swap _ _)
+      where
+        swap : (a b : Bool) → So (a or b) → So (b or a)
+        swap a b t = ⊎-elim (λ x. or-right b a x) (λ x. or-left b a x) (or-at a b t)
+
+    both-ways : (i j : ℕ) → i < A .count → j < A .count → (i ≡ j → ⊥)
+        → choose (bit j (getD foes i 0)) 0 (meetOf rowLength (A .pre j) (λ p. free i (persistence A p))
+        (common (vertexLabel (domain A .props) all (layerBy (domain A .props) (cell t)) (A .pre i)) (vertexLabel (domain A .props) all (layerBy (domain A .props) (cell t)) (A .pre j)))) ≡ free i j
+    both-ways i j h k ne =
+        S.with-action rowLength all A sets (cell t) (is .consistent) j i (bit j (getD foes i 0)) k h (λ q. ne (sym q)) (turned-hurt i j h k)
+        ∙ free-turn (domain A .vertices) (overOf A all t) j i
+
+    apart-none : (i j : ℕ) → i < A .count → j < A .count → (i ≡ j → ⊥) → So (fails (bit j (friendsOf needs foes i))) → free i j ≡ 0
+    apart-none i j h k ne m = sym (both-ways i j h k ne) ∙ choose-held (bit j (getD foes i 0)) 0 _ (foe-is i j h k ne m)
+
+    friend-told : (i j : ℕ) → i < A .count → So (bit j (friendsOf needs foes i)) → withFriend needs live (rowIn r i) i j ≡ free i j
+    unfolding withFriend
+    friend-told i j h m =
+        let (k, f, ne) = friend-is i j h m in
+        meet-only rowLength (getD needs j 0) _ _ _ (λ q l n.
+        let hq : q < A .props = need-lt j q k n in row-cell r i q l ∙ adm .with-props i q h hq)
+        ∙ ap₂ (λ (set w : ℕ). meetOf rowLength set (λ p. free i (persistence A p)) w) (told .pre j k) (ap₂ common (lives i h) (lives j k))
+        ∙ sym (choose-failed (bit j (getD foes i 0)) 0 _ f) ∙ both-ways i j h k ne
+
+    pub mate-told : (i j : ℕ) → i < A .count → j < A .count → mateOf needs foes live r i j ≡ free i j
+    unfolding mateOf
+    mate-told i j h k = ⊎-elim
+        (λ e. choose-held _ _ _ e ∙ adm .label i h ∙ sym (free-own (domain A .vertices) (overOf A all t) i) ∙ ap (free i) (sym (same-at j i e)))
+        (λ d. let ne : i ≡ j → ⊥ = (λ q. fails-at _ d (same-of j i (sym q))) in choose-failed _ _ _ d ∙ ⊎-elim
+        (λ m. choose-held _ _ _ m ∙ friend-told i j h m)
+        (λ m. choose-failed _ _ _ m ∙ sym (apart-none i j h k ne m))
+        (holds-or (bit j (friendsOf needs foes i))))
+        (holds-or (same j i))
+
+    pub beside-told : (i p : ℕ) → i < A .count → p < A .props → besideFor needs adds foes live r i p ≡ beside (domain A) (overOf A all t) i p
+    unfolding besideFor
+    beside-told i p h k =
+        ap₂ union
+        (ap₂ union (adm .with-props i p h k) (join-only rowLength (friendsOf needs foes i) _ _ (λ j l m.
+        let (g, f, ne) = friend-is i j h m in ap₂ (λ (x y : ℕ). keep (bit p x) y) (told .add j g) (friend-told i j h m))))
+        (ap₂ (λ (x y : ℕ). keep (bit p x) y) (told .add i h) (adm .label i h ∙ sym (free-own (domain A .vertices) (overOf A all t) i)))
+        ∙ S.beside-few rowLength all A sets (cell t) (is .consistent) i p (friendsOf needs foes i) h k
+        (subst (λ (x : ℕ). friendsOf needs foes i < 2 ^ x) (sym (told .count)) (friend-lt i))
+        (λ j g ne m. apart-none i j h g (λ q. ne (sym q)) m)
+
+    -- rows joined over the adders of a proposition
+    adder-lt : (p j : ℕ) → p < A .props → So (bit j (getD adders p 0)) → j < A .count
+    adder-lt p j k m = bit-below j (startLabel (A .count) (A .add) p) (A .count) (startLabel-lt (A .count) (A .add) p) (ap (bit j) (sym (told .by p k)) ∙ m)
+
+    pub rows-told : (turned mates : List ℕ) → ((j p : ℕ) → j < A .count → p < A .props → cell turned p j ≡ cell r j p)
+        → ((i j : ℕ) → i < A .count → j < A .count → cell mates i j ≡ free i j) → (i p : ℕ) → i < A .count → p < A .props
+        → union (cell turned p i) (joinOf rowLength (getD adders p 0) (λ j. cell mates j i)) ≡ beside (domain A) (overOf A all t) i p
+    rows-told turned mates turns pair i p h k =
+        ap₂ union (turns i p h k ∙ adm .with-props i p h k)
+        (join-only rowLength (getD adders p 0) _ _ (λ j l m. pair j i (adder-lt p j k m) h) ∙ ap (λ (x : ℕ). joinOf rowLength x (λ j. free j i)) (told .by p k))
+        ∙ S.beside-rows rowLength all A sets (cell t) (is .consistent) i p k
+
+  -- ---- the next table
+
+  module _ (n : ℕ) (needs adds adders foes : List ℕ) (told : Told A n needs adds adders foes) (spare turned besides t' : List ℕ)
+      (halves : (p q : ℕ) → p < A .props → q < A .props → cell spare p q ≡ union (cell t p q) (joinOf rowLength (getD adders p 0) (λ i. cell besides i q)))
+      (turns : (p q : ℕ) → p < A .props → q < A .props → cell turned q p ≡ cell spare p q)
+      (with-adders : (i p : ℕ) → i < A .count → p < A .props → cell besides i p ≡ beside (domain A) (overOf A all t) i p)
+      (joined : (p q : ℕ) → p < A .props → q < A .props → cell t' p q ≡ union (cell spare p q) (cell turned p q)) where
+    half-told : (p q : ℕ) → p < A .props → q < A .props
+        → cell spare p q ≡ union (cell t p q) (joinOf rowLength (startLabel (A .count) (A .add) p) (λ i. beside (domain A) (overOf A all t) i q))
+    half-told p q h k =
+        halves p q h k ∙ ap (union (cell t p q))
+        (join-only rowLength (getD adders p 0) _ _ (λ i l m. with-adders i q
+        (bit-below i (startLabel (A .count) (A .add) p) (A .count) (startLabel-lt (A .count) (A .add) p) (ap (bit i) (sym (told .by p h)) ∙ m)) k)
+        ∙ ap (λ (x : ℕ). joinOf rowLength x (λ i. beside (domain A) (overOf A all t) i q)) (told .by p h))
+
+    pub cell-told : (p q : ℕ) → p < A .props → q < A .props → cell t' p q ≡ nextTogether (domain A) (overOf A all t) p q
+    cell-told p q h k =
+        joined p q h k ∙ ap₂ union (half-told p q h k) (turns q p k h ∙ half-told q p k h)
+        ∙ S.next-cells rowLength all A sets (cell t) (is .consistent) p q h k
+
+    inside : (s v : ℕ) → v < domain A .vertices → So (bit s (labelIn (overOf A all t) v)) → So (bit s all)
+    inside s v h b =
+        label-at (domain A .props) all (cell t) (is .consistent) s (domain A .needs v)
+        (ap (bit s) (sym (vertex-label (domain A) all (cell t) (is .consistent) v h)) ∙ b) .inside
+
+    pub next-told : (labels' : List ℕ) (still : Bool) → ((p : ℕ) → p < A .props → getD labels' p 0 ≡ cell t' p p)
+        → (still ≡ true → (p q : ℕ) → p < A .props → q < A .props → cell t' p q ≡ cell t p q) → Next A all t labels' t' still
+    unfolding domain
+    next-told labels' still diag same = record {
+      tells = record {
+        consistent = consistent-eq (A .props) all (nextTogether (domain A) (overOf A all t)) (cell t') (λ p q h k. sym (cell-told p q h k))
+            (next-together (domain A) (overOf A all t) all inside);
+        diagonal = diag;
+      };
+      layer = layerBy-eq (A .props) (cell t') (nextTogether (domain A) (overOf A all t)) cell-told ∙ sym (next-by (domain A) (overOf A all t));
+      rests = λ e. layerBy-eq (A .props) (cell t') (cell t) (same e);
+    }
+
+-- a table that did not change
+pub unchanged : (n : ℕ) (f g : ℕ → ℕ) → joinOver n (λ i. bitXor (f i) (g i)) ≡ 0 → (i : ℕ) → i < n → f i ≡ g i
+unchanged n f g e i h = same-words (f i) (g i) (ext-all _ _ (λ s. test-eq _ _
+    (λ b. absurd (no-bit-zero s (ap (bit s) (sym e) ∙ (bit-joinOver s _ (λ i. bit s (bitXor (f i) (g i))) n (λ i l. refl) ∙ any-of n _ i h b))))
+    (λ b. absurd (no-bit-zero s b))))
+  where
+    same-words : (a b : ℕ) → bitXor a b ≡ 0 → a ≡ b
+    same-words a b z = omega (arith, xor-add-and a b, and-le-l a b, and-le-r a b)
+
+-- ---- the action layer's words
+
+module _ (a n : ℕ) (f : ℕ → ℕ → ℕ) where
+  abbrev word : ℕ → ℕ → ℕ
+  word v w = without (common (f v v) (f w w)) (f v w)
+
+  row-split : (i : ℕ) → i < a → rowOf (a + n) word i ≡ listOver (a - 1 - i) (λ k. word i (i + 1 + k)) ++ listOver n (λ q. word i (a + q))
+  unfolding rowOf
+  row-split i h =
+      let e : a + n - 1 - i ≡ (a - 1 - i) + n = omega arith in
+      ap (λ (x : ℕ). listOver x (λ k. word i (i + 1 + k))) e ∙ list-append (a - 1 - i) n (λ k. word i (i + 1 + k))
+      ∙ ap (λ (l : List ℕ). listOver (a - 1 - i) (λ k. word i (i + 1 + k)) ++ l) (listOver-eq n _ _ (λ q l.
+      let g : i + 1 + (a - 1 - i + q) ≡ a + q = omega arith in ap (word i) g))
+
+  row-last : (p : ℕ) → rowOf (a + n) word (a + p) ≡ rowOf n (λ p q. word (a + p) (a + q)) p
+  unfolding rowOf
+  row-last p =
+      let e : a + n - 1 - (a + p) ≡ n - 1 - p = omega arith in
+      ap (λ (x : ℕ). listOver x (λ k. word (a + p) (a + p + 1 + k))) e
+      ∙ listOver-eq (n - 1 - p) _ _ (λ k l. let g : a + p + 1 + k ≡ a + (p + 1 + k) = omega arith in ap (word (a + p)) g)
+
+  pub layer-split : layerBy (a + n) f
+      ≡ (listOver a (λ i. f i i) ++ listOver n (λ p. f (a + p) (a + p)))
+      ++ (runOver a (λ i. listOver (a - 1 - i) (λ k. word i (i + 1 + k)) ++ listOver n (λ q. word i (a + q))) ++ runOver n (rowOf n (λ p q. word (a + p) (a + q))))
+  unfolding layerBy layerOf
+  layer-split =
+      ap₂ (λ (x y : List ℕ). x ++ y) (list-append a n (λ v. f v v))
+      (run-append a n (rowOf (a + n) word)
+      ∙ ap₂ (λ (x y : List ℕ). x ++ y) (runOver-eq a _ _ row-split) (runOver-eq n _ _ (λ p h. row-last p)))
+
+pub actions-told : (A : Actions) (all : ℕ) (sets : Sets rowLength A) (labels t live r mates besides : List ℕ) → Tells A all labels t → Admitted A all t live r → Mated A all t mates besides
+    → actionWords (A .props) (A .count) live labels t mates r ≡ overOf A all t
+unfolding actionWords besides apart domain persistence
+actions-told A all sets labels t live r mates besides is adm mat =
+    sym (action-by (domain A) all (layerBy (A .props) (cell t)) ∙ layer-split a n free ∙ ap₂ (λ (x y : List ℕ). x ++ y)
+    (ap₂ (λ (x y : List ℕ). x ++ y) (listOver-eq a _ _ own) (listOver-eq n _ _ kept))
+    (ap₂ (λ (x y : List ℕ). x ++ y)
+    (runOver-eq a _ _ (λ i h. ap₂ (λ (x y : List ℕ). x ++ y)
+    (listOver-eq (a - 1 - i) _ _ (λ k l.
+    let hk : i + 1 + k < a = omega arith in
+    ap₂ without (ap₂ common (own i h) (own (i + 1 + k) hk)) (sym (mat .pair i (i + 1 + k) h hk))))
+    (listOver-eq n _ _ (λ q l. ap₂ without (ap₂ common (own i h) (kept q l)) (sym (adm .with-props i q h l))))))
+    (runOver-eq n _ _ (λ p h. rows p h))))
+  where
+    a : ℕ
+    a = A .count
+
+    n : ℕ
+    n = A .props
+
+    free : ℕ → ℕ → ℕ
+    free = freeIn (A .count + A .props) (overOf A all t)
+
+    own : (i : ℕ) → i < A .count → free i i ≡ getD live i 0
+    own i h = free-own (A .count + A .props) (overOf A all t) i ∙ sym (adm .label i h)
+
+    kept : (p : ℕ) → p < A .props → free (A .count + p) (A .count + p) ≡ getD labels p 0
+    kept p h = S.both-kept rowLength all A sets (cell t) (is .consistent) p p h h ∙ sym (is .diagonal p h)
+
+    rows : (p : ℕ) → p < A .props → rowOf (A .props) (λ p q. without (common (free (A .count + p) (A .count + p)) (free (A .count + q) (A .count + q))) (free (A .count + p) (A .count + q))) p
+        ≡ rowOf (A .props) (λ p q. without (common (getD labels p 0) (getD labels q 0)) (cell t p q)) p
+    rows p h = unfold rowOf in listOver-eq (A .props - 1 - p) _ _ (λ k l.
+        let hk : p + 1 + k < A .props = omega arith in
+        ap₂ without (ap₂ common (kept p h) (kept (p + 1 + k) hk)) (S.both-kept rowLength all A sets (cell t) (is .consistent) p (p + 1 + k) h hk))
+
+-- ---- on what the functions leave
+
+-- a word written at the front
+front-word : (m i : ℕ) (f : ℕ → ℕ) (w : List ℕ) → m ≤ length w → i < m → getD (putAt 0 (listOver m f) w) i 0 ≡ f i
+front-word m i f w room h =
+    ap (λ (x : ℕ). getD (putAt 0 (listOver m f) w) x 0) (sym (zero-add i))
+    ∙ put-word 0 (listOver m f) w (omega (arith, length-listOver m f)) i (omega (arith, length-listOver m f)) ∙ getD-listOver m f i h
+
+pub diagonal-told : (n : ℕ) (labels labels' t' : List ℕ) → labels' ≡ putAt 0 (listOver n (λ p. cell t' p p)) labels → n ≤ length labels → Diagonal n labels' t'
+diagonal-told n labels labels' t' e room p h = ap (λ (l : List ℕ). getD l p 0) e ∙ front-word n p _ labels room h
+
+pub sets-of : (A : Actions) (n width : ℕ) (needs adds adders foes : List ℕ) → Told A n needs adds adders foes → Width n width needs → Sets rowLength A
+sets-of A n width needs adds adders foes told wide =
+    let le : width ≤ rowLength = parts-le (wide .parts) in
+    record {
+      props = omega (arith, told .props, wide .props);
+      count = omega (arith, told .count, wide .actions);
+      pre = λ i h. subst (λ (x : ℕ). x < 2 ^ A .props) (told .pre i h) (subst (λ (x : ℕ). getD needs i 0 < 2 ^ x) (sym (told .props))
+          (wide .inside i (subst (λ (x : ℕ). i < x) (told .count) h)));
+    }
+
+-- the actions' tables, one by one or by rows
+module _ (A : Actions) (all n width : ℕ) (needs adds adders foes live r labels t : List ℕ) (told : Told A n needs adds adders foes) (wide : Width n width needs)
+    (is : Tells A all labels t) (adm : Admitted A all t live r) where
+  sets : Sets rowLength A
+  sets = sets-of A n width needs adds adders foes told wide
+
+  act : (i : ℕ) → i < A .count → i < length needs
+  act i h = subst (λ (x : ℕ). i < x) (told .count) h
+
+  prop : (p : ℕ) → p < A .props → p < n
+  prop p h = subst (λ (x : ℕ). p < x) (told .props) h
+
+  pub few-made : (mates besides : List ℕ) → ((i j : ℕ) → i < length needs → j < rowLength → cell mates i j ≡ mateOf needs foes live r i j)
+      → ((i p : ℕ) → i < length needs → p < width → cell besides i p ≡ besideFor needs adds foes live r i p) → Mated A all t mates besides
+  few-made mates besides pair by = record {
+    pair = λ i j h k. pair i j (act i h) (omega (arith, act j k, wide .actions, parts-le (wide .parts)))
+        ∙ mate-told A all sets labels t is n needs adds adders foes live r told adm i j h k;
+    with-adders = λ i p h k. by i p (act i h) (omega (arith, prop p k, wide .props))
+        ∙ beside-told A all sets labels t is n needs adds adders foes live r told adm i p h k;
+  }
+
+  pub rows-made : (turned mates spare besides : List ℕ) → length adders ≡ n → ((i j : ℕ) → i < length needs → j < n → cell turned j i ≡ cell r i j)
+      → ((i j : ℕ) → i < length needs → j < width → cell mates i j ≡ withAction needs foes live turned i j)
+      → ((p k : ℕ) → p < length adders → k < width → cell spare p k ≡ union (cell turned p k) (joinOf rowLength (getD adders p 0) (λ i. cell mates i k)))
+      → ((i j : ℕ) → i < n → j < length needs → cell besides j i ≡ cell spare i j) → Mated A all t mates besides
+  rows-made turned mates spare besides long turns pair joined back = record {
+    pair = paired;
+    with-adders = λ i p h k. back p i (prop p k) (act i h) ∙ joined p i (omega (arith, prop p k)) (omega (arith, act i h, wide .actions))
+        ∙ rows-told A all sets labels t is n needs adds adders foes live r told adm turned mates (λ j q g l. turns j q (act j g) (prop q l)) paired i p h k;
+  }
+    where
+      paired : (i j : ℕ) → i < A .count → j < A .count → cell mates i j ≡ freeIn (domain A .vertices) (overOf A all t) i j
+      paired i j h k = pair i j (act i h) (omega (arith, act j k, wide .actions))
+          ∙ pair-told A all sets labels t is n needs adds adders foes live r told adm turned (λ j q g l. turns j q (act j g) (prop q l)) i j h k
+
+pub next-made : (A : Actions) (all n width fresh : ℕ) (needs adds adders foes mates labels t besides spare turned t' labels' : List ℕ)
+    → Told A n needs adds adders foes → Width n width needs → Nexting n width adders besides t spare turned labels → Tells A all labels t → Mated A all t mates besides
+    → (spare' turned' : List ℕ)
+    → ((p k : ℕ) → p < length adders → k < width → cell spare' p k ≡ union (cell t p k) (joinOf rowLength (getD adders p 0) (λ i. cell besides i k)))
+    → ((i j : ℕ) → i < n → j < n → cell turned' j i ≡ cell spare' i j)
+    → t' ≡ putAt 0 (listOver (n * rowLength) (λ i. union (getD spare' i 0) (getD turned' i 0))) t
+    → fresh ≡ joinOver (n * rowLength) (λ i. bitXor (union (getD spare' i 0) (getD turned' i 0)) (getD t i 0))
+    → labels' ≡ putAt 0 (listOver n (λ p. cell t' p p)) labels → Next A all t labels' t' (eqb fresh 0)
+next-made A all n width fresh needs adds adders foes mates labels t besides spare turned t' labels' told wide ready is mat spare' turned' halves turns e ef el =
+    next-told A all (sets-of A n width needs adds adders foes told wide) labels t is n needs adds adders foes told spare' turned' besides t'
+    (λ p q h k. halves p q (lt p h) (ltw q k)) (λ p q h k. turns p q (ltn p h) (ltn q k)) (mat .with-adders) (λ p q h k. put p q (ltn p h) (ltn q k)) labels' (eqb fresh 0)
+    (λ p h. diagonal-told n labels labels' t' el (omega (arith, ready .labels-long, few)) p (ltn p h))
+    (λ b p q h k. put p q (ltn p h) (ltn q k) ∙ still b p q (ltn p h) (ltn q k))
+  where
+    few : n ≤ rowLength
+    few = omega (arith, ready .props, parts-le (ready .parts))
+
+    ltn : (p : ℕ) → p < A .props → p < n
+    ltn p h = subst (λ (x : ℕ). p < x) (told .props) h
+
+    lt : (p : ℕ) → p < A .props → p < length adders
+    lt p h = omega (arith, ltn p h, ready .adders-long)
+
+    ltw : (p : ℕ) → p < A .props → p < width
+    ltw p h = omega (arith, ltn p h, ready .props)
+
+    at-lt : (p q : ℕ) → p < n → q < n → p * rowLength + q < n * rowLength
+    at-lt p q h k = omega (arith, few)
+
+    put : (p q : ℕ) → p < n → q < n → cell t' p q ≡ union (cell spare' p q) (cell turned' p q)
+    put p q h k = unfold cell in
+        ap (λ (l : List ℕ). getD l (p * rowLength + q) 0) e
+        ∙ front-word (n * rowLength) (p * rowLength + q) _ t (omega (arith, ready .t-long, few)) (at-lt p q h k)
+
+    still : eqb fresh 0 ≡ true → (p q : ℕ) → p < n → q < n → union (cell spare' p q) (cell turned' p q) ≡ cell t p q
+    still b p q h k = unfold cell in
+        unchanged (n * rowLength) (λ i. union (getD spare' i 0) (getD turned' i 0)) (λ i. getD t i 0) (sym ef ∙ eqb-true fresh 0 b) (p * rowLength + q) (at-lt p q h k)
+
+-- ---- the whole step
+
+length-by : (n : ℕ) (t : ℕ → ℕ → ℕ) → length (layerBy n t) ≡ size n
+unfolding layerBy
+length-by n t = length-layerOf n _ _
+
+length-actions' : (D : Domain) (all : ℕ) (l : List ℕ) → length (actionLayer D all l) ≡ size (D .vertices)
+unfolding actionLayer
+length-actions' D all l = length-layerOf (D .vertices) _ _
+
+pub admit-made : (A : Actions) (all n width : ℕ) (needs adds adders foes dels labels t live live' r' : List ℕ) → Told A n needs adds adders foes → Width n width needs
+    → Deletes A dels → Tells A all labels t → length live ≡ rowLength
+    → live' ≡ putAt 0 (listOver (length needs) (λ i. labelFor all labels t (getD needs i 0))) live
+    → ((i q : ℕ) → i < length needs → q < width → cell r' i q ≡ withProp all labels t (getD needs i 0) (getD dels i 0) q) → Admitted A all t live' r'
+admit-made A all n width needs adds adders foes dels labels t live live' r' told wide del is long e cells = record {
+  label = λ i h. ap (λ (l : List ℕ). getD l i 0) e ∙ front-word (length needs) i _ live (omega (arith, wide .actions, parts-le (wide .parts))) (act i h)
+      ∙ ap (labelFor all labels t) (told .pre i h) ∙ label-told A all ready labels t is i h;
+  with-props = λ i q h k. cells i q (act i h) (omega (arith, subst (λ (x : ℕ). q < x) (told .props) k, wide .props))
+      ∙ ap₂ (λ (x y : ℕ). withProp all labels t x y q) (told .pre i h) (del i h) ∙ prop-told A all ready labels t is i q h k;
+}
+  where
+    act : (i : ℕ) → i < A .count → i < length needs
+    act i h = subst (λ (x : ℕ). i < x) (told .count) h
+
+    ready : Sets rowLength A
+    ready = sets-of A n width needs adds adders foes told wide
+
+pub step-made : (A : Actions) (all n width at : ℕ) (still : Bool) (needs adds dels adders foes labels live t r mates besides spare w live' r' mates' besides' w₁ labels' t' p : List ℕ)
+    → Ready n width at needs adds dels adders foes labels live t r mates besides spare w → Told A n needs adds adders foes → Deletes A dels → Tells A all labels t
+    → live' ≡ putAt 0 (listOver (length needs) (λ i. labelFor all labels t (getD needs i 0))) live
+    → ((i q : ℕ) → i < length needs → q < width → cell r' i q ≡ withProp all labels t (getD needs i 0) (getD dels i 0) q)
+    → ((A : Actions) (all : ℕ) (labels t : List ℕ) → Told A n needs adds adders foes → Tells A all labels t → Admitted A all t live' r' → Mated A all t mates' besides')
+    → w₁ ≡ putAt 0 (actionWords n (length needs) live' labels t mates' r') w
+    → ((A : Actions) (all : ℕ) (needs adds foes mates : List ℕ) → Told A n needs adds adders foes → Width n width needs → Tells A all labels t
+    → Mated A all t mates besides' → Next A all t labels' t' still)
+    → p ≡ putAt 0 (layerBy n (cell t')) (take (length w₁ - at) (drop at w₁))
+    → Stepped A all t labels' t' w (putMid at (length w₁ - at) w₁ p) still
+step-made A all n width at still needs adds dels adders foes labels live t r mates besides spare w live' r' mates' besides' w₁ labels' t' p ready told del is el cells mate e₁ next ep =
+    record { next = nx; is = unfold stepWords in back }
+  where
+    adm : Admitted A all t live' r'
+    adm = admit-made A all n width needs adds adders foes dels labels t live live' r' told (ready .mating .wide) del is (ready .mating .live-long) el cells
+
+    mat : Mated A all t mates' besides'
+    mat = mate A all labels t told is adm
+
+    nx : Next A all t labels' t' still
+    nx = next A all needs adds foes mates' told (ready .mating .wide) is mat
+
+    words : w₁ ≡ putAt 0 (overOf A all t) w
+    words =
+        e₁ ∙ ap₂ (λ (x y : ℕ). putAt 0 (actionWords x y live' labels t mates' r') w) (sym (told .props)) (sym (told .count))
+        ∙ ap (λ (l : List ℕ). putAt 0 l w)
+        (actions-told A all (sets-of A n width needs adds adders foes told (ready .mating .wide)) labels t live' r' mates' besides' is adm mat)
+
+    long : length (overOf A all t) ≡ at
+    long = unfold domain in length-actions' (domain A) all (layerBy (A .props) (cell t)) ∙ ap₂ (λ (x y : ℕ). size (x + y)) (told .count) (told .props) ∙ sym (ready .place)
+
+    next-words : layerBy n (cell t') ≡ nextLayer (domain A) (overOf A all t)
+    next-words = unfold domain in ap (λ (x : ℕ). layerBy x (cell t')) (sym (told .props)) ∙ nx .layer
+
+    fits : at + length (nextLayer (domain A) (overOf A all t)) ≤ length w
+    fits = omega (arith, ready .room, length-by n (cell t'), ap length next-words)
+
+    lw : length w₁ ≡ length w
+    lw = ap length words ∙ put-length 0 (overOf A all t) w (omega (arith, long, fits))
+
+    back : putMid at (length w₁ - at) w₁ p ≡ putAt 0 (overOf A all t ++ nextLayer (domain A) (overOf A all t)) w
+    back =
+        put-within at 0 (layerBy n (cell t')) w₁ p (omega (arith, ready .room, length-by n (cell t'), lw)) ep
+        ∙ ap₂ (λ (x : ℕ) (l : List ℕ). putAt x l w₁) (add-zero at) next-words
+        ∙ put-behind at (overOf A all t) (nextLayer (domain A) (overOf A all t)) w w₁ _ long fits words refl

@@ -1,0 +1,97 @@
+-- One by one, or by rows: turned, paired, joined over the adders, and turned back.
+use native.Mathlib.Omega.{arith}
+use borrow.Author.Needs.{needs}
+use lib.ListN.{length}
+use Rattle.layers.proofs.Rows.{parts-le}
+use Rattle.layers.proofs.Stages.{few-made, rows-made}
+use Rattle.layers.proofs.step.mate.Statement.{statement}
+use Rattle.layers.proofs.step.mate.Tie as tie
+
+few-requires : tie.Need-few-requires
+few-requires c κs = search needs
+
+same-length : tie.Need-same-length
+same-length c = search needs
+
+same-length-2 : tie.Need-same-length-2
+same-length-2 c = search needs
+
+returns : tie.Need-returns
+returns c = λ A all labels t told is adm.
+    let start = c .before .before .before .before .before .before .before .before .before .before .before .before .before .before .before .before .before in
+    let a = start .args in
+    let did = c .before .before .before .before .few .ensures in
+    few-made A all (a .n) (a .width) (a .needs .now) (a .adds .now) (a .adders .now) (a .foes .now) (a .live .now) (a .r .now) labels t told (start .pre .wide) is adm
+    _ _ (did .0) (did .1)
+
+turn-requires : tie.Need-turn-requires
+turn-requires c κs = let start = c .before .before .before .before .before .before .before .before .before .before .before in
+    let wide = start .pre .wide in
+    let few = parts-le (wide .parts) in
+    (start .pre .besides-long, start .pre .r-long, omega (arith, wide .actions, few), omega (arith, wide .props, few))
+
+pairs-requires : tie.Need-pairs-requires
+pairs-requires c κs = let start = c .before .before .before .before .before .before .before .before .before .before .before .before .before .before .before .before in
+    record {
+      wide = start .pre .wide;
+      foes-long = start .pre .foes-long;
+      foes-inside = start .pre .foes-inside;
+      live-long = start .pre .live-long;
+      turned-long = omega (arith, start .pre .besides-long, c .before .before .before .before .turn .kept .0);
+      mates-long = start .pre .mates-long;
+    }
+
+join-rows-requires : tie.Need-join-rows-requires
+join-rows-requires c κs = let start = c .before .before .before .before .before .before .before .before .before .before .before .before .before .before .before .before .before .before .before .before .before .before in
+    let wide = start .pre .wide in
+    record {
+      to-long = start .pre .spare-long;
+      from-long = omega (arith, start .pre .besides-long, c .before .before .before .before .before .before .before .before .before .before .turn .kept .0);
+      table-long = omega (arith, start .pre .mates-long, c .before .before .before .before .before .pairs .kept .1 .1 .1 .1 .0);
+      few = omega (arith, start .pre .adders-long, wide .props, parts-le (wide .parts));
+      rows = start .pre .adders-inside;
+      parts = wide .parts;
+    }
+
+turn-requires-2 : tie.Need-turn-requires-2
+turn-requires-2 c κs = let start = c .before .before .before .before .before .before .before .before .before .before .before .before .before .before .before .before .before .before .before .before .before .before .before .before .before .before .before in
+    let wide = start .pre .wide in
+    let few = parts-le (wide .parts) in (
+      omega (arith, start .pre .besides-long, c .before .before .before .before .before .before .before .before .before .before .before .before .before .before .before .turn .kept .0),
+      omega (arith, start .pre .spare-long, c .before .before .before .before .join-rows .kept .0),
+      omega (arith, wide .props, few),
+      omega (arith, wide .actions, few),
+    )
+
+same-length-3 : tie.Need-same-length-3
+same-length-3 c = search needs
+
+same-length-4 : tie.Need-same-length-4
+same-length-4 c = search needs
+
+same-length-5 : tie.Need-same-length-5
+same-length-5 c = search needs
+
+returns-2 : tie.Need-returns-2
+returns-2 c = λ A all labels t told is adm.
+    let start = c .before .before .before .before .before .before .before .before .before .before .before .before .before .before .before .before .before .before .before .before .before .before .before .before .before .before .before .before .before .before in
+    let a = start .args in
+    rows-made A all (a .n) (a .width) (a .needs .now) (a .adds .now) (a .adders .now) (a .foes .now) (a .live .now) (a .r .now) labels t told (start .pre .wide) is adm
+    _ _ _ _ (start .pre .adders-long) (c .before .before .before .before .before .before .before .before .before .before .before .before .before .before .before .before .before .before .turn .ensures) (c .before .before .before .before .before .before .before .before .before .before .before .before .before .pairs .ensures) (c .before .before .before .before .before .before .before .join-rows .ensures) (c .before .before .turn2 .ensures)
+
+pub mate-spec : {M : Type 1} → statement M
+mate-spec =
+    tie.close
+    (tie.spec
+    few-requires
+    same-length
+    same-length-2
+    returns
+    turn-requires
+    pairs-requires
+    join-rows-requires
+    turn-requires-2
+    same-length-3
+    same-length-4
+    same-length-5
+    returns-2)

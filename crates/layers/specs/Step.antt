@@ -1,0 +1,106 @@
+-- A step of the graph, by the lists of the actions' sets and the tables of what is together.
+use Prim.Native.Nat.{ℕ, _+_, _≤_, _<_}
+use mathlib.Core.Path.{_≡_}
+use mathlib.Core.Bool.{Bool, true}
+use mathlib.Core.List.{List, _++_}
+use lib.ListN.{length, getD}
+use Rattle.rules.specs.Test.{_or_}
+use Rattle.rules.specs.Word.{bit}
+use Rattle.rules.specs.Domain.{Domain, Actions, persistence, clobbers, domain}
+use Rattle.rules.specs.Layer.{size, labelIn, freeIn}
+use Rattle.rules.specs.Shared.{startLabel, actionLayer, nextLayer}
+use Rattle.rules.specs.Together.{layerBy, Consistent, beside, nextTogether}
+use Rattle.words.specs.Memory.{putAt}
+use Rattle.words.specs.Rows.{rowLength, tableLength, cell, InParts, Inside}
+use Rattle.layers.specs.Cells.{Width}
+
+-- the action layer over the proposition layer l, and the next proposition layer behind it
+unfoldable pub stepWords : Domain → ℕ → List ℕ → List ℕ
+stepWords D all l = actionLayer D all l ++ nextLayer D (actionLayer D all l)
+
+-- the lists tell these actions: their needs and adds, the adders of each proposition, and those that interfere with each
+pub record Told (A : Actions) (n : ℕ) (needs adds adders foes : List ℕ) : Type 0 where
+  pub props : A .props ≡ n
+  pub count : A .count ≡ length needs
+  pub pre : (i : ℕ) → i < A .count → getD needs i 0 ≡ A .pre i
+  pub add : (i : ℕ) → i < A .count → getD adds i 0 ≡ A .add i
+  pub by : (p : ℕ) → p < A .props → getD adders p 0 ≡ startLabel (A .count) (A .add) p
+  pub hurt : (i j : ℕ) → i < A .count → j < A .count → bit j (getD foes i 0) ≡ (clobbers A i j or clobbers A j i)
+
+-- and these what each deletes
+abbrev pub Deletes : Actions → List ℕ → Type 0
+Deletes A dels = (i : ℕ) → i < A .count → getD dels i 0 ≡ A .del i
+
+-- the table tells what is together in a proposition layer, and `labels` its labels
+pub record Tells (A : Actions) (all : ℕ) (labels t : List ℕ) : Type 0 where
+  pub consistent : Consistent (domain A .props) all (cell t)
+  pub diagonal : (p : ℕ) → p < A .props → getD labels p 0 ≡ cell t p p
+
+-- the action layer over that proposition layer
+abbrev pub overOf : Actions → ℕ → List ℕ → List ℕ
+overOf A all t = actionLayer (domain A) all (layerBy (domain A .props) (cell t))
+
+-- `live` has the labels of the actions, and r what each is together with among the propositions
+pub record Admitted (A : Actions) (all : ℕ) (t live r : List ℕ) : Type 0 where
+  pub label : (i : ℕ) → i < A .count → getD live i 0 ≡ labelIn (overOf A all t) i
+  pub with-props : (i q : ℕ) → i < A .count → q < A .props → cell r i q ≡ freeIn (domain A .vertices) (overOf A all t) i (persistence A q)
+
+-- `mates` has what two actions are together in, and `besides` what each is together with among the adders of a proposition
+pub record Mated (A : Actions) (all : ℕ) (t mates besides : List ℕ) : Type 0 where
+  pub pair : (i j : ℕ) → i < A .count → j < A .count → cell mates i j ≡ freeIn (domain A .vertices) (overOf A all t) i j
+  pub with-adders : (i p : ℕ) → i < A .count → p < A .props → cell besides i p ≡ beside (domain A) (overOf A all t) i p
+
+-- what the code asks that finds them
+pub record Mating (n width : ℕ) (needs adds adders foes live r mates besides spare : List ℕ) : Type 0 where
+  pub wide : Width n width needs
+  pub adds-long : length adds ≡ length needs
+  pub adders-long : length adders ≡ n
+  pub adders-inside : Inside rowLength adders
+  pub foes-long : length foes ≡ length needs
+  pub foes-inside : Inside rowLength foes
+  pub live-long : length live ≡ rowLength
+  pub r-long : length r ≡ tableLength
+  pub mates-long : length mates ≡ tableLength
+  pub besides-long : length besides ≡ tableLength
+  pub spare-long : length spare ≡ tableLength
+
+-- the table of the next proposition layer; where nothing changed, it is the layer before
+pub record Next (A : Actions) (all : ℕ) (t labels' t' : List ℕ) (still : Bool) : Type 0 where
+  pub tells : Tells A all labels' t'
+  pub layer : layerBy (domain A .props) (cell t') ≡ nextLayer (domain A) (overOf A all t)
+  pub rests : still ≡ true → layerBy (domain A .props) (cell t') ≡ layerBy (domain A .props) (cell t)
+
+-- what the code asks that makes it
+pub record Nexting (n width : ℕ) (adders besides t spare turned labels : List ℕ) : Type 0 where
+  pub parts : InParts width
+  pub props : n ≤ width
+  pub adders-long : length adders ≡ n
+  pub adders-inside : Inside rowLength adders
+  pub besides-long : length besides ≡ tableLength
+  pub t-long : length t ≡ tableLength
+  pub spare-long : length spare ≡ tableLength
+  pub turned-long : length turned ≡ tableLength
+  pub labels-long : length labels ≡ rowLength
+
+-- what it asks of a whole step: `at` is where the proposition layer goes behind the action layer
+pub record Ready (n width at : ℕ) (needs adds dels adders foes labels live t r mates besides spare words : List ℕ) : Type 0 where
+  pub mating : Mating n width needs adds adders foes live r mates besides spare
+  pub dels-long : length dels ≡ length needs
+  pub deletes : Inside n dels
+  pub labels-long : length labels ≡ rowLength
+  pub t-long : length t ≡ tableLength
+  pub place : at ≡ size (length needs + n)
+  pub room : at + size n ≤ length words
+
+-- what a step leaves
+pub record Stepped (A : Actions) (all : ℕ) (t labels' t' words words' : List ℕ) (still : Bool) : Type 0 where
+  pub next : Next A all t labels' t' still
+  pub is : words' ≡ putAt 0 (stepWords (domain A) all (layerBy (domain A .props) (cell t))) words
+
+-- what the code asks that makes the table of layer 0
+pub record Starting (n width : ℕ) (labels t spare : List ℕ) : Type 0 where
+  pub parts : InParts width
+  pub props : n ≤ width
+  pub labels-long : length labels ≡ rowLength
+  pub t-long : length t ≡ tableLength
+  pub spare-long : length spare ≡ tableLength

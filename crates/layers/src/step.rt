@@ -1,0 +1,143 @@
+// The step: labels and pairs of the actions, the action layer's words, what is together in the next proposition layer, and its words.
+use crate::admit::admit;
+use crate::few::few;
+use crate::pairs::join_rows;
+use crate::pairs::pairs;
+use crate::write::put_actions;
+use crate::write::put_props;
+use words::tables::ROW;
+use words::tables::join_tables;
+use words::tables::turn;
+ghost use mathlib.Core.Path.{_≡_};
+ghost use mathlib.Core.List.{List};
+ghost use Prim.Native.Nat.{ℕ, _≤_, _<_};
+ghost use lib.ListN.{length, getD};
+ghost use Rattle.rules.specs.Lists.{listOver};
+ghost use Rattle.rules.specs.Domain.{Actions};
+ghost use Rattle.words.specs.Memory.{putAt};
+ghost use Rattle.words.specs.Rows.{rowLength, tableLength, cell};
+ghost use Rattle.layers.specs.Cells.{Width};
+ghost use Rattle.layers.specs.Write.{Diagonal};
+ghost use Rattle.layers.specs.Step.{Told, Tells, Admitted, Mated, Mating, Next, Nexting, Ready, Stepped, Deletes};
+
+// Which actions are together, and what each is together with among the adders of each proposition: by rows, or one by one where there are few pairs.
+fn mate(
+    many: bool,
+    n: usize,
+    needs: &[u32],
+    adds: &[u32],
+    adders: &[u64],
+    foes: &[u64],
+    live: &[u64],
+    r: &[u64],
+    mates: &mut [u64],
+    besides: &mut [u64],
+    spare: &mut [u64],
+    width: usize,
+)
+    requires { ⌜ Mating n width (now needs) (now adds) (now adders) (now foes) (now live) (now r) (now mates) (now besides) (now spare) ⌝ }
+    ensures { λ _. ⌜ ((A : Actions) (all : ℕ) (labels t : List ℕ) → Told A n (now (needs .entry)) (now (adds .entry)) (now (adders .entry)) (now (foes .entry)) → Tells A all labels t → Admitted A all t (now (live .entry)) (now (r .entry)) → Mated A all t (now (mates .exit)) (now (besides .exit))) ⌝ }
+{
+    if !many {
+        return few(needs, adds, foes, live, r, mates, besides, n, width);
+    }
+    turn(&mut *besides, r, needs.len(), n);
+    pairs(needs, foes, live, &*besides, &mut *mates, n, width);
+    join_rows(&mut *spare, &*besides, &*mates, adders, width);
+    turn(besides, &*spare, n, needs.len());
+}
+
+// The labels of a table.
+fn diagonal(t: &[u64], labels: &mut [u64], n: usize)
+    requires { ⌜ (length (now t) ≡ tableLength) × (n ≤ length (now labels)) × (n ≤ rowLength) ⌝ }
+    ensures { λ _. ⌜ now (labels .exit) ≡ putAt 0 (listOver n (λ p. cell (now (t .entry)) p p)) (now (labels .entry)) ⌝ }
+{
+    for p in 0..n {
+        labels[p] = t[p * ROW + p];
+    }
+}
+
+// The table of the next proposition layer and its labels: what is together in the layer before, by two actions, or by an action and a persistence. Whether nothing changed.
+fn next(
+    n: usize,
+    adders: &[u64],
+    besides: &[u64],
+    t: &mut [u64],
+    spare: &mut [u64],
+    turned: &mut [u64],
+    labels: &mut [u64],
+    width: usize,
+) -> bool
+    requires { ⌜ Nexting n width (now adders) (now besides) (now t) (now spare) (now turned) (now labels) ⌝ }
+    ensures { λ still. ⌜ Diagonal n (now (labels .exit)) (now (t .exit)) × ((A : Actions) (all : ℕ) (needs adds foes mates : List ℕ) → Told A n needs adds (now (adders .entry)) foes → Width n width needs → Tells A all (now (labels .entry)) (now (t .entry)) → Mated A all (now (t .entry)) mates (now (besides .entry)) → Next A all (now (t .entry)) (now (labels .exit)) (now (t .exit)) still) ⌝ }
+{
+    join_rows(&mut *spare, &*t, besides, adders, width);
+    turn(&mut *turned, &*spare, n, n);
+    let fresh = join_tables(&mut *t, &*spare, &*turned, n * ROW);
+    diagonal(&*t, labels, n);
+    fresh == 0
+}
+
+// Writes the action layer at the front and the next proposition layer behind it; the table and the labels become those of that layer. Whether nothing changed.
+pub fn step(
+    words: &mut [u64],
+    at: usize,
+    n: usize,
+    needs: &[u32],
+    adds: &[u32],
+    dels: &[u32],
+    adders: &[u64],
+    foes: &[u64],
+    all: u64,
+    many: bool,
+    width: usize,
+    labels: &mut [u64],
+    live: &mut [u64],
+    t: &mut [u64],
+    r: &mut [u64],
+    mates: &mut [u64],
+    besides: &mut [u64],
+    spare: &mut [u64],
+) -> bool
+    requires { ⌜ Ready n width at (now needs) (now adds) (now dels) (now adders) (now foes) (now labels) (now live) (now t) (now r) (now mates) (now besides) (now spare) (now words) ⌝ }
+    ensures { λ still. ⌜ ((A : Actions) → Told A n (now (needs .entry)) (now (adds .entry)) (now (adders .entry)) (now (foes .entry)) → Deletes A (now (dels .entry)) → Tells A all (now (labels .entry)) (now (t .entry)) → Stepped A all (now (t .entry)) (now (labels .exit)) (now (t .exit)) (now (words .entry)) (now (words .exit)) still) ⌝ }
+{
+    admit(
+        needs,
+        dels,
+        all,
+        &*labels,
+        &*t,
+        &mut *r,
+        &mut *live,
+        n,
+        width,
+    );
+    mate(
+        many,
+        n,
+        needs,
+        adds,
+        adders,
+        foes,
+        &*live,
+        &*r,
+        &mut *mates,
+        &mut *besides,
+        &mut *spare,
+        width,
+    );
+    put_actions(
+        &mut *words,
+        n,
+        needs.len(),
+        &*live,
+        &*labels,
+        &*t,
+        &*mates,
+        &*r,
+    );
+    let still = next(n, adders, &*besides, &mut *t, spare, r, &mut *labels, width);
+    put_props(&mut words[at..], n, &*labels, &*t);
+    still
+}

@@ -1,0 +1,188 @@
+-- The sets of the actions as they are read from the file: what each needs, and of each proposition the actions that add it.
+-- Assumes nothing.
+use mathlib.Core.Path.{_≡_, sym, ap, ap₂, subst, _∙_}
+use mathlib.Core.Bool.{Bool}
+use mathlib.Core.List.{List, []}
+use mathlib.Core.Logic.{⊎-elim}
+use Prim.Native.Nat.{ℕ, _+_, _-_, _*_, _^_, _≤_, _<_}
+use native.Mathlib.Nat.{le-refl, zero-add}
+use native.Mathlib.Numerals.{add-one}
+use native.Mathlib.Omega.{arith}
+use lib.ListN.{length, getD, set}
+use Rattle.rules.specs.Test.{below, choose}
+use Rattle.rules.specs.Word.{bit, union, single}
+use Rattle.rules.specs.Over.{keep, joinOver}
+use Rattle.rules.specs.Lists.{listOver}
+use Rattle.rules.specs.Layer.{labelIn, propsIn, actionsIn}
+use Rattle.rules.specs.Shared.{startLabel}
+use Rattle.rules.specs.Domain.{domain, shapeOf, needsOf, addsOf}
+use Rattle.rules.specs.Plan.{descend}
+use Rattle.rules.specs.declared.Shape.{Shape}
+use Rattle.rules.proofs.Tests.{holds-or, choose-held, choose-failed, below-at}
+use Rattle.rules.proofs.Words.{ext}
+use Rattle.rules.proofs.Members.{bit-startLabel, startLabel-lt}
+use Rattle.rules.proofs.Layers.{length-listOver, getD-listOver, listOver-eq}
+use Rattle.rules.proofs.SamePlans.{SameNeeds, descend-same, goals-inside}
+use Rattle.words.proofs.Writes.{Lists, list-none, list-more, list-whole}
+use Rattle.graph.specs.Format.{setAt, headBytes, setBytes, actionsOf}
+use Rattle.graph.specs.File.{Taken}
+use Rattle.graph.specs.declared.format.Counts.{Counts}
+use Rattle.graph.proofs.Graphs.{pre-small}
+use Rattle.graph.specs.Checks.{Room}
+use Rattle.plan.specs.Search.{listedActions, listedShape, Tables, Live, Lent}
+
+adds-next : (i : ℕ) (f : ℕ → ℕ) (q : ℕ) → union (startLabel i f q) (keep (bit q (f i)) (single i)) ≡ startLabel (i + 1) f q
+unfolding startLabel joinOver
+adds-next i f q = ap (λ (k : ℕ). startLabel k f q) (sym (add-one i))
+
+-- ---- at action i, both lists tell of the actions so far
+
+pub record Reading (file : List ℕ) (c : Counts) (needs₀ needs adders : List ℕ) (i : ℕ) : Type 0 where
+  pub taken : Taken file c
+  pub needed : Lists (actionsOf file c .pre) 0 (c .actions) needs₀ i needs
+  pub adding : adders ≡ listOver (c .props) (startLabel i (actionsOf file c .add))
+
+module _ {file : List ℕ} {c : Counts} {needs₀ : List ℕ} where
+  pub reading-none : {adders : List ℕ} → Taken file c → length needs₀ ≡ c .actions → adders ≡ listOver (c .props) (λ p. 0)
+      → Reading file c needs₀ needs₀ adders 0
+  unfolding startLabel joinOver
+  reading-none t l e = record { taken = t; needed = list-none (omega arith); adding = e }
+
+  pub reading-more : {needs adders adders' : List ℕ} {i v x y : ℕ} → Reading file c needs₀ needs adders i → i < c .actions → v ≡ actionsOf file c .pre i
+      → x ≡ actionsOf file c .add i → y ≡ single i
+      → adders' ≡ listOver (length adders) (λ q. union (labelIn adders q) (keep (bit q x) y))
+      → Reading file c needs₀ (set needs i v) adders' (i + 1)
+  unfolding labelIn
+  reading-more {needs} {adders} {adders'} {i} {v} {x} {y} r h p q e k =
+      let n = c .props in
+      let f = actionsOf file c .add in
+      record {
+        taken = r .taken;
+        needed = list-more (r .needed) h (sym (zero-add i)) p;
+        adding = k ∙ ap (λ (m : ℕ). listOver m (λ j. union (getD adders j 0) (keep (bit j x) y))) (ap length (r .adding) ∙ length-listOver n _)
+            ∙ listOver-eq n _ _ (λ j l.
+            ap (λ (z : ℕ). union z (keep (bit j x) y)) (ap (λ (w : List ℕ). getD w j 0) (r .adding) ∙ getD-listOver n _ j l)
+            ∙ ap₂ (λ (u w : ℕ). union (startLabel i f j) (keep (bit j u) w)) q e ∙ adds-next i f j);
+      }
+
+  pub reading-done : {needs adders : List ℕ} {i : ℕ} → Reading file c needs₀ needs adders i → c .actions ≤ i → length needs₀ ≡ c .actions
+      → (needs ≡ listOver (c .actions) (actionsOf file c .pre)) × (adders ≡ listOver (c .props) (startLabel (c .actions) (actionsOf file c .add)))
+  reading-done {needs} {adders} {i} r h l =
+      let e : i ≡ c .actions = omega (arith, r .needed .within) in
+      (list-whole (r .needed) h l, r .adding ∙ ap (λ (k : ℕ). listOver (c .props) (startLabel k (actionsOf file c .add))) e)
+
+-- ---- what the lists tell once all actions are read
+
+-- what an action adds are propositions of the file
+add-small : (file : List ℕ) (c : Counts) (a : ℕ) → Taken file c → a < c .actions → actionsOf file c .add a < 2 ^ c .props
+unfolding actionsOf
+add-small file c a t h =
+    let e : headBytes + setBytes * (3 * a + 1) ≡ 8 + 12 * a + 4 = omega arith in
+    subst (λ (x : ℕ). setAt file x < 2 ^ c .props) e (t .sets (3 * a + 1) (omega arith))
+
+-- of a vertex, an action's set or the proposition of a persistence
+vertex-same : (a b : ℕ) (f g : ℕ → ℕ) → a ≡ b → ((v : ℕ) → v < b → f v ≡ g v) → (v : ℕ)
+    → choose (below v a) (f v) (single (v - a)) ≡ choose (below v b) (g v) (single (v - b))
+vertex-same a b f g e h v =
+    ap (λ (x : ℕ). choose (below v x) (f v) (single (v - x))) e
+    ∙ ⊎-elim
+    (λ t. choose-held (below v b) _ _ t ∙ h v (below-at v b t) ∙ sym (choose-held (below v b) _ _ t))
+    (λ t. choose-failed (below v b) _ _ t ∙ sym (choose-failed (below v b) _ _ t))
+    (holds-or (below v b))
+
+module _ (file : List ℕ) (c : Counts) (taken : Taken file c) (needs adders : List ℕ) (e : needs ≡ listOver (c .actions) (actionsOf file c .pre))
+    (f : adders ≡ listOver (c .props) (startLabel (c .actions) (actionsOf file c .add))) where
+  pub needs-long : length needs ≡ c .actions
+  needs-long = ap length e ∙ length-listOver (c .actions) _
+
+  pub adders-long : length adders ≡ c .props
+  adders-long = ap length f ∙ length-listOver (c .props) _
+
+  need-at : (a : ℕ) → a < c .actions → getD needs a 0 ≡ actionsOf file c .pre a
+  need-at a h = ap (λ (l : List ℕ). getD l a 0) e ∙ getD-listOver (c .actions) _ a h
+
+  adders-at : (p : ℕ) → p < c .props → getD adders p 0 ≡ startLabel (c .actions) (actionsOf file c .add) p
+  adders-at p h = ap (λ (l : List ℕ). getD l p 0) f ∙ getD-listOver (c .props) _ p h
+
+  add-at : (a : ℕ) → a < c .actions → startLabel (length adders) (λ p. getD adders p 0) a ≡ actionsOf file c .add a
+  add-at a h = ext (c .props) _ _
+      (subst (λ (n : ℕ). startLabel (length adders) (λ p. getD adders p 0) a < 2 ^ n) adders-long (startLabel-lt (length adders) (λ p. getD adders p 0) a))
+      (add-small file c a taken h)
+      (λ p l.
+      bit-startLabel (length adders) (λ p. getD adders p 0) a p (omega (arith, adders-long)) ∙ ap (bit a) (adders-at p l)
+      ∙ bit-startLabel (c .actions) (actionsOf file c .add) p a h)
+
+  pub read-tables : Tables needs adders
+  unfolding actionsOf
+  read-tables = record {
+    props = omega (arith, adders-long, taken .ranged .props);
+    few = omega (arith, needs-long, taken .ranged .actions);
+    pre = λ a h.
+        let l : a < c .actions = omega (arith, needs-long) in
+        subst (λ (x : ℕ). x < 2 ^ length adders) (sym (need-at a l)) (subst (λ (n : ℕ). actionsOf file c .pre a < 2 ^ n) (sym adders-long)
+        (pre-small file c taken a l));
+    add = λ p h.
+        let l : p < c .props = omega (arith, adders-long) in
+        subst (λ (x : ℕ). x < 2 ^ length needs) (sym (adders-at p l)) (subst (λ (n : ℕ). startLabel (c .actions) (actionsOf file c .add) p < 2 ^ n)
+        (sym needs-long) (startLabel-lt (c .actions) (actionsOf file c .add) p));
+  }
+
+  same-needs : SameNeeds (listedActions needs adders) (actionsOf file c)
+  unfolding listedActions actionsOf needsOf addsOf
+  same-needs = record {
+    props = adders-long;
+    count = needs-long;
+    needs = vertex-same (length needs) (c .actions) (λ a. getD needs a 0) (actionsOf file c .pre) needs-long need-at;
+    adds = vertex-same (length needs) (c .actions) (startLabel (length adders) (λ p. getD adders p 0)) (actionsOf file c .add) needs-long add-at;
+  }
+
+  shape-same : shapeOf (domain (listedActions needs adders)) ≡ shapeOf (domain (actionsOf file c))
+  unfolding domain
+  shape-same i = record { props = same-needs .props i; vertices = same-needs .count i + same-needs .props i }
+
+  -- the descent by the lists is that of the file's actions
+  pub read-descend : (words : List ℕ) (t set goal : ℕ) (needed : List ℕ) → needed ≡ listOver (c .props) (λ p. keep (bit p goal) set)
+      → descend (listedActions needs adders) words t needed []
+      ≡ descend (actionsOf file c) words t (listOver (c .props) (λ p. keep (bit p goal) set)) []
+  unfolding listedActions
+  read-descend words t set goal needed g =
+      ap (λ (l : List ℕ). descend (listedActions needs adders) words t l [])
+      (g ∙ ap (λ (n : ℕ). listOver n (λ p. keep (bit p goal) set)) (sym adders-long))
+      ∙ descend-same (listedActions needs adders) (actionsOf file c) same-needs set t words words
+      (λ p h i b. ap (λ (S : Shape). bit i (labelIn (propsIn S words 0) p)) shape-same)
+      (λ u l v h i b. ap (λ (S : Shape). bit i (labelIn (actionsIn S words u) v)) shape-same)
+      t (le-refl t) _ [] (goals-inside (listedActions needs adders) set goal)
+      ∙ ap (λ (n : ℕ). descend (actionsOf file c) words t (listOver n (λ p. keep (bit p goal) set)) []) adders-long
+
+-- the goal's propositions, joined to nothing, are what is needed at the level
+pub goals-spread : (n set goal : ℕ) (row row' : List ℕ) → row ≡ listOver n (λ p. 0)
+    → row' ≡ listOver (length row) (λ q. union (labelIn row q) (keep (bit q goal) set)) → row' ≡ listOver n (λ p. keep (bit p goal) set)
+unfolding labelIn
+goals-spread n set goal row row' e f =
+    f ∙ ap (λ (m : ℕ). listOver m (λ q. union (getD row q 0) (keep (bit q goal) set))) (ap length e ∙ length-listOver n _)
+    ∙ listOver-eq n _ _ (λ q l. ap (λ (x : ℕ). union x (keep (bit q goal) set)) (ap (λ (w : List ℕ). getD w q 0) e ∙ getD-listOver n _ q l))
+
+pub goals-live : (n set goal : ℕ) (row : List ℕ) → goal < 2 ^ n → row ≡ listOver n (λ p. keep (bit p goal) set) → Live goal row
+unfolding keep choose
+goals-live n set goal row h e =
+    let long : length row ≡ n = ap length e ∙ length-listOver n _ in
+    record {
+      inside = subst (λ (m : ℕ). goal < 2 ^ m) (sym long) h;
+      rest = λ p l b. ap (λ (w : List ℕ). getD w p 0) e ∙ getD-listOver n _ p (omega arith) ∙ ap (λ (x : Bool). choose x set 0) b;
+    }
+
+-- with what is lent, the lists that were read and the goals are what the descent asks
+pub descends : {file : List ℕ} {c : Counts} {words needs₀ adders₀ needed₀ plan out needs adders needed : List ℕ} (set goal : ℕ) → Taken file c
+    → Lent c goal words needs₀ adders₀ needed₀ plan out → needs ≡ listOver (c .actions) (actionsOf file c .pre)
+    → adders ≡ listOver (c .props) (startLabel (c .actions) (actionsOf file c .add))
+    → needed ≡ listOver (length needed₀) (λ q. union (labelIn needed₀ q) (keep (bit q goal) set))
+    → Tables needs adders × Room (listedShape needs adders) (length plan) words × (length needed ≡ length adders) × Live goal needed
+descends {file} {c} {words} {needs₀} {adders₀} {needed₀} {plan} {out} {needs} {adders} {needed} set goal t l e f g =
+    let n = needs-long file c t needs adders e f in
+    let a = adders-long file c t needs adders e f in
+    let w = goals-spread (c .props) set goal needed₀ needed (l .nothing) g in (
+      read-tables file c t needs adders e f,
+      subst (λ (S : Shape). Room S (length plan) words) (λ i. record { props = sym a i; vertices = sym n i + sym a i }) (l .room),
+      ap length w ∙ length-listOver (c .props) _ ∙ sym a,
+      goals-live (c .props) set goal needed (l .goal-in) w,
+    )
