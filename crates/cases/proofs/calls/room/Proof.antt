@@ -1,0 +1,18 @@
+-- `calls::room` ends: the part lies within the slice.
+use mathlib.Core.Path.{sym}
+use lib.Seq.{length-take-le}
+use borrow.Author.Needs.{needs as simple}
+use Rattle.cases.proofs.calls.room.Statement.{statement}
+use Rattle.cases.proofs.calls.room.Tie as tie
+
+slice-aggregate-result : tie.Need-slice-aggregate-result
+slice-aggregate-result c = sym (length-take-le _ _ (search simple))
+
+returns : tie.Need-returns
+returns c = search simple
+
+returns-2 : tie.Need-returns-2
+returns-2 c = search simple
+
+pub room-spec : {M : Type 1} → statement M
+room-spec = tie.close (tie.spec slice-aggregate-result returns returns-2)

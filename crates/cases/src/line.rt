@@ -1,0 +1,71 @@
+// A line of the script: what stands in its columns.
+ghost use Prim.Native.Nat.{_<_, _≤_};
+ghost use lib.ListN.{length};
+
+// Where the numbers of a line begin, six columns each: bytes of the file, depth, set of states, goal, words of graph memory, elements of output.
+pub const FILE: usize = 1;
+
+pub const DEPTH: usize = 7;
+
+pub const SET: usize = 13;
+
+pub const GOAL: usize = 19;
+
+pub const WORDS: usize = 25;
+
+pub const OUT: usize = 31;
+// Where the text begins.
+pub const TEXT: usize = 38;
+
+const WIDTH: usize = 6;
+
+// n bytes from `at` on, or none where there are fewer.
+pub fn bytes<'a>(data: &'a [u8], at: usize, n: usize) -> &'a [u8] {
+    if at <= data.len() {
+        if n <= data.len() - at {
+            let end = at + n;
+            return &data[at..end];
+        }
+    }
+    &data[..0]
+}
+
+// The number with a digit behind it; a blank is none.
+fn with_digit(x: u32, b: u8) -> u32 {
+    if b < b'0' {
+        return x;
+    }
+    (x % 1000000) * 10 + b as u32 - 48
+}
+
+fn value(digits: &[u8]) -> u32 {
+    let mut x = 0;
+    for i in 0..digits.len() {
+        x = with_digit(x, digits[i]);
+    }
+    x
+}
+
+// The number whose columns begin at `at`.
+pub fn number(line: &[u8], at: usize) -> u32 {
+    value(bytes(line, at, WIDTH))
+}
+
+pub fn size(line: &[u8], at: usize) -> usize {
+    number(line, at) as usize
+}
+
+// Where the line that `at` stands in ends.
+pub fn line_end(script: &[u8], at: usize) -> usize
+    requires { ⌜ at < length (now script) ⌝ }
+    ensures { λ r. ⌜ (at ≤ r) × (r ≤ length (now (script .entry))) ⌝ }
+{
+    let mut i = at;
+    while i < script.len() {
+        if script[i] == b'\n' {
+            return i;
+        }
+        i += 1;
+    }
+    i
+}
