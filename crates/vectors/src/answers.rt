@@ -1,13 +1,7 @@
 // The numbers that calls.bin has for the kinds of calls and for their answers.
-use extract::ExtractAnswer;
-use graph::build::BuildAnswer;
 use graph::refusal::Refusal;
 use graph::refusal::number;
 use graph::refusal::place;
-use level::LevelAnswer;
-use level::RestAnswer;
-use plan::PlanAnswer;
-use run::RunAnswer;
 
 // Kinds of calls.
 pub const BUILD: u64 = 0;
@@ -53,92 +47,31 @@ pub struct Outcome {
     pub digest: u64,
 }
 
-fn answered(answer: u64, first: usize, second: usize) -> Outcome {
+pub fn answered(answer: u64, first: usize, second: usize, digest: u64) -> Outcome {
     Outcome {
         answer: answer,
         first: first as u64,
         second: second as u64,
-        digest: 0,
+        digest: digest,
     }
+}
+
+pub fn refused(why: Refusal, digest: u64) -> Outcome {
+    answered(REFUSED, number(why), place(why), digest)
 }
 
 pub fn not_run() -> Outcome {
-    answered(NOT_RUN, 0, 0)
-}
-
-fn refused(why: Refusal) -> Outcome {
-    answered(REFUSED, number(why), place(why))
-}
-
-pub fn of_build(answer: BuildAnswer) -> Outcome {
-    match answer {
-        BuildAnswer::Built(n) => answered(BUILT, n, 0),
-        BuildAnswer::Refused(why) => refused(why),
-    }
-}
-
-pub fn of_rest(answer: RestAnswer) -> Outcome {
-    match answer {
-        RestAnswer::At(t) => answered(RESTS_AT, t, 0),
-        RestAnswer::None => answered(NONE, 0, 0),
-        RestAnswer::Refused(why) => refused(why),
-    }
-}
-
-pub fn of_level(answer: LevelAnswer) -> Outcome {
-    match answer {
-        LevelAnswer::At(t) => answered(LEVEL_AT, t, 0),
-        LevelAnswer::Never => answered(NEVER, 0, 0),
-        LevelAnswer::NotByDepth => answered(NOT_BY_DEPTH, 0, 0),
-        LevelAnswer::Refused(why) => refused(why),
-    }
-}
-
-pub fn of_extract(answer: ExtractAnswer) -> Outcome {
-    match answer {
-        ExtractAnswer::Extracted(n) => answered(EXTRACTED, n, 0),
-        ExtractAnswer::Refused(why) => refused(why),
-    }
-}
-
-pub fn of_plan(answer: PlanAnswer) -> Outcome {
-    match answer {
-        PlanAnswer::Plan(level, count) => answered(PLANNED, level, count),
-        PlanAnswer::Refused(why) => refused(why),
-    }
-}
-
-pub fn of_run(answer: RunAnswer) -> Outcome {
-    match answer {
-        RunAnswer::Ran(n) => answered(RAN, n, 0),
-        RunAnswer::Refused(why) => refused(why),
-    }
+    answered(NOT_RUN, 0, 0, 0)
 }
 
 impl Outcome {
-    pub fn with_digest(self, d: u64) -> Outcome {
-        Outcome {
-            answer: self.answer,
-            first: self.first,
-            second: self.second,
-            digest: d,
-        }
-    }
-
     // Whether what came is what was wanted. A call that was not run agrees with nothing.
     pub fn agrees(self, came: Outcome) -> bool {
         if NOT_RUN <= came.answer {
             return false;
         }
-        if self.answer != came.answer {
-            return false;
-        }
-        if self.first != came.first {
-            return false;
-        }
-        if self.second != came.second {
-            return false;
-        }
-        self.digest == came.digest
+        let answers = (self.answer ^ came.answer) | (self.first ^ came.first);
+        let numbers = (self.second ^ came.second) | (self.digest ^ came.digest);
+        answers | numbers == 0
     }
 }

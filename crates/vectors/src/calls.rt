@@ -2,27 +2,16 @@
 // depth, set, goal, words of graph memory; the graph (0 none, 1 as the build above left it, 2 a fill), the fill's base and mask, the edits, a part of
 // the store with pairs of numbers, a word's index and what is xored to it; the list, a part of the store; elements of output, base of their fill;
 // the answer wanted, its two numbers, and the digest of all elements after the call. What a call does not take is 0.
-use crate::answers::BUILD;
-use crate::answers::EXTRACT;
-use crate::answers::LEVEL;
+use crate::answers as a;
 use crate::answers::Outcome;
-use crate::answers::PLAN;
-use crate::answers::REST;
-use crate::answers::RUN;
+use crate::answers::answered;
 use crate::answers::not_run;
-use crate::answers::of_build;
-use crate::answers::of_extract;
-use crate::answers::of_level;
-use crate::answers::of_plan;
-use crate::answers::of_rest;
-use crate::answers::of_run;
+use crate::answers::refused;
 use crate::data::Part;
-use crate::data::behind;
 use crate::data::count;
 use crate::data::entry;
 use crate::data::index;
 use crate::data::numbers;
-use crate::data::onward;
 use crate::data::part_of;
 use crate::data::stored;
 use crate::memory::copy;
@@ -31,16 +20,18 @@ use crate::memory::digest_sets;
 use crate::memory::fill;
 use crate::memory::fill_sets;
 use crate::memory::low_u32;
-use crate::show::say;
-use crate::show::say_cases;
-use crate::show::say_cut;
-use crate::show::say_kind_tally;
 use crate::show::say_other;
+use extract::ExtractAnswer;
+use graph::build::BuildAnswer;
+use level::LevelAnswer;
+use level::RestAnswer;
+use plan::PlanAnswer;
+use run::RunAnswer;
 use words::sets::Props;
 use words::sets::States;
 
 // The memory that there is: words of a graph and of an extract, sets of a plan and of a run.
-const WORDS: usize = 40000;
+pub const WORDS: usize = 40000;
 
 const SETS: usize = 512;
 
@@ -107,7 +98,7 @@ fn fits(c: Case, store: &[u8]) -> bool {
     if WORDS < c.words {
         return false;
     }
-    if c.kind == EXTRACT {
+    if c.kind == a::EXTRACT {
         return c.out <= WORDS;
     }
     c.out <= SETS
@@ -177,45 +168,63 @@ fn lay_graph(store: &[u8], c: Case, built: &[u64], graph: &mut [u64]) -> bool {
 fn call_build(store: &[u8], c: Case, built: &mut [u64]) -> Outcome {
     fill(&mut *built, c.fill, u64::MAX);
     let answer = graph::build::build(stored(store, c.file), c.depth, &mut *built);
-    of_build(answer).with_digest(digest(&built[..]))
+    let d = digest(&built[..]);
+    match answer {
+        BuildAnswer::Built(n) => answered(a::BUILT, n, 0, d),
+        BuildAnswer::Refused(why) => refused(why, d),
+    }
 }
 
-fn call_extract_in(store: &[u8], c: Case, graph: &[u64], out: &mut [u64]) -> Outcome {
+fn call_rest(file: &[u8], c: Case, graph: &[u64]) -> Outcome {
+    match level::rest(file, c.depth, graph) {
+        RestAnswer::At(t) => answered(a::RESTS_AT, t, 0, 0),
+        RestAnswer::None => answered(a::NONE, 0, 0, 0),
+        RestAnswer::Refused(why) => refused(why, 0),
+    }
+}
+
+fn call_level(file: &[u8], c: Case, graph: &[u64]) -> Outcome {
+    match level::level(file, c.depth, States(c.set), Props(low_u32(c.goal)), graph) {
+        LevelAnswer::At(t) => answered(a::LEVEL_AT, t, 0, 0),
+        LevelAnswer::Never => answered(a::NEVER, 0, 0, 0),
+        LevelAnswer::NotByDepth => answered(a::NOT_BY_DEPTH, 0, 0, 0),
+        LevelAnswer::Refused(why) => refused(why, 0),
+    }
+}
+
+fn call_extract_in(file: &[u8], c: Case, graph: &[u64], out: &mut [u64]) -> Outcome {
     fill(&mut *out, c.fill, u64::MAX);
-    let answer = extract::extract(
-        stored(store, c.file),
-        c.depth,
-        States(c.set),
-        graph,
-        &mut *out,
-    );
-    of_extract(answer).with_digest(digest(&out[..]))
+    let answer = extract::extract(file, c.depth, States(c.set), graph, &mut *out);
+    let d = digest(&out[..]);
+    match answer {
+        ExtractAnswer::Extracted(n) => answered(a::EXTRACTED, n, 0, d),
+        ExtractAnswer::Refused(why) => refused(why, d),
+    }
 }
 
-fn call_extract(store: &[u8], c: Case, graph: &[u64]) -> Outcome {
+fn call_extract(file: &[u8], c: Case, graph: &[u64]) -> Outcome {
     let mut out = [0u64; WORDS];
-    call_extract_in(store, c, graph, room(&mut out, c.out))
+    call_extract_in(file, c, graph, room(&mut out, c.out))
 }
 
-fn call_plan_in(store: &[u8], c: Case, graph: &[u64], out: &mut [u32]) -> Outcome {
+fn call_plan(file: &[u8], c: Case, graph: &[u64], out: &mut [u32]) -> Outcome {
     fill_sets(&mut *out, c.fill);
     let answer = plan::plan(
-        stored(store, c.file),
+        file,
         c.depth,
         States(c.set),
         Props(low_u32(c.goal)),
         graph,
         &mut *out,
     );
-    of_plan(answer).with_digest(digest_sets(&out[..]))
+    let d = digest_sets(&out[..]);
+    match answer {
+        PlanAnswer::Plan(level, marked) => answered(a::PLANNED, level, marked, d),
+        PlanAnswer::Refused(why) => refused(why, d),
+    }
 }
 
-fn call_plan(store: &[u8], c: Case, graph: &[u64]) -> Outcome {
-    let mut out = [0u32; SETS];
-    call_plan_in(store, c, graph, set_room(&mut out, c.out))
-}
-
-fn call_run_in(store: &[u8], c: Case, out: &mut [u32]) -> Outcome {
+fn call_run(store: &[u8], c: Case, out: &mut [u32]) -> Outcome {
     fill_sets(&mut *out, c.fill);
     let answer = run::run(
         stored(store, c.file),
@@ -223,148 +232,75 @@ fn call_run_in(store: &[u8], c: Case, out: &mut [u32]) -> Outcome {
         stored(store, c.list),
         &mut *out,
     );
-    of_run(answer).with_digest(digest_sets(&out[..]))
-}
-
-fn call_run(store: &[u8], c: Case) -> Outcome {
-    let mut out = [0u32; SETS];
-    call_run_in(store, c, set_room(&mut out, c.out))
+    let d = digest_sets(&out[..]);
+    match answer {
+        RunAnswer::Ran(n) => answered(a::RAN, n, 0, d),
+        RunAnswer::Refused(why) => refused(why, d),
+    }
 }
 
 // A call that reads a graph.
-fn call_on(store: &[u8], c: Case, graph: &[u64]) -> Outcome {
-    let file = stored(store, c.file);
+fn call_on(file: &[u8], c: Case, graph: &[u64], sets: &mut [u32]) -> Outcome {
     let kind = c.kind;
     match kind {
-        REST => of_rest(level::rest(file, c.depth, graph)),
-        LEVEL => of_level(level::level(
-            file,
-            c.depth,
-            States(c.set),
-            Props(low_u32(c.goal)),
-            graph,
-        )),
-        EXTRACT => call_extract(store, c, graph),
-        PLAN => call_plan(store, c, graph),
+        a::REST => call_rest(file, c, graph),
+        a::LEVEL => call_level(file, c, graph),
+        a::EXTRACT => call_extract(file, c, graph),
+        a::PLAN => call_plan(file, c, graph, sets),
         _ => not_run(),
     }
 }
 
-fn call_reader_in(store: &[u8], c: Case, built: &[u64], graph: &mut [u64]) -> Outcome {
+fn call_reader(
+    store: &[u8],
+    c: Case,
+    built: &[u64],
+    graph: &mut [u64],
+    sets: &mut [u32],
+) -> Outcome {
     if !lay_graph(store, c, built, &mut *graph) {
         return not_run();
     }
-    call_on(store, c, &graph[..])
+    call_on(stored(store, c.file), c, &graph[..], sets)
 }
 
-fn call_reader(store: &[u8], c: Case, built: &[u64]) -> Outcome {
-    let mut graph = [0u64; WORDS];
-    call_reader_in(store, c, built, room(&mut graph, c.words))
+fn call_in(
+    store: &[u8],
+    c: Case,
+    built: &mut [u64],
+    graph: &mut [u64],
+    sets: &mut [u32],
+) -> Outcome {
+    let kind = c.kind;
+    match kind {
+        a::BUILD => call_build(store, c, room(built, c.words)),
+        a::RUN => call_run(store, c, sets),
+        _ => call_reader(store, c, front(&built[..], c.words), graph, sets),
+    }
 }
 
 // What the call of a case answers and writes.
 fn call(store: &[u8], c: Case, built: &mut [u64]) -> Outcome {
+    let mut graph = [0u64; WORDS];
+    let mut sets = [0u32; SETS];
     if !fits(c, store) {
         return not_run();
     }
-    let kind = c.kind;
-    match kind {
-        BUILD => call_build(store, c, room(built, c.words)),
-        RUN => call_run(store, c),
-        _ => call_reader(store, c, front(&built[..], c.words)),
-    }
+    call_in(
+        store,
+        c,
+        built,
+        room(&mut graph, c.words),
+        set_room(&mut sets, c.out),
+    )
 }
 
-fn judge(c: Case, n: usize, came: Outcome, agree: &mut [u64]) {
+pub fn judge(store: &[u8], row: &[u64], n: usize, built: &mut [u64], agree: &mut [u64]) {
+    let c = case_of(row);
+    let came = call(store, c, built);
     if c.wanted.agrees(came) {
         count(agree, c.kind as usize);
         return;
     }
-    say_other(c.kind, n, c.wanted, came);
-}
-
-fn run_case_in(
-    store: &[u8],
-    cases: &[u8],
-    at: usize,
-    n: usize,
-    row: &mut [u64],
-    built: &mut [u64],
-    agree: &mut [u64],
-) -> usize {
-    let next = numbers(cases, at, &mut *row);
-    if next <= at {
-        say_cut(n);
-        return at;
-    }
-    let c = case_of(&row[..]);
-    let came = call(store, c, built);
-    judge(c, n, came, agree);
-    next
-}
-
-// Reads case n, runs it, and answers where the next one starts.
-fn run_case(
-    store: &[u8],
-    cases: &[u8],
-    at: usize,
-    n: usize,
-    built: &mut [u64],
-    agree: &mut [u64],
-) -> usize {
-    let mut row = [0u64; 20];
-    run_case_in(store, cases, at, n, &mut row, built, agree)
-}
-
-// Runs all cases, and answers how many there are, a cut one counted.
-fn run_all_in(store: &[u8], cases: &[u8], built: &mut [u64], agree: &mut [u64]) -> usize {
-    let mut at = 0;
-    let mut n = 0;
-    while at < cases.len() {
-        n += 1;
-        let next = run_case(store, cases, at, n, &mut *built, &mut *agree);
-        at = onward(at, next, cases.len());
-    }
-    n
-}
-
-fn run_all(store: &[u8], cases: &[u8], agree: &mut [u64]) -> usize {
-    let mut built = [0u64; WORDS];
-    run_all_in(store, cases, &mut built, agree)
-}
-
-fn say_tally_of(kind: u64, agree: &[u64], head: &[u64]) {
-    let i = kind as usize;
-    say_kind_tally(kind, entry(agree, i), entry(head, i));
-}
-
-fn say_tallies(agree: &[u64], head: &[u64]) {
-    say_tally_of(BUILD, agree, head);
-    say_tally_of(REST, agree, head);
-    say_tally_of(LEVEL, agree, head);
-    say_tally_of(EXTRACT, agree, head);
-    say_tally_of(PLAN, agree, head);
-    say_tally_of(RUN, agree, head);
-}
-
-fn judge_calls_in(data: &[u8], head: &mut [u64], agree: &mut [u64]) {
-    let start = numbers(data, 0, &mut *head);
-    if start == 0 {
-        say(b"calls.bin: cut in its head\n");
-        return;
-    }
-    let store = Part {
-        start: start,
-        length: index(&head[..], 6),
-    };
-    let n = run_all(stored(data, store), behind(data, store), &mut *agree);
-    say_cases(b"calls.bin", n);
-    say_tallies(&agree[..], &head[..]);
-}
-
-// Runs the calls of calls.bin, and says how many of each kind agree.
-pub fn judge_calls(data: &[u8]) {
-    let mut head = [0u64; 7];
-    let mut agree = [0u64; 6];
-    judge_calls_in(data, &mut head, &mut agree);
+    say_other(n, came);
 }

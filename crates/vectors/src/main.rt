@@ -5,39 +5,28 @@ mod calls;
 mod data;
 mod levels;
 mod memory;
+mod rows;
 mod show;
 
-use show::say;
-
-// Reads a data file and answers how many bytes it has; says so where it cannot be read whole.
+// Reads a data file and answers how many bytes it has, 0 where it cannot be opened.
 fn read(name: &[u8], room: &mut [u8]) -> usize {
     let fd = os::open_read(name);
     if fd < 0 {
-        say(name);
-        say(b": cannot be opened\n");
         return 0;
     }
-    let n = io::read_full(fd, &mut *room);
+    let n = io::read_full(fd, room);
     libc::close(fd);
-    if n == room.len() {
-        say(name);
-        say(b": larger than the program's memory\n");
-    }
     n
 }
 
 fn calls_in(room: &mut [u8]) {
     let n = read(b"calls.bin", &mut *room);
-    let data = data::bytes(&room[..], 0, n);
-    show::say_data(b"calls.bin", data);
-    calls::judge_calls(data);
+    rows::judge_calls(data::bytes(&room[..], 0, n));
 }
 
 fn levels_in(room: &mut [u8]) {
     let n = read(b"levels.bin", &mut *room);
-    let data = data::bytes(&room[..], 0, n);
-    show::say_data(b"levels.bin", data);
-    levels::judge_levels(data);
+    rows::judge_levels(data::bytes(&room[..], 0, n));
 }
 
 fn main() {

@@ -1,6 +1,6 @@
 // Lines of text on standard output.
-use crate::answers as a;
 use crate::answers::Outcome;
+use crate::data::entry;
 use crate::memory::digest_bytes;
 
 pub fn say(text: &[u8]) {
@@ -19,54 +19,14 @@ fn say_digest(d: u64) {
     io::print_hex(1, d, 16);
 }
 
-fn say_kind(kind: u64) {
-    match kind {
-        a::BUILD => say(b"build"),
-        a::REST => say(b"rest"),
-        a::LEVEL => say(b"level"),
-        a::EXTRACT => say(b"extract"),
-        a::PLAN => say(b"plan"),
-        a::RUN => say(b"run"),
-        _ => say(b"no call"),
-    }
-}
-
-fn say_two(before: &[u8], first: u64, between: &[u8], second: u64) {
-    say_number(before, first, between);
-    io::print_decimal(1, second);
-}
-
-fn say_answer(o: Outcome) {
-    let answer = o.answer;
-    match answer {
-        a::REFUSED => say_two(b"refused ", o.first, b" ", o.second),
-        a::BUILT => say_number(b"built ", o.first, b""),
-        a::RESTS_AT => say_number(b"rest ", o.first, b""),
-        a::NONE => say(b"none"),
-        a::LEVEL_AT => say_number(b"level ", o.first, b""),
-        a::NEVER => say(b"never"),
-        a::NOT_BY_DEPTH => say(b"not by depth"),
-        a::EXTRACTED => say_number(b"extracted ", o.first, b""),
-        a::PLANNED => say_two(b"plan ", o.first, b" count ", o.second),
-        a::RAN => say_number(b"ran ", o.first, b""),
-        _ => say(b"not run (too large, or no such call)"),
-    }
-    say_digest(o.digest);
-}
-
-// A call that does not agree; n counts the cases from 1 on.
-pub fn say_other(kind: u64, n: usize, wanted: Outcome, came: Outcome) {
-    say_kind(kind);
-    say_number(b", case ", n as u64, b": wanted ");
-    say_answer(wanted);
-    say(b", came ");
-    say_answer(came);
+// A call that does not agree, and what came, in the numbers of `answers`; n counts the cases from 1 on.
+pub fn say_other(n: usize, came: Outcome) {
+    say_number(b"case ", n as u64, b" has another answer: ");
+    say_number(b"", came.answer, b" ");
+    say_number(b"", came.first, b" ");
+    io::print_decimal(1, came.second);
+    say_digest(came.digest);
     say(b"\n");
-}
-
-// A case whose numbers or whose parts of the store are not all there.
-pub fn say_cut(n: usize) {
-    say_number(b"case ", n as u64, b" is cut\n");
 }
 
 // What a data file is: a byte more or less, or another one, changes this line.
@@ -77,19 +37,9 @@ pub fn say_data(name: &[u8], bytes: &[u8]) {
     say(b"\n");
 }
 
-// How many cases it has.
-pub fn say_cases(name: &[u8], n: usize) {
+// How many of kind i agree, of as many as the file's head announces.
+pub fn say_tally(name: &[u8], i: usize, agree: &[u64], head: &[u64]) {
     say(name);
-    say_number(b": ", n as u64, b" cases\n");
-}
-
-// How many agree, of as many as the file's head announces.
-pub fn say_tally(agree: u64, cases: u64) {
-    say_number(b": ", agree, b" of ");
-    say_number(b"", cases, b" agree\n");
-}
-
-pub fn say_kind_tally(kind: u64, agree: u64, cases: u64) {
-    say_kind(kind);
-    say_tally(agree, cases);
+    say_number(b": ", entry(agree, i), b" of ");
+    say_number(b"", entry(head, i), b" agree\n");
 }

@@ -1,16 +1,16 @@
--- `levels::run_all` ends: the place moves on with each case, of which there are no more than bytes.
+-- `rows::run_all` ends: the place moves on with each case, of which there are no more than bytes.
 use Prim.Native.Nat.{_-_, _≤_}
 use mathlib.Core.Path.{_≡_}
 use lib.ListN.{length}
 use borrow.Author.Needs.{needs as simple}
-use Rattle.vectors.proofs.levels.run_all.Statement.{statement}
-use Rattle.vectors.proofs.levels.run_all.Tie as tie
+use Rattle.vectors.proofs.rows.run_all.Statement.{statement}
+use Rattle.vectors.proofs.rows.run_all.Tie as tie
 
 abbrev Inv-loop : tie.InvT-loop
-Inv-loop store cases agree₀ at₀ n₀ agree at n = (n ≤ at) × (length agree ≡ length agree₀)
+Inv-loop store cases row₀ built₀ agree₀ at₀ n₀ row built agree at n = (n ≤ at) × (length row ≡ length row₀) × (length built ≡ length built₀) × (length agree ≡ length agree₀)
 
 abbrev μ-loop : tie.MeasureT-loop
-μ-loop store cases agree₀ at₀ n₀ agree at n = length cases - at
+μ-loop store cases row₀ built₀ agree₀ at₀ n₀ row built agree at n = length cases - at
 
 loop-holds : tie.Need-loop-holds Inv-loop μ-loop
 loop-holds c = search simple
@@ -33,6 +33,12 @@ loop-again c = search simple
 same-length : tie.Need-same-length Inv-loop μ-loop
 same-length c = search simple
 
+same-length-2 : tie.Need-same-length-2 Inv-loop μ-loop
+same-length-2 c = search simple
+
+same-length-3 : tie.Need-same-length-3 Inv-loop μ-loop
+same-length-3 c = search simple
+
 returns : tie.Need-returns Inv-loop μ-loop
 returns c = search simple
 
@@ -49,4 +55,6 @@ run-all-spec =
     loop-less
     loop-again
     same-length
+    same-length-2
+    same-length-3
     returns)
