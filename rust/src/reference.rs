@@ -1,37 +1,53 @@
 //! The same calls in plain Rust, written from the paper and for speed: what the proved library is compared with, answer
 //! by answer (`tests/compare.rs`) and nanosecond by nanosecond (`src/bin/bench.rs`).
 //!
-//! It uses no unsafe code and no instruction that a processor may lack. What makes the build quick:
+//! It uses no unsafe code and no instruction that a processor may lack. What makes it quick:
 //!
-//! - A layer's mutex words are kept as whole rows, word `[p][q]` and word `[q][p]`, so that a union over the needs or
-//!   over the adders of something is a union of rows.
-//! - The union over an action's needs is made once a layer, and not for each pair.
-//! - A row of the states in which an action is together with others, there and not mutex, has the action's own label at
-//!   the action itself. So one adder of both propositions is a pair of adders like any other.
-//! - An action that no state has is passed over, and adders are looked at only of propositions of which some pair is
-//!   not settled by the persistences already.
-//! - Once a layer equals the one before, all further ones are copied.
+//! - The build keeps no mutex words but the states in which two elements are together: both there and not mutex, an
+//!   element with itself where it is there. An action is together with what all its needs are together with, a
+//!   proposition with what one of its adders is together with: rows of words are met and joined, and one adder of both
+//!   propositions is a pair of adders like any other.
+//! - Persistences have no rows of their own: an action is together with one as with its proposition, if it does not
+//!   delete it, and two of them are as their propositions.
+//! - All of this only grows from layer to layer: what has no need that changed is not made again, and few pairs are
+//!   made one by one. Once a layer equals the one before, all further ones are copied.
+//! - Extract cuts out runs of states by shifts where they are few, and else copies what repeats.
+//! - Level looks first at the word that stood in the goal's way one layer before, and for a rest from the top.
+//! - Plan goes over the propositions that are needed only, and over the actions that add one as a set.
+//! - Run follows a sequence once, for all states, and asks whether all preconditions held after many steps at a time.
 
 #![allow(clippy::needless_range_loop)] // an index that several rows share
 
 use crate::{word_count, Level, Plan, Refusal, Rest, TEXT_ROOM};
 use std::fmt::Write;
 
-/// The numbers of the set bits, rising.
-struct Bits(u64);
+/// The members of a set of up to R actions or propositions, rising. R is a power of two, up to 32.
+struct Members<const R: usize>(u32);
 
-impl Iterator for Bits {
+impl<const R: usize> Iterator for Members<R> {
     type Item = usize;
 
-    #[inline]
+    #[inline(always)]
     fn next(&mut self) -> Option<usize> {
         if self.0 == 0 {
             return None;
         }
-        let i = self.0.trailing_zeros() as usize;
+        // the remainder changes nothing, and shows that a row of R has the place
+        let i = self.0.trailing_zeros() as usize % R;
         self.0 &= self.0 - 1;
         Some(i)
     }
+}
+
+/// So many ones, up to 64.
+fn first_bits(n: usize) -> u64 {
+    u64::MAX.checked_shr(64 - n as u32).unwrap_or(0)
+}
+
+/// The set of propositions in the first four bytes.
+#[inline]
+fn set_of(bytes: &[u8]) -> u32 {
+    u32::from_le_bytes(*bytes.first_chunk().unwrap())
 }
 
 /// A problem file that is in order: its counts, and the sets from offset 8 on.
@@ -67,32 +83,17 @@ impl<'a> Problem<'a> {
         }
         let problem = Problem { props, actions, states, sets };
         let outside = !problem.all_props();
-        let set = |bytes: &[u8]| u32::from_le_bytes(bytes.try_into().unwrap());
-        if sets.chunks_exact(4).fold(0, |any, bytes| any | set(bytes)) & outside != 0 {
-            let first = sets.chunks_exact(4).position(|bytes| set(bytes) & outside != 0).unwrap();
+        // with 32 propositions there is none outside
+        if outside != 0 && sets.chunks_exact(4).fold(0, |any, bytes| any | set_of(bytes)) & outside != 0 {
+            let first = sets.chunks_exact(4).position(|bytes| set_of(bytes) & outside != 0).unwrap();
             return Err(Refusal::PropSet(8 + 4 * first));
         }
         Ok(problem)
     }
 
-    fn set(&self, i: usize) -> u32 {
-        u32::from_le_bytes(self.sets[4 * i..][..4].try_into().unwrap())
-    }
-
-    fn pre(&self, action: usize) -> u32 {
-        self.set(3 * action)
-    }
-
-    fn add(&self, action: usize) -> u32 {
-        self.set(3 * action + 1)
-    }
-
-    fn del(&self, action: usize) -> u32 {
-        self.set(3 * action + 2)
-    }
-
-    fn start(&self, state: usize) -> u32 {
-        self.set(3 * self.actions + state)
+    /// The actions, 12 bytes each, and the start states, 4 bytes each.
+    fn parts(&self) -> (&'a [u8], &'a [u8]) {
+        self.sets.split_at(12 * self.actions)
     }
 
     fn vertices(&self) -> usize {
@@ -104,7 +105,7 @@ impl<'a> Problem<'a> {
     }
 
     fn all_states(&self) -> u64 {
-        u64::MAX >> (64 - self.states)
+        first_bits(self.states)
     }
 
     fn check_set(&self, set: u64) -> Result<(), Refusal> {
@@ -130,8 +131,15 @@ impl<'a> Problem<'a> {
         Ok(wanted)
     }
 
-    fn shape(&self) -> Shape {
-        Shape { props: self.props, layer: size(self.props), stride: size(self.props) + size(self.vertices()) }
+    /// The words from one layer of propositions to the next.
+    fn stride(&self) -> usize {
+        size(self.props) + size(self.vertices())
+    }
+
+    /// The layers of propositions in a graph's words, or cause 9.
+    fn layers<'b>(&self, depth: usize, words: &'b [u64]) -> Result<Layers<'b>, Refusal> {
+        let words = &words[..self.check_memory(depth, words.len())?];
+        Ok(Layers { words, props: self.props, depth, size: size(self.props), stride: self.stride() })
     }
 }
 
@@ -156,9 +164,10 @@ pub fn build(file: &[u8], depth: usize, words: &mut [u64]) -> Result<usize, Refu
     let wanted = problem.check_memory(depth, words.len())?;
     let words = &mut words[..wanted];
     match problem.props.max(problem.actions) {
-        0..=8 => Graph::<8>::new(&problem).build(words),
-        9..=16 => Graph::<16>::new(&problem).build(words),
-        _ => Graph::<32>::new(&problem).build(words),
+        0..=4 => build_graph::<4>(&problem, words),
+        5..=8 => build_graph::<8>(&problem, words),
+        9..=16 => build_graph::<16>(&problem, words),
+        _ => build_graph::<32>(&problem, words),
     }
     Ok(wanted)
 }
@@ -166,244 +175,411 @@ pub fn build(file: &[u8], depth: usize, words: &mut [u64]) -> Result<usize, Refu
 /// For each of up to R actions or propositions a row, with a word for each of up to R actions or propositions.
 type Rows<const R: usize> = [[u64; R]; R];
 
-/// A problem's sets, its present layer of propositions, and the layer of vertices over it. Rows by actions are kept
-/// apart from rows by propositions, which stand for the persistences too.
-struct Graph<const R: usize> {
+/// All layers, into just as many words as they take.
+fn build_graph<const R: usize>(problem: &Problem, words: &mut [u64]) {
+    let (layer, actions) = (size(problem.props), size(problem.vertices()));
+    let label: [u64; R] = start_labels(problem);
+    let (first, mut rest) = words.split_at_mut(layer);
+    first[..problem.props].copy_from_slice(&label[..problem.props]);
+    first[problem.props..].fill(0);
+    if rest.is_empty() {
+        return;
+    }
+    let sets = Sets::new(problem);
+    let mut now = Layer::new(problem, label);
+    let mut before = &*first;
+    while !rest.is_empty() {
+        let (over, next) = rest[..actions + layer].split_at_mut(actions);
+        now.admit(&sets);
+        if now.pairs_due(&sets) > FEW_PAIRS * sets.actions as u32 {
+            now.pair_by_rows(&sets);
+        } else {
+            now.pair_one_by_one(&sets);
+        }
+        now.write_actions(&sets, before, over);
+        let changed = now.grow(&sets);
+        now.write_props(&sets, next);
+        if !changed {
+            repeat(rest, actions + layer);
+            return;
+        }
+        let (step, left) = rest.split_at_mut(actions + layer);
+        before = &step[actions..];
+        rest = left;
+    }
+}
+
+/// The label of each proposition in layer 0.
+fn start_labels<const R: usize>(problem: &Problem) -> [u64; R] {
+    let mut label = [0; R];
+    for (i, starts) in problem.parts().1.chunks(4 * 32).enumerate() {
+        let states = turned(starts.chunks_exact(4).map(set_of));
+        label.iter_mut().zip(states).for_each(|(label, states)| *label |= (states as u64) << (32 * i));
+    }
+    label
+}
+
+/// Up to so many sets are turned member by member.
+const FEW_SETS: usize = 4;
+
+/// Up to 32 sets turned round: bit j of set i becomes bit i of set j.
+#[inline(always)]
+fn turned(sets: impl ExactSizeIterator<Item = u32>) -> [u32; 32] {
+    let mut rows = [0; 32];
+    if sets.len() <= FEW_SETS {
+        for (i, set) in sets.enumerate() {
+            for j in Members::<32>(set) {
+                rows[j] |= 1 << i;
+            }
+        }
+        return rows;
+    }
+    for (row, set) in rows.iter_mut().zip(sets) {
+        *row = set;
+    }
+    turn_bits(&mut rows);
+    rows
+}
+
+/// Bit j of row i becomes bit i of row j: ever smaller squares change places.
+fn turn_bits(rows: &mut [u32; 32]) {
+    swap_squares::<16>(rows);
+    swap_squares::<8>(rows);
+    swap_squares::<4>(rows);
+    swap_squares::<2>(rows);
+    swap_squares::<1>(rows);
+}
+
+/// In each square of 2W by 2W bits, the upper right quarter and the lower left one change places.
+#[inline(always)]
+fn swap_squares<const W: usize>(rows: &mut [u32; 32]) {
+    let low = u32::MAX / ((1 << W) + 1); // W ones, W zeros, W ones ..
+    for rows in rows.chunks_exact_mut(2 * W) {
+        let (upper, lower) = rows.split_at_mut(W);
+        for (upper, lower) in upper.iter_mut().zip(lower) {
+            let change = (*upper >> W ^ *lower) & low;
+            *upper ^= change << W;
+            *lower ^= change;
+        }
+    }
+}
+
+/// A problem's sets, and what follows from them for every layer.
+struct Sets<const R: usize> {
     props: usize,
     actions: usize,
     all: u64,
-    /// An action's needs; the actions that add a proposition, as bits.
     pre: [u32; R],
+    add: [u32; R],
+    del: [u32; R],
+    /// The actions that add a proposition.
     adders: [u32; R],
-    /// All ones where two actions interfere, and where an action and a persistence do.
-    hurt_action: Rows<R>,
-    hurt_prop: Rows<R>,
-
-    /// The present layer of propositions: labels, and mutex words both ways round.
-    label: [u64; R],
-    mutex: Rows<R>,
-
-    /// The actions' labels; the actions that some state has, as bits.
-    action: [u64; R],
-    live: u32,
-    /// Of an action and a proposition: the states in which the latter is mutex with a need of the former; and turned
-    /// round.
-    against: Rows<R>,
-    across: Rows<R>,
-    /// Of an action and a vertex: the states in which both are there and not mutex. An action is together with itself.
-    with_action: Rows<R>,
-    with_prop: Rows<R>,
+    /// The other actions with which an action does not interfere.
+    friends: [u32; R],
 }
 
-impl<const R: usize> Graph<R> {
+impl<const R: usize> Sets<R> {
     fn new(problem: &Problem) -> Self {
-        let (props, actions) = (problem.props, problem.actions);
-        let mut graph = Graph {
-            props,
-            actions,
-            all: problem.all_states(),
-            pre: [0; R],
-            adders: [0; R],
-            hurt_action: [[0; R]; R],
-            hurt_prop: [[0; R]; R],
-            label: [0; R],
-            mutex: [[0; R]; R],
-            action: [0; R],
-            live: 0,
-            against: [[0; R]; R],
-            across: [[0; R]; R],
-            with_action: [[0; R]; R],
-            with_prop: [[0; R]; R],
-        };
-        // what an action needs or adds, and what it deletes
-        let mut touched = [0; R];
-        let mut deleted = [0; R];
-        for a in 0..actions {
-            let (pre, add) = (problem.pre(a), problem.add(a));
-            graph.pre[a] = pre;
-            touched[a] = pre | add;
-            deleted[a] = problem.del(a);
-            for p in Bits(add as u64) {
-                graph.adders[p] |= 1 << a;
-            }
+        let (mut pre, mut add, mut del, mut touched) = ([0; R], [0; R], [0; R], [0; R]);
+        for (a, bytes) in problem.parts().0.chunks_exact(12).enumerate() {
+            let a = a % R;
+            (pre[a], add[a], del[a]) = (set_of(bytes), set_of(&bytes[4..]), set_of(&bytes[8..]));
+            touched[a] = pre[a] | add[a];
         }
-        for a in 0..actions {
+        let mut adders = [0; R];
+        adders.copy_from_slice(&turned(add[..problem.actions].iter().copied())[..R]);
+
+        let every = first_bits(problem.actions) as u32;
+        let mut friends = [0; R];
+        for a in 0..problem.actions {
+            let a = a % R;
+            let mut hurt = 0;
             for b in 0..R {
-                graph.hurt_action[a][b] = ones(deleted[a] & touched[b] | deleted[b] & touched[a] != 0);
-                graph.hurt_prop[a][b] = ones(deleted[a] >> b & 1 != 0);
+                hurt |= ((del[a] & touched[b] | del[b] & touched[a] != 0) as u32) << b;
             }
+            friends[a] = every & !hurt & !(1 << a);
         }
-        for s in 0..problem.states {
-            for p in Bits(problem.start(s) as u64) {
-                graph.label[p] |= 1 << s;
-            }
-        }
-        graph
-    }
-
-    fn build(&mut self, words: &mut [u64]) {
-        let (layer, actions) = (size(self.props), size(self.actions + self.props));
-        let (first, mut rest) = words.split_at_mut(layer);
-        first[..self.props].copy_from_slice(&self.label[..self.props]);
-        first[self.props..].fill(0);
-        let mut before = &*first;
-        while !rest.is_empty() {
-            let (over, next) = rest[..actions + layer].split_at_mut(actions);
-            self.write_actions(before, over);
-            if !self.write_props(next) {
-                repeat(rest, actions + layer);
-                return;
-            }
-            let (step, left) = rest.split_at_mut(actions + layer);
-            before = &step[actions..];
-            rest = left;
+        Sets {
+            props: problem.props,
+            actions: problem.actions,
+            all: problem.all_states(),
+            pre,
+            add,
+            del,
+            adders,
+            friends,
         }
     }
 
-    /// The action layer over the present propositions, whose layer's words are `before`.
-    fn write_actions(&mut self, before: &[u64], words: &mut [u64]) {
-        let (props, actions) = (self.props, self.actions);
-        self.live = 0;
-        for a in 0..actions {
-            let needs = self.pre[a] as u64;
-            let mut label = Bits(needs).fold(self.all, |label, p| label & self.label[p]);
-            if label != 0 {
-                let row = &mut self.against[a];
-                *row = [0; R];
-                for p in Bits(needs) {
-                    union(row, &self.mutex[p]);
-                }
-                label &= !Bits(needs).fold(0, |apart, q| apart | row[q]);
-                for q in 0..props {
-                    self.across[q][a] = row[q];
-                }
+    /// The actions that go by one of these propositions. One that needs nothing goes by all.
+    fn going_by(&self, props: u32) -> u32 {
+        (0..R).fold(0, |going, a| going | ((self.pre[a] & props != 0 || self.pre[a] == 0) as u32) << a)
+            & first_bits(self.actions) as u32
+    }
+}
+
+/// The present layer of propositions and the vertices over it. Two elements are together in a state if both are there
+/// and not mutex; an element is together with itself where it is there. All of it only grows from layer to layer, so
+/// what did not change below need not be made again.
+#[repr(align(64))]
+struct Layer<const R: usize> {
+    /// Of two propositions: the states in which they are together.
+    props: Rows<R>,
+    /// Of an action and a proposition: the states in which the action and the persistence are together.
+    kept: Rows<R>,
+    /// Of two actions: the states in which they are together.
+    actions: Rows<R>,
+    /// Of an action and a proposition: the states in which the action is together with a vertex that adds the
+    /// proposition.
+    reached: Rows<R>,
+    /// A table turned round, or what is to be joined.
+    spare: Rows<R>,
+    /// The labels of propositions and of actions.
+    prop: [u64; R],
+    action: [u64; R],
+    /// The actions that some state has, and of them those to be made again.
+    live: u32,
+    stale: u32,
+}
+
+/// With up to so many pairs for each action it is quicker to make them one by one.
+const FEW_PAIRS: u32 = 8;
+
+/// If one in so many propositions may have something new, all rows are joined at once.
+const MANY_ROWS: u32 = 3;
+
+impl<const R: usize> Layer<R> {
+    fn new(problem: &Problem, prop: [u64; R]) -> Self {
+        let none = [[0; R]; R];
+        let mut props = none;
+        for (row, label) in props.iter_mut().zip(&prop) {
+            row.iter_mut().zip(&prop).for_each(|(word, other)| *word = label & other);
+        }
+        let stale = first_bits(problem.actions) as u32;
+        Layer { props, kept: none, actions: none, reached: none, spare: none, prop, action: [0; R], live: 0, stale }
+    }
+
+    /// The stale actions' labels, and their rows with the persistences.
+    fn admit(&mut self, sets: &Sets<R>) {
+        for a in Members::<R>(self.stale) {
+            let needs = sets.pre[a];
+            let some = Members::<R>(needs).fold(sets.all, |label, p| label & self.prop[p]);
+            if some == 0 {
+                continue; // as it was
+            }
+            let row = &mut self.kept[a];
+            fold_rows(row, &self.prop, &self.props, needs, |x, y| x & y);
+            let label = Members::<R>(needs).fold(some, |label, p| label & row[p]);
+            row.iter_mut().for_each(|word| *word &= label);
+            for p in Members::<R>(sets.del[a]) {
+                row[p] = 0;
             }
             self.action[a] = label;
+            self.actions[a][a] = label;
             self.live |= ((label != 0) as u32) << a;
         }
+        self.stale &= self.live;
+    }
 
+    /// How many pairs of actions have one that is stale.
+    fn pairs_due(&self, sets: &Sets<R>) -> u32 {
+        Members::<R>(self.stale).map(|a| (sets.friends[a] & self.live).count_ones()).sum()
+    }
+
+    /// All pairs of actions, and all that they reach, by whole rows.
+    fn pair_by_rows(&mut self, sets: &Sets<R>) {
+        turn(&mut self.spare, &self.kept);
+        for a in Members::<R>(self.live) {
+            let label = self.action[a];
+            let own = self.action.map(|other| other & label);
+            let row = &mut self.actions[a];
+            fold_rows(row, &own, &self.spare, sets.pre[a], |x, y| x & y);
+            for b in Members::<R>(self.live & !sets.friends[a]) {
+                row[b] = 0;
+            }
+            row[a] = label;
+        }
+        for (p, row) in self.spare.iter_mut().enumerate() {
+            let own = *row;
+            fold_rows(row, &own, &self.actions, sets.adders[p] & self.live, |x, y| x | y);
+        }
+        turn(&mut self.reached, &self.spare);
+    }
+
+    /// The pairs with a stale action, and what the stale ones reach, one by one.
+    fn pair_one_by_one(&mut self, sets: &Sets<R>) {
+        let mut open = self.live;
+        for a in Members::<R>(self.stale) {
+            open &= !(self.stale & 1 << a);
+            let (label, row) = (self.action[a], &self.kept[a]);
+            // a pair of two stale actions once
+            for b in Members::<R>(sets.friends[a] & open) {
+                let with = Members::<R>(sets.pre[b]).fold(label & self.action[b], |with, p| with & row[p]);
+                self.actions[a][b] = with;
+                self.actions[b][a] = with;
+            }
+        }
+        for a in Members::<R>(self.stale) {
+            let row = &mut self.reached[a];
+            *row = self.kept[a];
+            for b in Members::<R>(sets.friends[a] & self.live | 1 << a) {
+                let with = self.actions[a][b];
+                for p in Members::<R>(sets.add[b]) {
+                    row[p] |= with;
+                }
+            }
+        }
+    }
+
+    /// Goes on to the next layer of propositions. Whether anything changed.
+    fn grow(&mut self, sets: &Sets<R>) -> bool {
+        let touched = Members::<R>(self.stale).fold(0, |touched, a| touched | sets.add[a]);
+        let changed = if MANY_ROWS * touched.count_ones() > sets.props as u32 {
+            for (p, row) in self.spare.iter_mut().enumerate() {
+                fold_rows(row, &[0; R], &self.reached, sets.adders[p] & self.stale, |x, y| x | y);
+            }
+            join_both_ways(&mut self.props, &self.spare)
+        } else {
+            self.join_rows(sets, touched)
+        };
+        for p in 0..R {
+            self.prop[p] = self.props[p][p];
+        }
+        self.stale = sets.going_by(changed);
+        changed != 0
+    }
+
+    /// Joins what the stale actions reach into these propositions' rows, and into the same columns. The propositions
+    /// with something new.
+    fn join_rows(&mut self, sets: &Sets<R>, touched: u32) -> u32 {
+        let mut changed = 0;
+        for p in Members::<R>(touched) {
+            let mut row = [0; R];
+            fold_rows(&mut row, &self.props[p], &self.reached, sets.adders[p] & self.stale, |x, y| x | y);
+            let mut new = 0;
+            for q in 0..R {
+                new |= ((row[q] != self.props[p][q]) as u32) << q;
+            }
+            self.props[p] = row;
+            for q in Members::<R>(new) {
+                self.props[q][p] = row[q];
+            }
+            changed |= new | ((new != 0) as u32) << p;
+        }
+        changed
+    }
+
+    /// The action layer, over the layer of propositions whose words are `before`.
+    fn write_actions(&self, sets: &Sets<R>, before: &[u64], words: &mut [u64]) {
+        let (props, actions) = (sets.props, sets.actions);
         let (labels, mut pairs) = words.split_at_mut(actions + props);
         labels[..actions].copy_from_slice(&self.action[..actions]);
-        labels[actions..].copy_from_slice(&before[..props]);
-        for v in 0..actions {
-            let (row, after) = pairs.split_at_mut(actions + props - v - 1);
+        labels[actions..].copy_from_slice(&self.prop[..props]);
+        for a in 0..actions {
+            let a = a % R;
+            let (by_action, after) = pairs.split_at_mut(actions - a - 1);
+            let (by_prop, after) = after.split_at_mut(props);
             pairs = after;
-            let label = self.action[v];
+            let label = self.action[a];
             if label == 0 {
-                row.fill(0);
+                by_action.fill(0);
+                by_prop.fill(0);
                 continue;
             }
-            // the states in which a need of one action is mutex with a need of the other
-            let mut apart = [0; R];
-            for q in Bits(self.pre[v] as u64) {
-                union(&mut apart, &self.across[q]);
+            write_apart(by_action, label, &self.action[a + 1..], &self.actions[a][a + 1..]);
+            // a full row has a length that the compiler knows
+            match <&mut [u64; R]>::try_from(&mut *by_prop) {
+                Ok(full) => write_apart(full, label, &self.prop, &self.kept[a]),
+                Err(_) => write_apart(by_prop, label, &self.prop, &self.kept[a]),
             }
-            let with_action = &mut self.with_action[v];
-            *with_action = together(label, &self.action, &apart, &self.hurt_action[v]);
-            with_action[v] = label;
-            let with_prop = &mut self.with_prop[v];
-            *with_prop = together(label, &self.label, &self.against[v], &self.hurt_prop[v]);
-
-            let (by_action, by_prop) = row.split_at_mut(actions - v - 1);
-            apart_from(label, &self.action[v + 1..actions], &with_action[v + 1..actions], by_action);
-            apart_from(label, &self.label[..props], &with_prop[..props], by_prop);
         }
         // two persistences are mutex as their propositions are
         pairs.copy_from_slice(&before[props..]);
     }
 
-    /// The next propositions over the present vertices. Whether anything changed.
-    fn write_props(&mut self, words: &mut [u64]) -> bool {
-        let props = self.props;
-        let (labels, mut pairs) = words.split_at_mut(props);
-        let mut changed = 0;
-        for p in 0..props {
-            labels[p] =
-                Bits((self.adders[p] & self.live) as u64).fold(self.label[p], |label, a| label | self.action[a]);
-            changed |= labels[p] ^ self.label[p];
-        }
-
-        // what the persistences leave open of each pair; the propositions of which a pair is left open, as bits
-        let mut busy = 0u32;
-        for p in 0..props {
-            let (row, after) = pairs.split_at_mut(props - p - 1);
+    fn write_props(&self, sets: &Sets<R>, words: &mut [u64]) {
+        let (labels, mut pairs) = words.split_at_mut(sets.props);
+        labels.copy_from_slice(&self.prop[..sets.props]);
+        for p in 0..sets.props {
+            let p = p % R;
+            let (row, after) = pairs.split_at_mut(sets.props - p - 1);
             pairs = after;
-            let (label, next) = (self.label[p], labels[p]);
-            let others = p + 1..props;
-            let mutexes = &self.mutex[p][others.clone()];
-            for (((word, mutex), other), other_next) in
-                row.iter_mut().zip(mutexes).zip(&self.label[others.clone()]).zip(&labels[others])
-            {
-                *word = next & other_next & !(label & other & !mutex);
-            }
-            for (i, word) in row.iter().enumerate() {
-                let open = (*word != 0) as u32;
-                busy |= open << p | open << (p + 1 + i);
-            }
+            write_apart(row, self.prop[p], &self.prop[p + 1..], &self.props[p][p + 1..]);
         }
-        self.label[..props].copy_from_slice(labels);
-
-        // the states in which an action is together with a vertex that adds the proposition
-        let mut with_adder = [[0; R]; R];
-        for q in Bits(busy as u64) {
-            let mut row = [0; R];
-            for a in Bits((self.adders[q] & self.live) as u64) {
-                union(&mut row, &self.with_action[a]);
-            }
-            for a in 0..self.actions {
-                with_adder[a][q] = row[a] | self.with_prop[a][q];
-            }
-        }
-        // the states in which an action that adds the one is together with a vertex that adds the other
-        let mut reached = [[0; R]; R];
-        for p in Bits(busy as u64) {
-            for a in Bits((self.adders[p] & self.live) as u64) {
-                union(&mut reached[p], &with_adder[a]);
-            }
-        }
-        let mut pairs = &mut words[props..];
-        for p in 0..props {
-            let (row, after) = pairs.split_at_mut(props - p - 1);
-            pairs = after;
-            for (i, word) in row.iter_mut().enumerate() {
-                let q = p + 1 + i;
-                *word &= !(reached[p][q] | reached[q][p]);
-                changed |= *word ^ self.mutex[p][q];
-                self.mutex[p][q] = *word;
-                self.mutex[q][p] = *word;
-            }
-        }
-        changed != 0
     }
 }
 
-fn ones(test: bool) -> u64 {
-    (test as u64).wrapping_neg()
-}
-
-/// The states in which a vertex of this label is together with each of the others.
-#[inline]
-fn together<const R: usize>(label: u64, others: &[u64; R], apart: &[u64; R], hurt: &[u64; R]) -> [u64; R] {
-    let mut with = [0; R];
-    for i in 0..R {
-        with[i] = label & others[i] & !(apart[i] | hurt[i]);
-    }
-    with
-}
-
-/// The mutex words of a vertex of this label with others, from the states in which it is together with them.
-#[inline]
-fn apart_from(label: u64, others: &[u64], with: &[u64], words: &mut [u64]) {
+/// The mutex words of an element of this label with others, from the states in which it is together with them.
+#[inline(always)]
+fn write_apart(words: &mut [u64], label: u64, others: &[u64], with: &[u64]) {
     for ((word, other), with) in words.iter_mut().zip(others).zip(with) {
-        *word = label & other ^ with;
+        *word = label & other & !with;
     }
 }
 
-#[inline]
-fn union<const R: usize>(into: &mut [u64; R], from: &[u64; R]) {
-    for (x, y) in into.iter_mut().zip(from) {
-        *x |= y;
+/// So many words of a row stay in registers.
+const PART: usize = 16;
+
+/// A row from its first words and the named rows, part by part.
+#[inline(always)]
+fn fold_rows<const R: usize>(
+    to: &mut [u64; R],
+    first: &[u64; R],
+    rows: &Rows<R>,
+    named: u32,
+    join: impl Fn(u64, u64) -> u64,
+) {
+    let width = PART.min(R);
+    for at in (0..R).step_by(width) {
+        let mut part = [0; PART];
+        part[..width].copy_from_slice(&first[at..at + width]);
+        for i in Members::<R>(named) {
+            let row = &rows[i][at..at + width];
+            for k in 0..width {
+                part[k] = join(part[k], row[k]);
+            }
+        }
+        to[at..at + width].copy_from_slice(&part[..width]);
     }
+}
+
+/// Word `[j][i]` of the one is word `[i][j]` of the other.
+#[inline(always)]
+fn turn<const R: usize>(to: &mut Rows<R>, from: &Rows<R>) {
+    for j in 0..R {
+        for i in 0..R {
+            to[j][i] = from[i][j];
+        }
+    }
+}
+
+/// The square of two rows and two columns that begins at `[p][q]`.
+#[inline(always)]
+fn square<const R: usize>(rows: &Rows<R>, p: usize, q: usize) -> [u64; 4] {
+    [rows[p][q], rows[p][q + 1], rows[p + 1][q], rows[p + 1][q + 1]]
+}
+
+/// Joins a table, as it is and turned round, into one that is the same turned round. The rows with something new.
+#[inline(always)]
+fn join_both_ways<const R: usize>(to: &mut Rows<R>, from: &Rows<R>) -> u32 {
+    let mut new = [0; R];
+    for p in (0..R).step_by(2) {
+        for q in (p..R).step_by(2) {
+            let (old, here) = (square(to, p, q), square(from, p, q));
+            let [a, c, b, d] = square(from, q, p);
+            let there = [a, b, c, d];
+            let all: [u64; 4] = std::array::from_fn(|i| old[i] | here[i] | there[i]);
+            let more: [u64; 4] = std::array::from_fn(|i| old[i] ^ all[i]);
+            new[p] |= more[0] | more[1];
+            new[p + 1] |= more[2] | more[3];
+            new[q] |= more[0] | more[2];
+            new[q + 1] |= more[1] | more[3];
+            let [a, b, c, d] = all;
+            (to[p][q], to[p][q + 1], to[p + 1][q], to[p + 1][q + 1]) = (a, b, c, d);
+            (to[q][p], to[q][p + 1], to[q + 1][p], to[q + 1][p + 1]) = (a, c, b, d);
+        }
+    }
+    (0..R).fold(0, |rows, p| rows | ((new[p] != 0) as u32) << p)
 }
 
 /// Repeats the first `n` words to the end: first in ever longer runs, then from one run that stays near at hand.
@@ -423,38 +599,74 @@ fn repeat(words: &mut [u64], n: usize) {
 
 // ---- level and rest
 
-/// Where the layers of propositions lie in a graph's words.
-struct Shape {
+/// The layers of propositions in a graph's words.
+struct Layers<'a> {
+    words: &'a [u64],
     props: usize,
-    layer: usize,
+    depth: usize,
+    /// The words of a layer, and those from its start to the next one's.
+    size: usize,
     stride: usize,
 }
 
-impl Shape {
-    /// The layers of propositions, in order.
-    fn layers<'a>(&self, words: &'a [u64]) -> impl Iterator<Item = &'a [u64]> {
-        let layer = self.layer;
-        words.chunks(self.stride).map(move |words| &words[..layer])
+/// What stands in a goal's way: a word of a layer, and what it would have to have in common with the set of states.
+struct Obstacle {
+    at: usize,
+    wanted: u64,
+}
+
+impl<'a> Layers<'a> {
+    fn layer(&self, t: usize) -> &'a [u64] {
+        &self.words[t * self.stride..][..self.size]
     }
 
-    /// Whether the layer's goal labels contain the set and none of their mutex words meets it.
-    fn meets(&self, layer: &[u64], set: u64, goal: u32) -> bool {
-        let goals = goal as u64;
-        Bits(goals).all(|p| set & !layer[p] == 0)
-            && Bits(goals).all(|p| {
-                // word (p, q) stands at row + q
-                let row = self.props + p * (2 * self.props - p - 1) / 2 - p - 1;
-                let above = goals & (!1 << p);
-                Bits(above).all(|q| set & layer[row + q] == 0)
-            })
+    /// The first label of a goal that does not contain the set, or else the first mutex word of two goals that meets it.
+    fn obstacle(&self, layer: &[u64], set: u64, goal: u32) -> Option<Obstacle> {
+        if let Some(at) = Members::<32>(goal).find(|&p| set & !layer[p] != 0) {
+            return Some(Obstacle { at, wanted: set });
+        }
+        let mut goals = Members::<32>(goal);
+        while let Some(p) = goals.next() {
+            // word (p, q) stands at row + q
+            let row = self.props + p * (2 * self.props - p - 1) / 2 - p - 1;
+            if let Some(q) = Members::<32>(goals.0).find(|&q| set & layer[row + q] != 0) {
+                return Some(Obstacle { at: row + q, wanted: 0 });
+            }
+        }
+        None
     }
 
-    fn first_met(&self, set: u64, goal: u32, words: &[u64]) -> Option<usize> {
-        self.layers(words).position(|layer| self.meets(layer, set, goal))
+    /// The first layer that meets the goal. What was in the way is looked at first: mostly it still is.
+    fn first_met(&self, set: u64, goal: u32) -> Option<usize> {
+        if goal == 0 {
+            return Some(0);
+        }
+        let mut last = Obstacle { at: goal.trailing_zeros() as usize, wanted: set };
+        let mut first = 0;
+        // the compiler makes a slower loop of 0..=depth
+        for t in 0..self.depth + 1 {
+            if self.words[first + last.at] & set == last.wanted {
+                match self.obstacle(self.layer(t), set, goal) {
+                    Some(obstacle) => last = obstacle,
+                    None => return Some(t),
+                }
+            }
+            first += self.stride;
+        }
+        None
     }
 
-    fn first_rest(&self, words: &[u64]) -> Option<usize> {
-        self.layers(words).zip(self.layers(words).skip(1)).position(|(layer, next)| layer == next)
+    fn rests_at(&self, t: usize) -> bool {
+        self.layer(t) == self.layer(t + 1)
+    }
+
+    fn first_rest(&self) -> Option<usize> {
+        (0..self.depth).find(|&t| self.rests_at(t))
+    }
+
+    /// Whether the graph rests. A built one that does shows it at its top.
+    fn rests(&self) -> bool {
+        (0..self.depth).rev().any(|t| self.rests_at(t))
     }
 }
 
@@ -462,8 +674,8 @@ impl Shape {
 pub fn rest(file: &[u8], depth: usize, words: &[u64]) -> Result<Rest, Refusal> {
     let problem = Problem::open(file)?;
     check_depth(depth)?;
-    let words = &words[..problem.check_memory(depth, words.len())?];
-    Ok(problem.shape().first_rest(words).map_or(Rest::None, Rest::At))
+    let layers = problem.layers(depth, words)?;
+    Ok(layers.first_rest().map_or(Rest::None, Rest::At))
 }
 
 /// The level of a goal for a set of states.
@@ -472,11 +684,10 @@ pub fn level(file: &[u8], depth: usize, set: u64, goal: u32, words: &[u64]) -> R
     check_depth(depth)?;
     problem.check_set(set)?;
     problem.check_goal(goal)?;
-    let words = &words[..problem.check_memory(depth, words.len())?];
-    let shape = problem.shape();
-    Ok(match shape.first_met(set, goal, words) {
+    let layers = problem.layers(depth, words)?;
+    Ok(match layers.first_met(set, goal) {
         Some(t) => Level::At(t),
-        None if shape.first_rest(words).is_some() => Level::Never,
+        None if layers.rests() => Level::Never,
         None => Level::NotByDepth,
     })
 }
@@ -493,48 +704,104 @@ pub fn extract(file: &[u8], depth: usize, set: u64, words: &[u64], out: &mut [u6
         return Err(Refusal::Output(wanted));
     }
     let (from, to) = (&words[..wanted], &mut out[..wanted]);
-    let moves = moves(set);
-    match moves.iter().rposition(|&going| going != 0) {
-        None => close_up::<0>(set, &moves, from, to),
-        Some(0) => close_up::<1>(set, &moves, from, to),
-        Some(1) => close_up::<2>(set, &moves, from, to),
-        Some(2) => close_up::<3>(set, &moves, from, to),
-        Some(3) => close_up::<4>(set, &moves, from, to),
-        Some(4) => close_up::<5>(set, &moves, from, to),
-        Some(_) => close_up::<6>(set, &moves, from, to),
+    let stride = problem.stride();
+    match runs(set) {
+        // such a cut is no dearer than a comparison, least of all where nothing goes down
+        1 if set & 1 == 1 => cut_all(from, to, |word| word & set),
+        1 => cut_all(from, to, by_runs::<1>(set)),
+        2 => cut_new(stride, from, to, by_runs::<2>(set)),
+        3 => cut_new(stride, from, to, by_runs::<3>(set)),
+        4 => cut_new(stride, from, to, by_runs::<4>(set)),
+        _ => close_up(stride, from, to, &moves(set)),
     }
     Ok(wanted)
 }
 
-/// Cuts each word to the set, and closes it up by the first M moves.
-fn close_up<const M: usize>(set: u64, moves: &[u64; 6], from: &[u64], to: &mut [u64]) {
-    for (to, from) in to.iter_mut().zip(from) {
-        let mut word = from & set;
-        for i in 0..M {
-            let far = word & moves[i];
-            word = (word ^ far) | far >> (1 << i);
-        }
-        *to = word;
+/// The cut by moves, up to the last that moves anything.
+fn close_up(stride: usize, from: &[u64], to: &mut [u64], moves: &[Move; 6]) {
+    match moves.iter().rposition(|bits| bits.going != 0) {
+        Some(5) => cut_new(stride, from, to, by_moves::<6>(moves)),
+        Some(4) => cut_new(stride, from, to, by_moves::<5>(moves)),
+        _ => cut_new(stride, from, to, by_moves::<4>(moves)),
     }
 }
 
-/// Which bits go down by 1, by 2, .. by 32 places, move by move, so that those of the set end up side by side (Warren's
-/// compress).
-fn moves(set: u64) -> [u64; 6] {
-    let mut moves = [0; 6];
+/// So many words are compared, and then copied or cut, at a time.
+const PIECE: usize = 192;
+
+#[inline(always)]
+fn cut_all(from: &[u64], to: &mut [u64], cut: impl Fn(u64) -> u64) {
+    for (to, from) in to.iter_mut().zip(from) {
+        *to = cut(*from);
+    }
+}
+
+/// Cuts piece by piece. One that is the same as some strides before was cut there: from the rest on, all are.
+#[inline(always)]
+fn cut_new(stride: usize, from: &[u64], to: &mut [u64], cut: impl Fn(u64) -> u64) {
+    // as many strides as hold a piece
+    let back = PIECE.div_ceil(stride) * stride;
+    let first = back.min(from.len());
+    cut_all(&from[..first], &mut to[..first], &cut);
+    for at in (first..from.len()).step_by(PIECE) {
+        let len = PIECE.min(from.len() - at);
+        let (piece, earlier) = (&from[at..at + len], at - back..at - back + len);
+        let (done, todo) = to.split_at_mut(at);
+        if piece == &from[earlier.clone()] {
+            todo[..len].copy_from_slice(&done[earlier]);
+        } else {
+            cut_all(piece, &mut todo[..len], &cut);
+        }
+    }
+}
+
+/// How many runs of neighbours a set has.
+fn runs(set: u64) -> u32 {
+    (set & !(set << 1)).count_ones()
+}
+
+/// The cut to a set of N runs, each of which goes down by a shift of its own.
+fn by_runs<const N: usize>(set: u64) -> impl Fn(u64) -> u64 {
+    let (mut left, mut below) = (set, 0);
+    let runs: [(u32, u64); N] = std::array::from_fn(|_| {
+        let from = left.trailing_zeros();
+        let len = (left >> from).trailing_ones();
+        let ones = first_bits(len as usize);
+        let run = (from - below, ones << below);
+        left &= !(ones << from);
+        below += len;
+        run
+    });
+    move |word| runs.iter().fold(0, |cut, (shift, mask)| cut | word >> shift & mask)
+}
+
+/// The cut to a set that is closed up by its first M moves.
+fn by_moves<const M: usize>(moves: &[Move; 6]) -> impl Fn(u64) -> u64 {
+    let moves: [Move; M] = std::array::from_fn(|i| moves[i]);
+    move |word| {
+        moves.iter().enumerate().fold(word, |word, (i, bits)| word & bits.staying | (word & bits.going) >> (1 << i))
+    }
+}
+
+/// Which bits stay, and which go down. All others are gone.
+#[derive(Clone, Copy)]
+struct Move {
+    staying: u64,
+    going: u64,
+}
+
+/// The moves by 1, by 2, .. by 32 places behind which the bits of the set are side by side (Warren's compress).
+fn moves(set: u64) -> [Move; 6] {
     let mut at = set;
     let mut gaps = !set << 1;
-    for (i, going) in moves.iter_mut().enumerate() {
+    std::array::from_fn(|i| {
         // bit b: whether an odd number of gaps lies below b
-        let mut odd = gaps;
-        for shift in [1, 2, 4, 8, 16, 32] {
-            odd ^= odd << shift;
-        }
-        *going = odd & at;
-        at = (at ^ *going) | *going >> (1 << i);
+        let odd = [1, 2, 4, 8, 16, 32].iter().fold(gaps, |odd, shift| odd ^ odd << shift);
         gaps &= !odd;
-    }
-    moves
+        let (staying, going) = (at & !odd, at & odd);
+        at = staying | going >> (1 << i);
+        Move { staying, going }
+    })
 }
 
 // ---- run
@@ -553,29 +820,83 @@ pub fn run(file: &[u8], set: u64, list: &[u8], out: &mut [u32]) -> Result<usize,
         return Err(Refusal::Sequence(65535));
     }
     let known = |a: u8| (a as usize) < problem.actions;
-    if !list.iter().fold(true, |all, &a| all & known(a)) {
+    if !list.is_empty() && !known(list.iter().fold(0, |most, &a| most.max(a))) {
         return Err(Refusal::Sequence(list.iter().position(|&a| !known(a)).unwrap()));
     }
-    let mut steps = [(0, 0, 0); 32];
-    for (a, step) in steps[..problem.actions].iter_mut().enumerate() {
-        *step = (problem.pre(a), problem.add(a), problem.del(a));
+    let (actions, starts) = problem.parts();
+    // of each state: all ones if it is of the set
+    let mut within = [0; 64];
+    let mut sure = u32::MAX;
+    for ((s, within), start) in within.iter_mut().enumerate().zip(starts.chunks_exact(4)) {
+        *within = ((set >> s & 1) as u32).wrapping_neg();
+        sure &= set_of(start) | !*within;
     }
-    let mut sure = Bits(set).fold(u32::MAX, |sure, s| sure & problem.start(s));
-    let (mut kept, mut added) = (u32::MAX, 0);
-    for (i, &a) in list.iter().enumerate() {
-        let (pre, add, del) = steps[a as usize & 31];
-        if pre & !sure != 0 {
-            return Err(Refusal::Precondition(i));
-        }
-        sure = (sure | add) & !del;
-        kept &= !del;
-        added = (added | add) & !del;
-    }
-    for (s, end) in out[..problem.states].iter_mut().enumerate() {
-        let start = problem.start(s);
-        *end = if set >> s & 1 == 1 { start & kept | added } else { start };
+    let (kept, added) = follow(actions, sure, list)?;
+    for ((end, start), within) in out.iter_mut().zip(starts.chunks_exact(4)).zip(&within) {
+        let start = set_of(start);
+        *end = (start & kept | added) & within | start & !within;
     }
     Ok(problem.states)
+}
+
+/// What a step keeps, adds for good, and does not ask for. A set stands in both halves of a word, so that two sets take
+/// a step at once.
+#[derive(Clone, Copy, Default)]
+#[repr(align(32))]
+struct Step {
+    kept: u64,
+    added: u64,
+    unasked: u32,
+}
+
+impl Step {
+    fn of(bytes: &[u8]) -> Step {
+        let (pre, add, del) = (set_of(bytes), set_of(&bytes[4..]), set_of(&bytes[8..]));
+        let twice = |set: u32| set as u64 | (set as u64) << 32;
+        Step { kept: twice(!del), added: twice(add & !del), unasked: !pre }
+    }
+}
+
+/// After so many steps it is asked whether all preconditions held.
+const BLOCK: usize = 64;
+
+/// Follows a list of actions, given as bytes, from what all states have: what the list keeps of a set, and what it adds.
+fn follow(actions: &[u8], sure: u32, list: &[u8]) -> Result<(u32, u32), Refusal> {
+    if list.is_empty() {
+        return Ok((u32::MAX, 0)); // and there is no table to make
+    }
+    let mut steps = [Step::default(); 32];
+    for (step, bytes) in steps.iter_mut().zip(actions.chunks_exact(12)) {
+        *step = Step::of(bytes);
+    }
+    // below what all states have, above what becomes of the empty set
+    let mut both = sure as u64;
+    let mut kept = u32::MAX;
+    for (i, block) in list.chunks(BLOCK).enumerate() {
+        let before = both;
+        let mut held = u32::MAX;
+        for &a in block {
+            let step = &steps[a as usize % 32];
+            held &= both as u32 | step.unasked;
+            both = both & step.kept | step.added;
+            kept &= step.kept as u32;
+        }
+        if held != u32::MAX {
+            return Err(Refusal::Precondition(BLOCK * i + first_unmet(&steps, before, block)));
+        }
+    }
+    Ok((kept, (both >> 32) as u32))
+}
+
+/// The first step of a block that asks for something which the states do not all have by then.
+fn first_unmet(steps: &[Step; 32], mut sure: u64, block: &[u8]) -> usize {
+    let unmet = |&a: &u8| {
+        let step = &steps[a as usize % 32];
+        let had = sure as u32;
+        sure = sure & step.kept | step.added;
+        had | step.unasked != u32::MAX
+    };
+    block.iter().position(unmet).unwrap()
 }
 
 // ---- plan
@@ -586,54 +907,61 @@ pub fn plan(file: &[u8], depth: usize, set: u64, goal: u32, words: &[u64], out: 
     check_depth(depth)?;
     problem.check_set(set)?;
     problem.check_goal(goal)?;
-    let words = &words[..problem.check_memory(depth, words.len())?];
+    let layers = problem.layers(depth, words)?;
     if out.len() < depth {
         return Err(Refusal::Output(depth));
     }
-    let shape = problem.shape();
-    let level = shape.first_met(set, goal, words).ok_or(Refusal::NoLevel(depth))?;
+    let level = layers.first_met(set, goal).ok_or(Refusal::NoLevel(depth))?;
 
-    let mut pre = [0u32; 32];
-    let mut adders = [0u32; 32];
-    for a in 0..problem.actions {
-        pre[a] = problem.pre(a);
-        for p in Bits(problem.add(a) as u64) {
-            adders[p] |= 1 << a;
-        }
+    let actions = problem.parts().0.chunks_exact(12);
+    let mut pre = [0; 32];
+    for (pre, bytes) in pre.iter_mut().zip(actions.clone()) {
+        *pre = set_of(bytes);
     }
-    let mut wanted = [0u64; 32];
-    for p in Bits(goal as u64) {
+    let adders = turned(actions.map(|bytes| set_of(&bytes[4..])));
+
+    // the propositions that are needed, and the states that each is needed for, here and a layer below
+    let mut needed = goal;
+    let (mut wanted, mut below) = (&mut [0; 32], &mut [0; 32]);
+    for p in Members::<32>(goal) {
         wanted[p] = set;
     }
     let mut marked = [0u32; 255];
+    let mut count = 0;
     for t in (1..=level).rev() {
-        let labels = &words[(t - 1) * shape.stride + shape.layer..][..problem.vertices()];
+        let labels = &words[(t - 1) * layers.stride + layers.size..][..problem.vertices()];
         let (actions, persistences) = labels.split_at(problem.actions);
-        let mut below = [0u64; 32];
-        for p in 0..problem.props {
-            let carried = wanted[p] & persistences[p];
+        let (mut needed_below, mut marks) = (0, 0);
+        for p in Members::<32>(needed) {
+            let mut left = std::mem::take(&mut wanted[p]);
+            let carried = left & persistences[p];
             below[p] |= carried;
-            let mut left = wanted[p] ^ carried;
-            let mut adders = Bits(adders[p] as u64);
+            needed_below |= ((carried != 0) as u32) << p;
+            left ^= carried;
+            let mut adders = Members::<32>(adders[p]);
             while left != 0 {
                 let a = adders.next().ok_or(Refusal::Uncovered(t))?;
                 let taken = left & actions[a];
                 if taken != 0 {
-                    marked[t - 1] |= 1 << a;
-                    for q in Bits(pre[a] as u64) {
+                    marks |= 1 << a;
+                    needed_below |= pre[a];
+                    for q in Members::<32>(pre[a]) {
                         below[q] |= taken;
                     }
                     left ^= taken;
                 }
             }
         }
-        wanted = below;
+        marked[t - 1] = marks;
+        count += marks.count_ones() as usize;
+        needed = needed_below;
+        std::mem::swap(&mut wanted, &mut below);
     }
-    if wanted[..problem.props].iter().zip(words).any(|(wanted, label)| wanted & !label != 0) {
+    if Members::<32>(needed).any(|p| wanted[p] & !words[p] != 0) {
         return Err(Refusal::Uncovered(0));
     }
     out[..level].copy_from_slice(&marked[..level]);
-    Ok(Plan { level, count: marked[..level].iter().map(|word| word.count_ones() as usize).sum() })
+    Ok(Plan { level, count })
 }
 
 // ---- the greatest depth that fits

@@ -1,18 +1,28 @@
-//! Times the proved library against the plain Rust version, in one run and on the same input: the median of several
+//! Times the proved library against the plain Rust version, in one run and on the same input: the medians of many short
 //! rounds, which alternate the two. Before a call is timed, both are made once and must give the same answer and the
 //! same memory.
 //!
 //! The memory that a call writes was written before, by the same call, and is not cleared between calls.
+//!
+//! A number in SEED, in the environment, gives other problems of the same kinds. A name as an argument, or a part of
+//! one, leaves only the problems with it.
 
 use mogzift::{reference, word_count, Level, Refusal, Rest};
 use std::hint::black_box;
 use std::time::{Duration, Instant};
 
 /// The most rounds of which the median is taken, how long one lasts at least, and about how long all rounds of one
-/// version may take: where a call takes longer there are fewer rounds, one at least.
-const ROUNDS: usize = 51;
+/// version may take: where a call takes longer there are fewer rounds, one at least. A round is short, so that a step of
+/// the processor's clock meets both versions, and long enough for the memory that the other one used to matter little.
+const ROUNDS: usize = 101;
 const ROUND: Duration = Duration::from_millis(1);
-const ALL_ROUNDS: f64 = 4e9;
+const ALL_ROUNDS: f64 = 1e9;
+
+/// The problems' seed, if the environment has none.
+const SEED: u64 = 2024;
+
+/// The steps of a long run.
+const STEPS: usize = 1000;
 
 // ---- problems
 
@@ -67,6 +77,14 @@ fn dense(random: &mut Random, props: usize, actions: usize, states: usize) -> Ve
     file(props, &actions, &starts)
 }
 
+/// Chain: action i goes from proposition i to the next, round a ring, and a state begins within the first quarter. The
+/// graph grows by little at each layer, and comes to rest late.
+fn chain(random: &mut Random, props: usize, states: usize) -> Vec<u8> {
+    let actions: Vec<_> = (0..props).map(|i| [1 << i, 1 << ((i + 1) % props), 1 << i]).collect();
+    let starts: Vec<_> = (0..states).map(|_| 1 << random.below(props / 4)).collect();
+    file(props, &actions, &starts)
+}
+
 struct Case {
     name: &'static str,
     file: Vec<u8>,
@@ -116,22 +134,41 @@ impl Case {
         (set, goal)
     }
 
-    /// A list of so many steps that works from state 0, where there is one. Hardly a list works from all states at
-    /// once, and a step costs much the same.
-    fn list(&self, random: &mut Random, steps: usize) -> Vec<u8> {
-        let mut out = [0; 64];
-        let mut list = Vec::new();
-        for _ in 0..100 * steps {
-            list.push(random.below(self.file[6] as usize) as u8);
-            if reference::run(&self.file, 1, &list, &mut out).is_err() {
-                list.pop();
-            }
-            if list.len() == steps {
-                break;
-            }
+    /// Half of the states, drawn one by one: many short runs where there are many states.
+    fn half(&self, random: &mut Random) -> u64 {
+        let states = self.file[7] as usize;
+        let mut set = 0u64;
+        while 2 * (set.count_ones() as usize) < states {
+            set |= 1 << random.below(states);
         }
-        list
+        set
     }
+
+    /// The problem with an action that brings every proposition, the last one, so that long lists work.
+    fn refilled(&self) -> Vec<u8> {
+        let mut file = self.file.clone();
+        let last = 8 + 12 * (file[6] as usize - 1);
+        file[last..last + 12].fill(0);
+        let every = u32::MAX >> (32 - file[5]);
+        file[last + 4..last + 8].copy_from_slice(&every.to_le_bytes());
+        file
+    }
+}
+
+/// A list of so many steps that works for the states, where there is one.
+fn list(random: &mut Random, file: &[u8], set: u64) -> Vec<u8> {
+    let mut out = [0; 64];
+    let mut list = Vec::new();
+    for _ in 0..100 * STEPS {
+        list.push(random.below(file[6] as usize) as u8);
+        if reference::run(file, set, &list, &mut out).is_err() {
+            list.pop();
+        }
+        if list.len() == STEPS {
+            break;
+        }
+    }
+    list
 }
 
 // ---- races
@@ -158,10 +195,11 @@ fn median(mut times: Vec<f64>) -> f64 {
     times[times.len() / 2]
 }
 
-/// The medians of two things that were timed in turns.
+/// The medians of two things that were timed in turns, and of their ratio in rounds that follow each other.
 struct Race {
     first: f64,
     second: f64,
+    ratio: f64,
     rounds: usize,
 }
 
@@ -169,15 +207,15 @@ impl Race {
     fn run(mut first: impl FnMut(), mut second: impl FnMut()) -> Race {
         let longest = round(&mut first).max(round(&mut second));
         let rounds = ((ALL_ROUNDS / longest) as usize).clamp(1, ROUNDS);
-        let times = (0..rounds).map(|_| (round(&mut first), round(&mut second)));
-        let (first, second) = times.unzip();
-        Race { first: median(first), second: median(second), rounds }
+        let times: Vec<(f64, f64)> = (0..rounds).map(|_| (round(&mut first), round(&mut second))).collect();
+        let of = |part: fn(&(f64, f64)) -> f64| median(times.iter().map(part).collect());
+        Race { first: of(|times| times.0), second: of(|times| times.1), ratio: of(|times| times.0 / times.1), rounds }
     }
 
     fn print(&self, call: &str, case: &Case, what: String) {
-        let Race { first, second, rounds } = self;
+        let Race { first, second, ratio, rounds } = self;
         let name = format!("{call:<8} {}, depth {} ({what})", case.name, case.depth);
-        println!("{name:<80} {first:>13.0} {second:>13.0} {:>9.2} {rounds:>7}", first / second);
+        println!("{name:<80} {first:>13.0} {second:>13.0} {ratio:>9.2} {rounds:>7}");
     }
 }
 
@@ -227,7 +265,16 @@ fn reads(case: &Case, random: &mut Random) {
     let (answer, times) = race!(level(file, depth, all, every, words));
     times.print("level", case, format!("all states, all goals, {answer:?}"));
 
-    for (what, set) in [("all states", all), ("every other state", all & 0x5555_5555_5555_5555)] {
+    let middle = 1 << (file[7] / 2);
+    // all states but the first and one in the middle; of the lamp's two states nothing would be left
+    let two_runs = if file[7] > 2 { all & !1 & !middle } else { all };
+    for (what, set) in [
+        ("all states", all),
+        ("every other state", all & 0x5555_5555_5555_5555),
+        ("half of the states", case.half(random)),
+        ("two runs of states", two_runs),
+        ("one state", middle),
+    ] {
         let (count, times) = race!(extract(file, depth, set, words => vec![0; words.len()]));
         times.print("extract", case, format!("{what}, {count} words"));
     }
@@ -235,11 +282,30 @@ fn reads(case: &Case, random: &mut Random) {
     let (plan, times) = race!(plan(file, depth, set, goal, words => vec![0; depth]));
     times.print("plan", case, format!("{task}, level {}, count {}", plan.level, plan.count));
 
-    let list = case.list(random, 1000);
-    let (_, times) = race!(run(file, 1, &list => vec![0; 64]));
-    times.print("run", case, format!("1 state, {} steps", list.len()));
+    // hardly a list works from all states at once
+    let steps = list(random, file, 1);
+    let (_, times) = race!(run(file, 1, &steps => vec![0; 64]));
+    times.print("run", case, format!("1 state, {} steps", steps.len()));
+    let refilled = case.refilled();
+    let steps = list(random, &refilled, all);
+    let (_, times) = race!(run(&refilled, all, &steps => vec![0; 64]));
+    times.print("run", case, format!("all states, {} steps, refilled", steps.len()));
     let (_, times) = race!(run(file, all, &[] => vec![0; 64]));
     times.print("run", case, "all states, no step".to_string());
+}
+
+/// The proved build against what bounds it from below: its words filled with zeros, which only writes them once; and
+/// copied from elsewhere, which reads them too.
+fn bounds(case: &Case) {
+    let Case { file, depth, words, .. } = case;
+    let (mut built, mut plain) = (words.clone(), words.clone());
+    let mut build = || {
+        let _ = black_box(mogzift::build(black_box(file), black_box(*depth), black_box(&mut built)));
+    };
+    let times = Race::run(&mut build, || black_box(&mut plain[..]).fill(black_box(0)));
+    times.print("fill", case, "filled with zeros".to_string());
+    let times = Race::run(&mut build, || black_box(&mut plain[..]).copy_from_slice(black_box(words)));
+    times.print("copy", case, "copied once".to_string());
 }
 
 /// Both versions build the same words for each state by itself.
@@ -270,20 +336,30 @@ fn alone(version: &str, build: Build, case: &Case) {
     times.print(version, case, format!("{} states", files.len()));
 }
 
+fn heading(what: &str, first: &str, second: &str) {
+    println!("{what:<80} {first:>13} {second:>13} {:>9} {:>7}", "ratio", "rounds");
+}
+
 fn main() {
-    let mut random = Random(2024);
-    let cases = [
+    let seed = std::env::var("SEED").map_or(SEED, |seed| seed.parse().expect("SEED is a number"));
+    let mut random = Random(seed);
+    let mut cases = vec![
         Case::new("small, lamp", lamp(), 255),
         Case::new("medium sparse", sparse(&mut random, 16, 16, 16), 32),
         Case::new("medium dense", dense(&mut random, 16, 16, 16), 32),
         Case::new("wide sparse", sparse(&mut random, 32, 32, 64), 64),
         Case::new("wide dense", dense(&mut random, 32, 32, 64), 64),
+        Case::new("wide chain", chain(&mut random, 32, 64), 64),
     ];
+    if let Some(name) = std::env::args().nth(1) {
+        cases.retain(|case| case.name.contains(&name));
+    }
     println!(
-        "ns a call, medians of rounds that alternate the two; memory that is written is not cleared between calls"
+        "ns a call, medians of rounds that alternate the two; the ratio is the median of neighbouring rounds' ratios;"
     );
+    println!("memory that is written is not cleared between calls; seed {seed}");
     println!("small: P=3 A=2 N=2; medium: P=16 A=16 N=16; wide: P=32 A=32 N=64");
-    println!("{:<80} {:>13} {:>13} {:>9} {:>7}", "call", "proved ns", "plain Rust ns", "ratio", "rounds");
+    heading("call", "proved ns", "plain Rust ns");
     for case in &cases {
         builds(case);
     }
@@ -291,10 +367,15 @@ fn main() {
         reads(case, &mut random);
     }
     println!();
-    println!("{:<80} {:>13} {:>13} {:>9} {:>7}", "build", "each alone ns", "all in one ns", "ratio", "rounds");
-    for case in &cases[3..] {
+    heading("build", "each alone ns", "all in one ns");
+    for case in cases.iter().filter(|case| case.file[7] == 64) {
         agree(case);
         alone("proved", mogzift::build, case);
         alone("plain", reference::build, case);
+    }
+    println!();
+    heading("build", "proved ns", "its words ns");
+    for case in &cases {
+        bounds(case);
     }
 }
