@@ -275,7 +275,7 @@ struct Sets<const R: usize> {
     /// The actions that add a proposition.
     adders: [u32; R],
     /// The other actions with which an action does not interfere.
-    friends: [u32; R],
+    independent: [u32; R],
 }
 
 impl<const R: usize> Sets<R> {
@@ -290,14 +290,14 @@ impl<const R: usize> Sets<R> {
         adders.copy_from_slice(&turned(add[..problem.actions].iter().copied())[..R]);
 
         let every = first_bits(problem.actions) as u32;
-        let mut friends = [0; R];
+        let mut independent = [0; R];
         for a in 0..problem.actions {
             let a = a % R;
-            let mut hurt = 0;
+            let mut interferers = 0;
             for b in 0..R {
-                hurt |= ((del[a] & touched[b] | del[b] & touched[a] != 0) as u32) << b;
+                interferers |= ((del[a] & touched[b] | del[b] & touched[a] != 0) as u32) << b;
             }
-            friends[a] = every & !hurt & !(1 << a);
+            independent[a] = every & !interferers & !(1 << a);
         }
         Sets {
             props: problem.props,
@@ -307,7 +307,7 @@ impl<const R: usize> Sets<R> {
             add,
             del,
             adders,
-            friends,
+            independent,
         }
     }
 
@@ -383,7 +383,7 @@ impl<const R: usize> Layer<R> {
 
     /// How many pairs of actions have one that is stale.
     fn pairs_due(&self, sets: &Sets<R>) -> u32 {
-        Members::<R>(self.stale).map(|a| (sets.friends[a] & self.live).count_ones()).sum()
+        Members::<R>(self.stale).map(|a| (sets.independent[a] & self.live).count_ones()).sum()
     }
 
     /// All pairs of actions, and all that they reach, by whole rows.
@@ -394,7 +394,7 @@ impl<const R: usize> Layer<R> {
             let own = self.action.map(|other| other & label);
             let row = &mut self.actions[a];
             fold_rows(row, &own, &self.spare, sets.pre[a], |x, y| x & y);
-            for b in Members::<R>(self.live & !sets.friends[a]) {
+            for b in Members::<R>(self.live & !sets.independent[a]) {
                 row[b] = 0;
             }
             row[a] = label;
@@ -413,7 +413,7 @@ impl<const R: usize> Layer<R> {
             open &= !(self.stale & 1 << a);
             let (label, row) = (self.action[a], &self.kept[a]);
             // a pair of two stale actions once
-            for b in Members::<R>(sets.friends[a] & open) {
+            for b in Members::<R>(sets.independent[a] & open) {
                 let with = Members::<R>(sets.pre[b]).fold(label & self.action[b], |with, p| with & row[p]);
                 self.actions[a][b] = with;
                 self.actions[b][a] = with;
@@ -422,7 +422,7 @@ impl<const R: usize> Layer<R> {
         for a in Members::<R>(self.stale) {
             let row = &mut self.reached[a];
             *row = self.kept[a];
-            for b in Members::<R>(sets.friends[a] & self.live | 1 << a) {
+            for b in Members::<R>(sets.independent[a] & self.live | 1 << a) {
                 let with = self.actions[a][b];
                 for p in Members::<R>(sets.add[b]) {
                     row[p] |= with;

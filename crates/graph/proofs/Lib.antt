@@ -3,8 +3,5 @@ pub mod Links
 pub mod Ladder
 pub mod Verdicts
 pub mod Files
-pub mod Builds
-pub mod Repeats
-pub mod Listings
 pub mod Graphs
 pub mod WithStates

@@ -1,8 +1,7 @@
--- The problem file, what turns a call away, and the build.
+-- The problem file, what turns a call away, and what a build writes.
 pub mod Limits
 pub mod Verdict
 pub mod Format
 pub mod File
 pub mod Checks
-pub mod Steps
 pub mod Build

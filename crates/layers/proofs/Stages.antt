@@ -34,10 +34,10 @@ use Rattle.words.specs.Rows.{rowLength, tableLength, cell, InParts}
 use Rattle.words.proofs.Writes.{put-word, put-length, put-within}
 use lib.Dec.{eqb}
 use borrow.Author.Tests.{eqb-true}
-use Rattle.layers.specs.Cells.{Width, needsWith, labelFor, withProp, withAction, friendsOf, withFriend, rowIn, mateOf, besideFor}
-use Rattle.layers.specs.Write.{apart, Diagonal, besides, actionWords}
+use Rattle.together.specs.Cells.{Width, needsWith, labelFor, withProp, withAction, independentOf, withIndependent, rowIn, mateOf, besideFor}
+use Rattle.layers.specs.Write.{apart, Diagonal, actionRow, actionWords}
 use Rattle.layers.proofs.Puts.{put-behind}
-use Rattle.layers.proofs.Rows.{parts-le}
+use Rattle.together.proofs.Rows.{parts-le}
 use Rattle.layers.specs.Step.{Told, Tells, overOf, Admitted, Mated, Next, Nexting, Deletes, Ready, Stepped, stepWords}
 
 -- a word of a row
@@ -76,7 +76,7 @@ module _ (A : Actions) (all : ℕ) (sets : Sets rowLength A) (labels t : List �
 
   -- ---- two actions
 
-  module _ (n : ℕ) (needs adds adders foes live r : List ℕ) (told : Told A n needs adds adders foes) (adm : Admitted A all t live r) where
+  module _ (n : ℕ) (needs adds adders interferers live r : List ℕ) (told : Told A n needs adds adders interferers) (adm : Admitted A all t live r) where
     lives : (i : ℕ) → i < A .count → getD live i 0 ≡ vertexLabel (domain A .props) all (layerBy (domain A .props) (cell t)) (A .pre i)
     lives i h = adm .label i h ∙ label-is i h
 
@@ -85,88 +85,88 @@ module _ (A : Actions) (all : ℕ) (sets : Sets rowLength A) (labels t : List �
 
     -- by rows
     pub pair-told : (turned : List ℕ) → ((j p : ℕ) → j < A .count → p < A .props → cell turned p j ≡ cell r j p) → (i j : ℕ) → i < A .count → j < A .count
-        → withAction needs foes live turned i j ≡ free i j
+        → withAction needs interferers live turned i j ≡ free i j
     unfolding withAction
     pair-told turned turns i j h k = ⊎-elim
         (λ e. choose-held _ _ _ e ∙ adm .label i h ∙ sym (free-own (domain A .vertices) (overOf A all t) i) ∙ ap (free i) (same-at i j e))
         (λ d. choose-failed _ _ _ d
-        ∙ ap (λ (x : ℕ). choose (bit j (getD foes i 0)) 0 x)
+        ∙ ap (λ (x : ℕ). choose (bit j (getD interferers i 0)) 0 x)
         (meet-only rowLength (getD needs i 0) _ _ _ (λ p l m.
         let hp : p < A .props = need-lt i p h m in turns j p k hp ∙ adm .with-props j p k hp)
         ∙ ap₂ (λ (set w : ℕ). meetOf rowLength set (λ p. free j (persistence A p)) w) (told .pre i h) (ap₂ common (lives j k) (lives i h)))
-        ∙ S.with-action rowLength all A sets (cell t) (is .consistent) i j (bit j (getD foes i 0)) h k (λ q. fails-at _ d (same-of i j q)) (told .hurt i j h k))
+        ∙ S.with-action rowLength all A sets (cell t) (is .consistent) i j (bit j (getD interferers i 0)) h k (λ q. fails-at _ d (same-of i j q)) (told .interfere i j h k))
         (holds-or (same i j))
 
     -- one by one
-    friend-bits : (i j : ℕ) → bit j (friendsOf needs foes i) ≡ (bit j (first (length needs)) and fails (bit j (getD foes i 0) or same j i))
-    unfolding friendsOf
-    friend-bits i j = bit-without j (first (length needs)) (union (getD foes i 0) (single i))
-        ∙ ap (λ (b : Bool). bit j (first (length needs)) and fails b) (bit-union j (getD foes i 0) (single i) ∙ ap (λ (b : Bool). bit j (getD foes i 0) or b) (bit-single j i))
+    independent-bits : (i j : ℕ) → bit j (independentOf needs interferers i) ≡ (bit j (first (length needs)) and fails (bit j (getD interferers i 0) or same j i))
+    unfolding independentOf
+    independent-bits i j = bit-without j (first (length needs)) (union (getD interferers i 0) (single i))
+        ∙ ap (λ (b : Bool). bit j (first (length needs)) and fails b) (bit-union j (getD interferers i 0) (single i) ∙ ap (λ (b : Bool). bit j (getD interferers i 0) or b) (bit-single j i))
 
-    pub friend-lt : (i : ℕ) → friendsOf needs foes i < 2 ^ length needs
-    unfolding friendsOf
-    friend-lt i = without-lt (length needs) (first (length needs)) _ (first-lt (length needs))
+    pub independent-lt : (i : ℕ) → independentOf needs interferers i < 2 ^ length needs
+    unfolding independentOf
+    independent-lt i = without-lt (length needs) (first (length needs)) _ (first-lt (length needs))
 
-    friend-is : (i j : ℕ) → i < A .count → So (bit j (friendsOf needs foes i)) → (j < A .count) × So (fails (bit j (getD foes i 0))) × (i ≡ j → ⊥)
-    friend-is i j h m =
-        let u = sym (friend-bits i j) ∙ m in (
-          subst (λ (x : ℕ). j < x) (sym (told .count)) (bit-below j (friendsOf needs foes i) (length needs) (friend-lt i) m),
+    independent-is : (i j : ℕ) → i < A .count → So (bit j (independentOf needs interferers i)) → (j < A .count) × So (fails (bit j (getD interferers i 0))) × (i ≡ j → ⊥)
+    independent-is i j h m =
+        let u = sym (independent-bits i j) ∙ m in (
+          subst (λ (x : ℕ). j < x) (sym (told .count)) (bit-below j (independentOf needs interferers i) (length needs) (independent-lt i) m),
           fails-of _ (λ x. fails-at _ (and-right _ _ u) (or-left _ _ x)),
           λ e. fails-at _ (and-right _ _ u) (or-right _ _ (same-of j i (sym e))),
         )
 
-    foe-is : (i j : ℕ) → i < A .count → j < A .count → (i ≡ j → ⊥) → So (fails (bit j (friendsOf needs foes i))) → So (bit j (getD foes i 0))
-    foe-is i j h k ne m = ⊎-elim
+    interferers-is : (i j : ℕ) → i < A .count → j < A .count → (i ≡ j → ⊥) → So (fails (bit j (independentOf needs interferers i))) → So (bit j (getD interferers i 0))
+    interferers-is i j h k ne m = ⊎-elim
         (λ x. x)
-        (λ x. absurd (fails-at _ m (friend-bits i j ∙ and-of _ _
+        (λ x. absurd (fails-at _ m (independent-bits i j ∙ and-of _ _
         (bit-first j (length needs) ∙ below-of j (length needs) (subst (λ (y : ℕ). j < y) (told .count) k))
         (fails-of _ (λ o. ⊎-elim (fails-at _ x) (λ e. ne (sym (same-at j i e))) (or-at _ _ o))))))
-        (holds-or (bit j (getD foes i 0)))
+        (holds-or (bit j (getD interferers i 0)))
 
-    turned-hurt : (i j : ℕ) → i < A .count → j < A .count → bit j (getD foes i 0) ≡ (clobbers A j i or clobbers A i j)
-    turned-hurt i j h k = told .hurt i j h k ∙ test-eq _ _ (swap _ _) (swap _ _)
+    turned-interfere : (i j : ℕ) → i < A .count → j < A .count → bit j (getD interferers i 0) ≡ (clobbers A j i or clobbers A i j)
+    turned-interfere i j h k = told .interfere i j h k ∙ test-eq _ _ (swap _ _) (swap _ _)
       where
         swap : (a b : Bool) → So (a or b) → So (b or a)
         swap a b t = ⊎-elim (λ x. or-right b a x) (λ x. or-left b a x) (or-at a b t)
 
     both-ways : (i j : ℕ) → i < A .count → j < A .count → (i ≡ j → ⊥)
-        → choose (bit j (getD foes i 0)) 0 (meetOf rowLength (A .pre j) (λ p. free i (persistence A p))
+        → choose (bit j (getD interferers i 0)) 0 (meetOf rowLength (A .pre j) (λ p. free i (persistence A p))
         (common (vertexLabel (domain A .props) all (layerBy (domain A .props) (cell t)) (A .pre i)) (vertexLabel (domain A .props) all (layerBy (domain A .props) (cell t)) (A .pre j)))) ≡ free i j
     both-ways i j h k ne =
-        S.with-action rowLength all A sets (cell t) (is .consistent) j i (bit j (getD foes i 0)) k h (λ q. ne (sym q)) (turned-hurt i j h k)
+        S.with-action rowLength all A sets (cell t) (is .consistent) j i (bit j (getD interferers i 0)) k h (λ q. ne (sym q)) (turned-interfere i j h k)
         ∙ free-turn (domain A .vertices) (overOf A all t) j i
 
-    apart-none : (i j : ℕ) → i < A .count → j < A .count → (i ≡ j → ⊥) → So (fails (bit j (friendsOf needs foes i))) → free i j ≡ 0
-    apart-none i j h k ne m = sym (both-ways i j h k ne) ∙ choose-held (bit j (getD foes i 0)) 0 _ (foe-is i j h k ne m)
+    apart-none : (i j : ℕ) → i < A .count → j < A .count → (i ≡ j → ⊥) → So (fails (bit j (independentOf needs interferers i))) → free i j ≡ 0
+    apart-none i j h k ne m = sym (both-ways i j h k ne) ∙ choose-held (bit j (getD interferers i 0)) 0 _ (interferers-is i j h k ne m)
 
-    friend-told : (i j : ℕ) → i < A .count → So (bit j (friendsOf needs foes i)) → withFriend needs live (rowIn r i) i j ≡ free i j
-    unfolding withFriend
-    friend-told i j h m =
-        let (k, f, ne) = friend-is i j h m in
+    independent-told : (i j : ℕ) → i < A .count → So (bit j (independentOf needs interferers i)) → withIndependent needs live (rowIn r i) i j ≡ free i j
+    unfolding withIndependent
+    independent-told i j h m =
+        let (k, f, ne) = independent-is i j h m in
         meet-only rowLength (getD needs j 0) _ _ _ (λ q l n.
         let hq : q < A .props = need-lt j q k n in row-cell r i q l ∙ adm .with-props i q h hq)
         ∙ ap₂ (λ (set w : ℕ). meetOf rowLength set (λ p. free i (persistence A p)) w) (told .pre j k) (ap₂ common (lives i h) (lives j k))
-        ∙ sym (choose-failed (bit j (getD foes i 0)) 0 _ f) ∙ both-ways i j h k ne
+        ∙ sym (choose-failed (bit j (getD interferers i 0)) 0 _ f) ∙ both-ways i j h k ne
 
-    pub mate-told : (i j : ℕ) → i < A .count → j < A .count → mateOf needs foes live r i j ≡ free i j
+    pub mate-told : (i j : ℕ) → i < A .count → j < A .count → mateOf needs interferers live r i j ≡ free i j
     unfolding mateOf
     mate-told i j h k = ⊎-elim
         (λ e. choose-held _ _ _ e ∙ adm .label i h ∙ sym (free-own (domain A .vertices) (overOf A all t) i) ∙ ap (free i) (sym (same-at j i e)))
         (λ d. let ne : i ≡ j → ⊥ = (λ q. fails-at _ d (same-of j i (sym q))) in choose-failed _ _ _ d ∙ ⊎-elim
-        (λ m. choose-held _ _ _ m ∙ friend-told i j h m)
+        (λ m. choose-held _ _ _ m ∙ independent-told i j h m)
         (λ m. choose-failed _ _ _ m ∙ sym (apart-none i j h k ne m))
-        (holds-or (bit j (friendsOf needs foes i))))
+        (holds-or (bit j (independentOf needs interferers i))))
         (holds-or (same j i))
 
-    pub beside-told : (i p : ℕ) → i < A .count → p < A .props → besideFor needs adds foes live r i p ≡ beside (domain A) (overOf A all t) i p
+    pub beside-told : (i p : ℕ) → i < A .count → p < A .props → besideFor needs adds interferers live r i p ≡ beside (domain A) (overOf A all t) i p
     unfolding besideFor
     beside-told i p h k =
         ap₂ union
-        (ap₂ union (adm .with-props i p h k) (join-only rowLength (friendsOf needs foes i) _ _ (λ j l m.
-        let (g, f, ne) = friend-is i j h m in ap₂ (λ (x y : ℕ). keep (bit p x) y) (told .add j g) (friend-told i j h m))))
+        (ap₂ union (adm .with-props i p h k) (join-only rowLength (independentOf needs interferers i) _ _ (λ j l m.
+        let (g, f, ne) = independent-is i j h m in ap₂ (λ (x y : ℕ). keep (bit p x) y) (told .add j g) (independent-told i j h m))))
         (ap₂ (λ (x y : ℕ). keep (bit p x) y) (told .add i h) (adm .label i h ∙ sym (free-own (domain A .vertices) (overOf A all t) i)))
-        ∙ S.beside-few rowLength all A sets (cell t) (is .consistent) i p (friendsOf needs foes i) h k
-        (subst (λ (x : ℕ). friendsOf needs foes i < 2 ^ x) (sym (told .count)) (friend-lt i))
+        ∙ S.beside-few rowLength all A sets (cell t) (is .consistent) i p (independentOf needs interferers i) h k
+        (subst (λ (x : ℕ). independentOf needs interferers i < 2 ^ x) (sym (told .count)) (independent-lt i))
         (λ j g ne m. apart-none i j h g (λ q. ne (sym q)) m)
 
     -- rows joined over the adders of a proposition
@@ -183,7 +183,7 @@ module _ (A : Actions) (all : ℕ) (sets : Sets rowLength A) (labels t : List �
 
   -- ---- the next table
 
-  module _ (n : ℕ) (needs adds adders foes : List ℕ) (told : Told A n needs adds adders foes) (spare turned besides t' : List ℕ)
+  module _ (n : ℕ) (needs adds adders interferers : List ℕ) (told : Told A n needs adds adders interferers) (spare turned besides t' : List ℕ)
       (halves : (p q : ℕ) → p < A .props → q < A .props → cell spare p q ≡ union (cell t p q) (joinOf rowLength (getD adders p 0) (λ i. cell besides i q)))
       (turns : (p q : ℕ) → p < A .props → q < A .props → cell turned q p ≡ cell spare p q)
       (with-adders : (i p : ℕ) → i < A .count → p < A .props → cell besides i p ≡ beside (domain A) (overOf A all t) i p)
@@ -260,7 +260,7 @@ module _ (a n : ℕ) (f : ℕ → ℕ → ℕ) where
 
 pub actions-told : (A : Actions) (all : ℕ) (sets : Sets rowLength A) (labels t live r mates besides : List ℕ) → Tells A all labels t → Admitted A all t live r → Mated A all t mates besides
     → actionWords (A .props) (A .count) live labels t mates r ≡ overOf A all t
-unfolding actionWords besides apart domain persistence
+unfolding actionWords actionRow apart domain persistence
 actions-told A all sets labels t live r mates besides is adm mat =
     sym (action-by (domain A) all (layerBy (A .props) (cell t)) ∙ layer-split a n free ∙ ap₂ (λ (x y : List ℕ). x ++ y)
     (ap₂ (λ (x y : List ℕ). x ++ y) (listOver-eq a _ _ own) (listOver-eq n _ _ kept))
@@ -304,8 +304,8 @@ front-word m i f w room h =
 pub diagonal-told : (n : ℕ) (labels labels' t' : List ℕ) → labels' ≡ putAt 0 (listOver n (λ p. cell t' p p)) labels → n ≤ length labels → Diagonal n labels' t'
 diagonal-told n labels labels' t' e room p h = ap (λ (l : List ℕ). getD l p 0) e ∙ front-word n p _ labels room h
 
-pub sets-of : (A : Actions) (n width : ℕ) (needs adds adders foes : List ℕ) → Told A n needs adds adders foes → Width n width needs → Sets rowLength A
-sets-of A n width needs adds adders foes told wide =
+pub sets-of : (A : Actions) (n width : ℕ) (needs adds adders interferers : List ℕ) → Told A n needs adds adders interferers → Width n width needs → Sets rowLength A
+sets-of A n width needs adds adders interferers told wide =
     let le : width ≤ rowLength = parts-le (wide .parts) in
     record {
       props = omega (arith, told .props, wide .props);
@@ -315,10 +315,10 @@ sets-of A n width needs adds adders foes told wide =
     }
 
 -- the actions' tables, one by one or by rows
-module _ (A : Actions) (all n width : ℕ) (needs adds adders foes live r labels t : List ℕ) (told : Told A n needs adds adders foes) (wide : Width n width needs)
+module _ (A : Actions) (all n width : ℕ) (needs adds adders interferers live r labels t : List ℕ) (told : Told A n needs adds adders interferers) (wide : Width n width needs)
     (is : Tells A all labels t) (adm : Admitted A all t live r) where
   sets : Sets rowLength A
-  sets = sets-of A n width needs adds adders foes told wide
+  sets = sets-of A n width needs adds adders interferers told wide
 
   act : (i : ℕ) → i < A .count → i < length needs
   act i h = subst (λ (x : ℕ). i < x) (told .count) h
@@ -326,39 +326,39 @@ module _ (A : Actions) (all n width : ℕ) (needs adds adders foes live r labels
   prop : (p : ℕ) → p < A .props → p < n
   prop p h = subst (λ (x : ℕ). p < x) (told .props) h
 
-  pub few-made : (mates besides : List ℕ) → ((i j : ℕ) → i < length needs → j < rowLength → cell mates i j ≡ mateOf needs foes live r i j)
-      → ((i p : ℕ) → i < length needs → p < width → cell besides i p ≡ besideFor needs adds foes live r i p) → Mated A all t mates besides
+  pub few-made : (mates besides : List ℕ) → ((i j : ℕ) → i < length needs → j < rowLength → cell mates i j ≡ mateOf needs interferers live r i j)
+      → ((i p : ℕ) → i < length needs → p < width → cell besides i p ≡ besideFor needs adds interferers live r i p) → Mated A all t mates besides
   few-made mates besides pair by = record {
     pair = λ i j h k. pair i j (act i h) (omega (arith, act j k, wide .actions, parts-le (wide .parts)))
-        ∙ mate-told A all sets labels t is n needs adds adders foes live r told adm i j h k;
+        ∙ mate-told A all sets labels t is n needs adds adders interferers live r told adm i j h k;
     with-adders = λ i p h k. by i p (act i h) (omega (arith, prop p k, wide .props))
-        ∙ beside-told A all sets labels t is n needs adds adders foes live r told adm i p h k;
+        ∙ beside-told A all sets labels t is n needs adds adders interferers live r told adm i p h k;
   }
 
   pub rows-made : (turned mates spare besides : List ℕ) → length adders ≡ n → ((i j : ℕ) → i < length needs → j < n → cell turned j i ≡ cell r i j)
-      → ((i j : ℕ) → i < length needs → j < width → cell mates i j ≡ withAction needs foes live turned i j)
+      → ((i j : ℕ) → i < length needs → j < width → cell mates i j ≡ withAction needs interferers live turned i j)
       → ((p k : ℕ) → p < length adders → k < width → cell spare p k ≡ union (cell turned p k) (joinOf rowLength (getD adders p 0) (λ i. cell mates i k)))
       → ((i j : ℕ) → i < n → j < length needs → cell besides j i ≡ cell spare i j) → Mated A all t mates besides
   rows-made turned mates spare besides long turns pair joined back = record {
     pair = paired;
     with-adders = λ i p h k. back p i (prop p k) (act i h) ∙ joined p i (omega (arith, prop p k)) (omega (arith, act i h, wide .actions))
-        ∙ rows-told A all sets labels t is n needs adds adders foes live r told adm turned mates (λ j q g l. turns j q (act j g) (prop q l)) paired i p h k;
+        ∙ rows-told A all sets labels t is n needs adds adders interferers live r told adm turned mates (λ j q g l. turns j q (act j g) (prop q l)) paired i p h k;
   }
     where
       paired : (i j : ℕ) → i < A .count → j < A .count → cell mates i j ≡ freeIn (domain A .vertices) (overOf A all t) i j
       paired i j h k = pair i j (act i h) (omega (arith, act j k, wide .actions))
-          ∙ pair-told A all sets labels t is n needs adds adders foes live r told adm turned (λ j q g l. turns j q (act j g) (prop q l)) i j h k
+          ∙ pair-told A all sets labels t is n needs adds adders interferers live r told adm turned (λ j q g l. turns j q (act j g) (prop q l)) i j h k
 
-pub next-made : (A : Actions) (all n width fresh : ℕ) (needs adds adders foes mates labels t besides spare turned t' labels' : List ℕ)
-    → Told A n needs adds adders foes → Width n width needs → Nexting n width adders besides t spare turned labels → Tells A all labels t → Mated A all t mates besides
+pub next-made : (A : Actions) (all n width fresh : ℕ) (needs adds adders interferers mates labels t besides spare turned t' labels' : List ℕ)
+    → Told A n needs adds adders interferers → Width n width needs → Nexting n width adders besides t spare turned labels → Tells A all labels t → Mated A all t mates besides
     → (spare' turned' : List ℕ)
     → ((p k : ℕ) → p < length adders → k < width → cell spare' p k ≡ union (cell t p k) (joinOf rowLength (getD adders p 0) (λ i. cell besides i k)))
     → ((i j : ℕ) → i < n → j < n → cell turned' j i ≡ cell spare' i j)
     → t' ≡ putAt 0 (listOver (n * rowLength) (λ i. union (getD spare' i 0) (getD turned' i 0))) t
     → fresh ≡ joinOver (n * rowLength) (λ i. bitXor (union (getD spare' i 0) (getD turned' i 0)) (getD t i 0))
     → labels' ≡ putAt 0 (listOver n (λ p. cell t' p p)) labels → Next A all t labels' t' (eqb fresh 0)
-next-made A all n width fresh needs adds adders foes mates labels t besides spare turned t' labels' told wide ready is mat spare' turned' halves turns e ef el =
-    next-told A all (sets-of A n width needs adds adders foes told wide) labels t is n needs adds adders foes told spare' turned' besides t'
+next-made A all n width fresh needs adds adders interferers mates labels t besides spare turned t' labels' told wide ready is mat spare' turned' halves turns e ef el =
+    next-told A all (sets-of A n width needs adds adders interferers told wide) labels t is n needs adds adders interferers told spare' turned' besides t'
     (λ p q h k. halves p q (lt p h) (ltw q k)) (λ p q h k. turns p q (ltn p h) (ltn q k)) (mat .with-adders) (λ p q h k. put p q (ltn p h) (ltn q k)) labels' (eqb fresh 0)
     (λ p h. diagonal-told n labels labels' t' el (omega (arith, ready .labels-long, few)) p (ltn p h))
     (λ b p q h k. put p q (ltn p h) (ltn q k) ∙ still b p q (ltn p h) (ltn q k))
@@ -397,11 +397,11 @@ length-actions' : (D : Domain) (all : ℕ) (l : List ℕ) → length (actionLaye
 unfolding actionLayer
 length-actions' D all l = length-layerOf (D .vertices) _ _
 
-pub admit-made : (A : Actions) (all n width : ℕ) (needs adds adders foes dels labels t live live' r' : List ℕ) → Told A n needs adds adders foes → Width n width needs
+pub admit-made : (A : Actions) (all n width : ℕ) (needs adds adders interferers dels labels t live live' r' : List ℕ) → Told A n needs adds adders interferers → Width n width needs
     → Deletes A dels → Tells A all labels t → length live ≡ rowLength
     → live' ≡ putAt 0 (listOver (length needs) (λ i. labelFor all labels t (getD needs i 0))) live
     → ((i q : ℕ) → i < length needs → q < width → cell r' i q ≡ withProp all labels t (getD needs i 0) (getD dels i 0) q) → Admitted A all t live' r'
-admit-made A all n width needs adds adders foes dels labels t live live' r' told wide del is long e cells = record {
+admit-made A all n width needs adds adders interferers dels labels t live live' r' told wide del is long e cells = record {
   label = λ i h. ap (λ (l : List ℕ). getD l i 0) e ∙ front-word (length needs) i _ live (omega (arith, wide .actions, parts-le (wide .parts))) (act i h)
       ∙ ap (labelFor all labels t) (told .pre i h) ∙ label-told A all ready labels t is i h;
   with-props = λ i q h k. cells i q (act i h) (omega (arith, subst (λ (x : ℕ). q < x) (told .props) k, wide .props))
@@ -412,35 +412,35 @@ admit-made A all n width needs adds adders foes dels labels t live live' r' told
     act i h = subst (λ (x : ℕ). i < x) (told .count) h
 
     ready : Sets rowLength A
-    ready = sets-of A n width needs adds adders foes told wide
+    ready = sets-of A n width needs adds adders interferers told wide
 
-pub step-made : (A : Actions) (all n width at : ℕ) (still : Bool) (needs adds dels adders foes labels live t r mates besides spare w live' r' mates' besides' w₁ labels' t' p : List ℕ)
-    → Ready n width at needs adds dels adders foes labels live t r mates besides spare w → Told A n needs adds adders foes → Deletes A dels → Tells A all labels t
+pub step-made : (A : Actions) (all n width at : ℕ) (still : Bool) (needs adds dels adders interferers labels live t r mates besides spare w live' r' mates' besides' w₁ labels' t' p : List ℕ)
+    → Ready n width at needs adds dels adders interferers labels live t r mates besides spare w → Told A n needs adds adders interferers → Deletes A dels → Tells A all labels t
     → live' ≡ putAt 0 (listOver (length needs) (λ i. labelFor all labels t (getD needs i 0))) live
     → ((i q : ℕ) → i < length needs → q < width → cell r' i q ≡ withProp all labels t (getD needs i 0) (getD dels i 0) q)
-    → ((A : Actions) (all : ℕ) (labels t : List ℕ) → Told A n needs adds adders foes → Tells A all labels t → Admitted A all t live' r' → Mated A all t mates' besides')
+    → ((A : Actions) (all : ℕ) (labels t : List ℕ) → Told A n needs adds adders interferers → Tells A all labels t → Admitted A all t live' r' → Mated A all t mates' besides')
     → w₁ ≡ putAt 0 (actionWords n (length needs) live' labels t mates' r') w
-    → ((A : Actions) (all : ℕ) (needs adds foes mates : List ℕ) → Told A n needs adds adders foes → Width n width needs → Tells A all labels t
+    → ((A : Actions) (all : ℕ) (needs adds interferers mates : List ℕ) → Told A n needs adds adders interferers → Width n width needs → Tells A all labels t
     → Mated A all t mates besides' → Next A all t labels' t' still)
     → p ≡ putAt 0 (layerBy n (cell t')) (take (length w₁ - at) (drop at w₁))
     → Stepped A all t labels' t' w (putMid at (length w₁ - at) w₁ p) still
-step-made A all n width at still needs adds dels adders foes labels live t r mates besides spare w live' r' mates' besides' w₁ labels' t' p ready told del is el cells mate e₁ next ep =
+step-made A all n width at still needs adds dels adders interferers labels live t r mates besides spare w live' r' mates' besides' w₁ labels' t' p ready told del is el cells mate e₁ next ep =
     record { next = nx; is = unfold stepWords in back }
   where
     adm : Admitted A all t live' r'
-    adm = admit-made A all n width needs adds adders foes dels labels t live live' r' told (ready .mating .wide) del is (ready .mating .live-long) el cells
+    adm = admit-made A all n width needs adds adders interferers dels labels t live live' r' told (ready .mating .wide) del is (ready .mating .live-long) el cells
 
     mat : Mated A all t mates' besides'
     mat = mate A all labels t told is adm
 
     nx : Next A all t labels' t' still
-    nx = next A all needs adds foes mates' told (ready .mating .wide) is mat
+    nx = next A all needs adds interferers mates' told (ready .mating .wide) is mat
 
     words : w₁ ≡ putAt 0 (overOf A all t) w
     words =
         e₁ ∙ ap₂ (λ (x y : ℕ). putAt 0 (actionWords x y live' labels t mates' r') w) (sym (told .props)) (sym (told .count))
         ∙ ap (λ (l : List ℕ). putAt 0 l w)
-        (actions-told A all (sets-of A n width needs adds adders foes told (ready .mating .wide)) labels t live' r' mates' besides' is adm mat)
+        (actions-told A all (sets-of A n width needs adds adders interferers told (ready .mating .wide)) labels t live' r' mates' besides' is adm mat)
 
     long : length (overOf A all t) ≡ at
     long = unfold domain in length-actions' (domain A) all (layerBy (A .props) (cell t)) ∙ ap₂ (λ (x y : ℕ). size (x + y)) (told .count) (told .props) ∙ sym (ready .place)

@@ -12,20 +12,20 @@ use Rattle.rules.specs.Shared.{startLabel, actionLayer, nextLayer}
 use Rattle.rules.specs.Together.{layerBy, Consistent, beside, nextTogether}
 use Rattle.words.specs.Memory.{putAt}
 use Rattle.words.specs.Rows.{rowLength, tableLength, cell, InParts, Inside}
-use Rattle.layers.specs.Cells.{Width}
+use Rattle.together.specs.Cells.{Width}
 
 -- the action layer over the proposition layer l, and the next proposition layer behind it
 unfoldable pub stepWords : Domain → ℕ → List ℕ → List ℕ
 stepWords D all l = actionLayer D all l ++ nextLayer D (actionLayer D all l)
 
 -- the lists tell these actions: their needs and adds, the adders of each proposition, and those that interfere with each
-pub record Told (A : Actions) (n : ℕ) (needs adds adders foes : List ℕ) : Type 0 where
+pub record Told (A : Actions) (n : ℕ) (needs adds adders interferers : List ℕ) : Type 0 where
   pub props : A .props ≡ n
   pub count : A .count ≡ length needs
   pub pre : (i : ℕ) → i < A .count → getD needs i 0 ≡ A .pre i
   pub add : (i : ℕ) → i < A .count → getD adds i 0 ≡ A .add i
   pub by : (p : ℕ) → p < A .props → getD adders p 0 ≡ startLabel (A .count) (A .add) p
-  pub hurt : (i j : ℕ) → i < A .count → j < A .count → bit j (getD foes i 0) ≡ (clobbers A i j or clobbers A j i)
+  pub interfere : (i j : ℕ) → i < A .count → j < A .count → bit j (getD interferers i 0) ≡ (clobbers A i j or clobbers A j i)
 
 -- and these what each deletes
 abbrev pub Deletes : Actions → List ℕ → Type 0
@@ -51,13 +51,13 @@ pub record Mated (A : Actions) (all : ℕ) (t mates besides : List ℕ) : Type 0
   pub with-adders : (i p : ℕ) → i < A .count → p < A .props → cell besides i p ≡ beside (domain A) (overOf A all t) i p
 
 -- what the code asks that finds them
-pub record Mating (n width : ℕ) (needs adds adders foes live r mates besides spare : List ℕ) : Type 0 where
+pub record Mating (n width : ℕ) (needs adds adders interferers live r mates besides spare : List ℕ) : Type 0 where
   pub wide : Width n width needs
   pub adds-long : length adds ≡ length needs
   pub adders-long : length adders ≡ n
   pub adders-inside : Inside rowLength adders
-  pub foes-long : length foes ≡ length needs
-  pub foes-inside : Inside rowLength foes
+  pub interferers-long : length interferers ≡ length needs
+  pub interferers-inside : Inside rowLength interferers
   pub live-long : length live ≡ rowLength
   pub r-long : length r ≡ tableLength
   pub mates-long : length mates ≡ tableLength
@@ -83,8 +83,8 @@ pub record Nexting (n width : ℕ) (adders besides t spare turned labels : List 
   pub labels-long : length labels ≡ rowLength
 
 -- what it asks of a whole step: `at` is where the proposition layer goes behind the action layer
-pub record Ready (n width at : ℕ) (needs adds dels adders foes labels live t r mates besides spare words : List ℕ) : Type 0 where
-  pub mating : Mating n width needs adds adders foes live r mates besides spare
+pub record Ready (n width at : ℕ) (needs adds dels adders interferers labels live t r mates besides spare words : List ℕ) : Type 0 where
+  pub mating : Mating n width needs adds adders interferers live r mates besides spare
   pub dels-long : length dels ≡ length needs
   pub deletes : Inside n dels
   pub labels-long : length labels ≡ rowLength

@@ -1,8 +1,4 @@
 // One step of the graph, from a proposition layer to the next, over tables of what is together. Nothing here knows of files.
-mod admit;
-mod few;
-pub mod interference;
-mod pairs;
 pub mod start;
 pub mod step;
 mod write;

@@ -1,10 +1,10 @@
 // The step: labels and pairs of the actions, the action layer's words, what is together in the next proposition layer, and its words.
-use crate::admit::admit;
-use crate::few::few;
-use crate::pairs::join_rows;
-use crate::pairs::pairs;
 use crate::write::put_actions;
 use crate::write::put_props;
+use together::admit::admit;
+use together::few::few;
+use together::pairs::join_rows;
+use together::pairs::pairs;
 use words::tables::ROW;
 use words::tables::join_tables;
 use words::tables::turn;
@@ -16,7 +16,7 @@ ghost use Rattle.rules.specs.Lists.{listOver};
 ghost use Rattle.rules.specs.Domain.{Actions};
 ghost use Rattle.words.specs.Memory.{putAt};
 ghost use Rattle.words.specs.Rows.{rowLength, tableLength, cell};
-ghost use Rattle.layers.specs.Cells.{Width};
+ghost use Rattle.together.specs.Cells.{Width};
 ghost use Rattle.layers.specs.Write.{Diagonal};
 ghost use Rattle.layers.specs.Step.{Told, Tells, Admitted, Mated, Mating, Next, Nexting, Ready, Stepped, Deletes};
 
@@ -27,7 +27,7 @@ fn mate(
     needs: &[u32],
     adds: &[u32],
     adders: &[u64],
-    foes: &[u64],
+    interferers: &[u64],
     live: &[u64],
     r: &[u64],
     mates: &mut [u64],
@@ -35,14 +35,14 @@ fn mate(
     spare: &mut [u64],
     width: usize,
 )
-    requires { ⌜ Mating n width (now needs) (now adds) (now adders) (now foes) (now live) (now r) (now mates) (now besides) (now spare) ⌝ }
-    ensures { λ _. ⌜ ((A : Actions) (all : ℕ) (labels t : List ℕ) → Told A n (now (needs .entry)) (now (adds .entry)) (now (adders .entry)) (now (foes .entry)) → Tells A all labels t → Admitted A all t (now (live .entry)) (now (r .entry)) → Mated A all t (now (mates .exit)) (now (besides .exit))) ⌝ }
+    requires { ⌜ Mating n width (now needs) (now adds) (now adders) (now interferers) (now live) (now r) (now mates) (now besides) (now spare) ⌝ }
+    ensures { λ _. ⌜ ((A : Actions) (all : ℕ) (labels t : List ℕ) → Told A n (now (needs .entry)) (now (adds .entry)) (now (adders .entry)) (now (interferers .entry)) → Tells A all labels t → Admitted A all t (now (live .entry)) (now (r .entry)) → Mated A all t (now (mates .exit)) (now (besides .exit))) ⌝ }
 {
     if !many {
-        return few(needs, adds, foes, live, r, mates, besides, n, width);
+        return few(needs, adds, interferers, live, r, mates, besides, n, width);
     }
     turn(&mut *besides, r, needs.len(), n);
-    pairs(needs, foes, live, &*besides, &mut *mates, n, width);
+    pairs(needs, interferers, live, &*besides, &mut *mates, n, width);
     join_rows(&mut *spare, &*besides, &*mates, adders, width);
     turn(besides, &*spare, n, needs.len());
 }
@@ -69,7 +69,7 @@ fn next(
     width: usize,
 ) -> bool
     requires { ⌜ Nexting n width (now adders) (now besides) (now t) (now spare) (now turned) (now labels) ⌝ }
-    ensures { λ still. ⌜ Diagonal n (now (labels .exit)) (now (t .exit)) × ((A : Actions) (all : ℕ) (needs adds foes mates : List ℕ) → Told A n needs adds (now (adders .entry)) foes → Width n width needs → Tells A all (now (labels .entry)) (now (t .entry)) → Mated A all (now (t .entry)) mates (now (besides .entry)) → Next A all (now (t .entry)) (now (labels .exit)) (now (t .exit)) still) ⌝ }
+    ensures { λ still. ⌜ Diagonal n (now (labels .exit)) (now (t .exit)) × ((A : Actions) (all : ℕ) (needs adds interferers mates : List ℕ) → Told A n needs adds (now (adders .entry)) interferers → Width n width needs → Tells A all (now (labels .entry)) (now (t .entry)) → Mated A all (now (t .entry)) mates (now (besides .entry)) → Next A all (now (t .entry)) (now (labels .exit)) (now (t .exit)) still) ⌝ }
 {
     join_rows(&mut *spare, &*t, besides, adders, width);
     turn(&mut *turned, &*spare, n, n);
@@ -87,7 +87,7 @@ pub fn step(
     adds: &[u32],
     dels: &[u32],
     adders: &[u64],
-    foes: &[u64],
+    interferers: &[u64],
     all: u64,
     many: bool,
     width: usize,
@@ -99,8 +99,8 @@ pub fn step(
     besides: &mut [u64],
     spare: &mut [u64],
 ) -> bool
-    requires { ⌜ Ready n width at (now needs) (now adds) (now dels) (now adders) (now foes) (now labels) (now live) (now t) (now r) (now mates) (now besides) (now spare) (now words) ⌝ }
-    ensures { λ still. ⌜ ((A : Actions) → Told A n (now (needs .entry)) (now (adds .entry)) (now (adders .entry)) (now (foes .entry)) → Deletes A (now (dels .entry)) → Tells A all (now (labels .entry)) (now (t .entry)) → Stepped A all (now (t .entry)) (now (labels .exit)) (now (t .exit)) (now (words .entry)) (now (words .exit)) still) ⌝ }
+    requires { ⌜ Ready n width at (now needs) (now adds) (now dels) (now adders) (now interferers) (now labels) (now live) (now t) (now r) (now mates) (now besides) (now spare) (now words) ⌝ }
+    ensures { λ still. ⌜ ((A : Actions) → Told A n (now (needs .entry)) (now (adds .entry)) (now (adders .entry)) (now (interferers .entry)) → Deletes A (now (dels .entry)) → Tells A all (now (labels .entry)) (now (t .entry)) → Stepped A all (now (t .entry)) (now (labels .exit)) (now (t .exit)) (now (words .entry)) (now (words .exit)) still) ⌝ }
 {
     admit(
         needs,
@@ -119,7 +119,7 @@ pub fn step(
         needs,
         adds,
         adders,
-        foes,
+        interferers,
         &*live,
         &*r,
         &mut *mates,

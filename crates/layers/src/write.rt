@@ -9,17 +9,7 @@ ghost use Rattle.rules.specs.Layer.{pairs, size, rowOf};
 ghost use Rattle.rules.specs.Together.{layerBy};
 ghost use Rattle.words.specs.Memory.{putAt};
 ghost use Rattle.words.specs.Rows.{rowLength, tableLength, cell};
-ghost use Rattle.layers.specs.Write.{apart, Diagonal, Laid, besides, actionWords, Labelled};
-
-// Empty words at the front.
-pub fn clear(words: &mut [u64], count: usize)
-    requires { ⌜ count ≤ length (now words) ⌝ }
-    ensures { λ _. ⌜ now (words .exit) ≡ putAt 0 (listOver count (λ i. 0)) (now (words .entry)) ⌝ }
-{
-    for i in 0..count {
-        words[i] = 0;
-    }
-}
+ghost use Rattle.layers.specs.Write.{apart, Diagonal, Laid, actionRow, actionWords, Labelled};
 
 // Words from `to` on.
 fn put_words(words: &mut [u64], to: usize, from: &[u64])
@@ -65,7 +55,7 @@ fn put_rows(
     r: &[u64],
 ) -> usize
     requires { ⌜ Labelled n a (now live) (now labels) × (length (now mates) ≡ tableLength) × (length (now r) ≡ tableLength) × (to + (pairs a + a * n) ≤ length (now words)) ⌝ }
-    ensures { λ at. ⌜ (at ≡ to + (pairs a + a * n)) × (now (words .exit) ≡ putAt to (runOver a (besides n a (now (live .entry)) (now (labels .entry)) (now (mates .entry)) (now (r .entry)))) (now (words .entry))) ⌝ }
+    ensures { λ at. ⌜ (at ≡ to + (pairs a + a * n)) × (now (words .exit) ≡ putAt to (runOver a (actionRow n a (now (live .entry)) (now (labels .entry)) (now (mates .entry)) (now (r .entry)))) (now (words .entry))) ⌝ }
 {
     let mut at = to;
     for i in 0..a {

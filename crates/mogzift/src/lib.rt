@@ -1,10 +1,10 @@
 // The calls for C and Rust, over numbers and slices. A slice passes as a pointer and a length, the answer's room as a pointer to three numbers.
 mod tell;
 
+use build::BuildAnswer;
+use build::build;
 use extract::ExtractAnswer;
 use extract::extract;
-use graph::build::BuildAnswer;
-use graph::build::build;
 use level::LevelAnswer;
 use level::RestAnswer;
 use level::level;

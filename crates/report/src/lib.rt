@@ -7,7 +7,7 @@ mod put;
 use crate::fit::depth_for;
 use crate::lines::put_graph;
 use crate::lines::put_refused;
-use graph::build::build;
+use build::build;
 use graph::checks::check_output;
 use graph::file::FileAnswer;
 use graph::file::check_file;

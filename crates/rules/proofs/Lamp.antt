@@ -12,7 +12,7 @@ use Rattle.rules.specs.Lists.{listOver, runOver}
 use Rattle.rules.specs.Domain.{Actions, shapeOf, persistence, needsOf, addsOf, deletesOf, clobbers, domain}
 use Rattle.rules.specs.Layer.{pairs, size, pairAt, rowOf, layerOf, paired, labelIn, mutexIn, stride, wordCount, propsIn, actionsIn}
 use Rattle.rules.specs.Shared.{startLabel, startLayer, needsLabel, needsApart, vertexLabel, needsMutex, vertexMutex, actionLayer, nextLabel, oneAdds}
-use Rattle.rules.specs.Shared.{twoAdd, nextMutex, nextLayer, propLayer, vertexLayer, graphWords}
+use Rattle.rules.specs.Shared.{twoAdd, nextMutex, nextLayer, propFrom, propLayer, vertexLayer, graphWords}
 use Rattle.rules.specs.Level.{goalMet, firstMet, layerRests, firstRest, Rest, restsAt, none, restOf, Level, level, never, notByDepth, levelOf}
 use Rattle.rules.specs.Extract.{rank, closeUp, extractOf}
 use Rattle.rules.specs.Run.{ready, after, stepped, Ran, lacks, runFrom, runOf}
@@ -107,6 +107,6 @@ pub lamp-table : computed ≡ table
 unfolding lamp start built computed table _and_ _or_ _implies_ fails same below choose bit within meets keep joinOver meetOver removeOver allBelow
     anyBelow countBelow firstBelow listOver runOver persistence needsOf addsOf deletesOf clobbers domain pairs size pairAt rowOf layerOf paired labelIn
     mutexIn stride wordCount propsIn actionsIn startLabel startLayer needsLabel needsApart vertexLabel needsMutex vertexMutex actionLayer nextLabel
-    oneAdds twoAdd nextMutex nextLayer propLayer vertexLayer graphWords goalMet firstMet layerRests firstRest restOf levelOf rank closeUp extractOf
+    oneAdds twoAdd nextMutex nextLayer propFrom vertexLayer graphWords goalMet firstMet layerRests firstRest restOf levelOf rank closeUp extractOf
     ready after stepped runFrom runOf takes order support coverFrom cover ground onCover descend planAt planOf planCount countIn ones
 lamp-table = refl

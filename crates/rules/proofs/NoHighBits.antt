@@ -8,7 +8,7 @@ use Rattle.rules.specs.Word.{bit, single, first}
 use Rattle.rules.specs.Domain.{Domain}
 use Rattle.rules.specs.Layer.{labelIn}
 use Rattle.rules.specs.Shared.{startLabel, startLayer, needsLabel, needsApart, vertexLabel, vertexMutex, actionLayer, nextLabel, nextMutex, nextLayer}
-use Rattle.rules.specs.Shared.{propLayer, vertexLayer, graphWords}
+use Rattle.rules.specs.Shared.{propFrom, propLayer, vertexLayer, graphWords}
 use Rattle.rules.proofs.Words.{common-lt, without-lt, single-lt, first-lt}
 use Rattle.rules.proofs.Overs.{joinOver-lt, meetOver-lt, removeOver-lt, choose-lt, keep-lt}
 use Rattle.rules.proofs.Matches.{Matches, match-at, match-layer, match-graph}
@@ -58,7 +58,7 @@ module _ (D : Domain) (n : ℕ) (start : ℕ → ℕ) where
       (λ p q _ _. removeOver-lt n _ (D .vertices) _ (removeOver-lt n _ (D .vertices) _ (common-lt n _ _ (next-small a h p))))
 
   props-fits : (t : ℕ) → Fits n (propLayer D n start t)
-  unfolding propLayer
+  unfolding propFrom
   props-fits zero = start-fits
   props-fits (suc t) = next-fits _ (fits-small n _ (actions-fits (propLayer D n start t)))
 

@@ -89,9 +89,9 @@ module _ (m all : ℕ) (A : Actions) (sets : Sets m A) (t : ℕ → ℕ → ℕ)
   unfolding domain
   has s i h l = subst (Has (domain A .props) all t is s) (needs-action A i h) l
 
-  hurts : (v w : ℕ) → (v ≡ w → ⊥) → So (clobbers A v w) → So (paired false (domain A .interfere) v w)
+  interfering : (v w : ℕ) → (v ≡ w → ⊥) → So (clobbers A v w) → So (paired false (domain A .interfere) v w)
   unfolding domain
-  hurts v w ne c = paired-of _ v w (fails-of _ (λ e. ne (same-at _ _ e))) (ordered (λ a b. So (clobbers A a b or clobbers A b a)) v w (or-left _ _ c) (or-right _ _ c))
+  interfering v w ne c = paired-of _ v w (fails-of _ (λ e. ne (same-at _ _ e))) (ordered (λ a b. So (clobbers A a b or clobbers A b a)) v w (or-left _ _ c) (or-right _ _ c))
 
   behind : (i q : ℕ) → i < A .count → i ≡ persistence A q → ⊥
   unfolding persistence domain
@@ -103,7 +103,7 @@ module _ (m all : ℕ) (A : Actions) (sets : Sets m A) (t : ℕ → ℕ → ℕ)
 
   deletes-not : (i q : ℕ) → i < A .count → So (fails (paired false (domain A .interfere) i (persistence A q))) → So (bit q (A .del i)) → ⊥
   unfolding domain
-  deletes-not i q h f d = fails-at _ f (hurts i (persistence A q) (behind i q h)
+  deletes-not i q h f d = fails-at _ f (interfering i (persistence A q) (behind i q h)
       (clobbers-of A i (persistence A q) q (ap (bit q) (deletes-action A i h) ∙ d) (or-left _ _ (single-has q _ (needs-persistence A q)))))
 
   -- the persistence of q has what q has
@@ -169,19 +169,19 @@ module _ (m all : ℕ) (A : Actions) (sets : Sets m A) (t : ℕ → ℕ → ℕ)
       (holds-or (bit q (A .del i)))
 
   -- two actions
-  pub with-action : (i j : ℕ) (foe : Bool) → i < A .count → j < A .count → (i ≡ j → ⊥) → foe ≡ (clobbers A i j or clobbers A j i)
-      → choose foe 0 (meetOf m (A .pre i) (λ p. free j (persistence A p)) (common (label j) (label i))) ≡ free i j
+  pub with-action : (i j : ℕ) (interfere : Bool) → i < A .count → j < A .count → (i ≡ j → ⊥) → interfere ≡ (clobbers A i j or clobbers A j i)
+      → choose interfere 0 (meetOf m (A .pre i) (λ p. free j (persistence A p)) (common (label j) (label i))) ≡ free i j
   unfolding domain
-  with-action i j foe h k ne e = ⊎-elim
+  with-action i j interfere h k ne e = ⊎-elim
       (λ d. choose-held _ _ _ d ∙ ext-all _ _ (λ s. test-eq _ _ (λ b. absurd (no-bit-zero s b)) (λ b.
-      absurd (fails-at _ (goes s b .apart) (⊎-elim (hurts i j ne) (λ c. paired-turn (domain A .interfere) j i (hurts j i (λ q. ne (sym q)) c)) (or-at _ _ (sym e ∙ d)))))))
+      absurd (fails-at _ (goes s b .apart) (⊎-elim (interfering i j ne) (λ c. paired-turn (domain A .interfere) j i (interfering j i (λ q. ne (sym q)) c)) (or-at _ _ (sym e ∙ d)))))))
       (λ d. choose-failed _ _ _ d ∙ ext-all _ _ (λ s. test-eq _ _ (to s d) (from s)))
-      (holds-or foe)
+      (holds-or interfere)
     where
       goes : (s : ℕ) → So (bit s (free i j)) → Goes (domain A) all t is s i j
       goes s b = goes-at (domain A) all t is s i j (action-below A i h) (action-below A j k) ne b
 
-      to : (s : ℕ) → So (fails foe) → So (bit s (meetOf m (A .pre i) (λ p. free j (persistence A p)) (common (label j) (label i)))) → So (bit s (free i j))
+      to : (s : ℕ) → So (fails interfere) → So (bit s (meetOf m (A .pre i) (λ p. free j (persistence A p)) (common (label j) (label i)))) → So (bit s (free i j))
       to s d b =
           let (u, each) = meetOf-at s m (A .pre i) (common (label j) (label i)) (λ p. free j (persistence A p)) b in
           let c = sym (bit-common s (label j) (label i)) ∙ u in
@@ -207,7 +207,7 @@ module _ (m all : ℕ) (A : Actions) (sets : Sets m A) (t : ℕ → ℕ → ℕ)
           let hp : p < A .props = member-lt i p h np in
           let n : So (bit p (domain A .needs i)) = ap (bit p) (needs-action A i h) ∙ np in
           prop-of s j p k hp r (l .both p p hp hp np np)
-          (λ d. fails-at _ (g .apart) (paired-turn (domain A .interfere) j i (hurts j i (λ q. ne (sym q))
+          (λ d. fails-at _ (g .apart) (paired-turn (domain A .interfere) j i (interfering j i (λ q. ne (sym q))
           (clobbers-of A j i p (ap (bit p) (deletes-action A j k) ∙ d) (or-left _ _ n)))))
           (λ q hq nq. ap (bit s) (is .turn q p hq hp) ∙ g .across p q hp hq n (ap (bit q) (needs-action A j k) ∙ nq)))
 

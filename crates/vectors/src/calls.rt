@@ -21,8 +21,8 @@ use crate::memory::fill;
 use crate::memory::fill_sets;
 use crate::memory::low_u32;
 use crate::show::say_other;
+use build::BuildAnswer;
 use extract::ExtractAnswer;
-use graph::build::BuildAnswer;
 use level::LevelAnswer;
 use level::RestAnswer;
 use plan::PlanAnswer;
@@ -167,7 +167,7 @@ fn lay_graph(store: &[u8], c: Case, built: &[u64], graph: &mut [u64]) -> bool {
 // The memory stays as the build left it, for the calls behind it.
 fn call_build(store: &[u8], c: Case, built: &mut [u64]) -> Outcome {
     fill(&mut *built, c.fill, u64::MAX);
-    let answer = graph::build::build(stored(store, c.file), c.depth, &mut *built);
+    let answer = build::build(stored(store, c.file), c.depth, &mut *built);
     let d = digest(&built[..]);
     match answer {
         BuildAnswer::Built(n) => answered(a::BUILT, n, 0, d),

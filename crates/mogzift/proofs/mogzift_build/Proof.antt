@@ -1,6 +1,6 @@
 -- What `build` answered is returned and told; the words are as it left them.
 use borrow.Author.Needs.{needs}
-use Rattle.graph.specs.Build.{buildVerdict}
+use Rattle.build.specs.Rooms.{buildVerdict}
 use Rattle.graph.proofs.Verdicts.{told}
 use Rattle.mogzift.specs.Answer.{countSays}
 use Rattle.mogzift.proofs.Tells.{tells-accepted, tells-refused, with-memory}

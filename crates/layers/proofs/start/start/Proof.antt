@@ -2,7 +2,7 @@
 use mathlib.Core.Path.{_∙_}
 use native.Mathlib.Omega.{arith}
 use borrow.Author.Needs.{needs}
-use Rattle.layers.proofs.Rows.{parts-le}
+use Rattle.together.proofs.Rows.{parts-le}
 use Rattle.layers.proofs.Starts.{start-diagonal, start-layer, start-tells}
 use Rattle.layers.proofs.start.start.Statement.{statement}
 use Rattle.layers.proofs.start.start.Tie as tie

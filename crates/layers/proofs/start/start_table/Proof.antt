@@ -9,7 +9,7 @@ use Rattle.rules.specs.Over.{meetOf}
 use Rattle.rules.proofs.Members.{meet-empty}
 use Rattle.words.specs.Rows.{rowLength, cell}
 use Rattle.words.proofs.Cells.{Rows, rows-none, rows-put}
-use Rattle.layers.proofs.Rows.{parts-le}
+use Rattle.together.proofs.Rows.{parts-le}
 use Rattle.layers.proofs.start.start_table.Statement.{statement}
 use Rattle.layers.proofs.start.start_table.Tie as tie
 

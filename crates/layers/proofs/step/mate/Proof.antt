@@ -2,7 +2,7 @@
 use native.Mathlib.Omega.{arith}
 use borrow.Author.Needs.{needs}
 use lib.ListN.{length}
-use Rattle.layers.proofs.Rows.{parts-le}
+use Rattle.together.proofs.Rows.{parts-le}
 use Rattle.layers.proofs.Stages.{few-made, rows-made}
 use Rattle.layers.proofs.step.mate.Statement.{statement}
 use Rattle.layers.proofs.step.mate.Tie as tie
@@ -21,7 +21,7 @@ returns c = λ A all labels t told is adm.
     let start = c .before .before .before .before .before .before .before .before .before .before .before .before .before .before .before .before .before in
     let a = start .args in
     let did = c .before .before .before .before .few .ensures in
-    few-made A all (a .n) (a .width) (a .needs .now) (a .adds .now) (a .adders .now) (a .foes .now) (a .live .now) (a .r .now) labels t told (start .pre .wide) is adm
+    few-made A all (a .n) (a .width) (a .needs .now) (a .adds .now) (a .adders .now) (a .interferers .now) (a .live .now) (a .r .now) labels t told (start .pre .wide) is adm
     _ _ (did .0) (did .1)
 
 turn-requires : tie.Need-turn-requires
@@ -34,8 +34,8 @@ pairs-requires : tie.Need-pairs-requires
 pairs-requires c κs = let start = c .before .before .before .before .before .before .before .before .before .before .before .before .before .before .before .before in
     record {
       wide = start .pre .wide;
-      foes-long = start .pre .foes-long;
-      foes-inside = start .pre .foes-inside;
+      interferers-long = start .pre .interferers-long;
+      interferers-inside = start .pre .interferers-inside;
       live-long = start .pre .live-long;
       turned-long = omega (arith, start .pre .besides-long, c .before .before .before .before .turn .kept .0);
       mates-long = start .pre .mates-long;
@@ -76,7 +76,7 @@ returns-2 : tie.Need-returns-2
 returns-2 c = λ A all labels t told is adm.
     let start = c .before .before .before .before .before .before .before .before .before .before .before .before .before .before .before .before .before .before .before .before .before .before .before .before .before .before .before .before .before .before in
     let a = start .args in
-    rows-made A all (a .n) (a .width) (a .needs .now) (a .adds .now) (a .adders .now) (a .foes .now) (a .live .now) (a .r .now) labels t told (start .pre .wide) is adm
+    rows-made A all (a .n) (a .width) (a .needs .now) (a .adds .now) (a .adders .now) (a .interferers .now) (a .live .now) (a .r .now) labels t told (start .pre .wide) is adm
     _ _ _ _ (start .pre .adders-long) (c .before .before .before .before .before .before .before .before .before .before .before .before .before .before .before .before .before .before .turn .ensures) (c .before .before .before .before .before .before .before .before .before .before .before .before .before .pairs .ensures) (c .before .before .before .before .before .before .before .join-rows .ensures) (c .before .before .turn2 .ensures)
 
 pub mate-spec : {M : Type 1} → statement M

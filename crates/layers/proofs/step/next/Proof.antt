@@ -2,7 +2,7 @@
 use native.Mathlib.Omega.{arith}
 use borrow.Author.Needs.{needs}
 use lib.ListN.{length}
-use Rattle.layers.proofs.Rows.{parts-le}
+use Rattle.together.proofs.Rows.{parts-le}
 use Rattle.layers.proofs.Stages.{diagonal-told, next-made}
 use Rattle.layers.proofs.step.next.Statement.{statement}
 use Rattle.layers.proofs.step.next.Tie as tie
@@ -61,7 +61,7 @@ returns c =
     let start = c .before .before .before .before .before .before .before .before .before .before .before .before .before .before .before .before .before .before .before .before .before .before .before .before .before .before .before in
     let a = start .args in (
       diagonal-told (a .n) (a .labels .now) _ _ (c .before .before .diagonal .ensures) (omega (arith, start .pre .labels-long, start .pre .props, parts-le (start .pre .parts))),
-      λ A all needs adds foes mates told wide is mat. next-made A all (a .n) (a .width) _ needs adds (a .adders .now) foes mates (a .labels .now) (a .t .now) (a .besides .now) (a .spare .now) (a .turned .now) _ _
+      λ A all needs adds interferers mates told wide is mat. next-made A all (a .n) (a .width) _ needs adds (a .adders .now) interferers mates (a .labels .now) (a .t .now) (a .besides .now) (a .spare .now) (a .turned .now) _ _
           told wide (start .pre) is mat _ _ (c .before .before .before .before .before .before .before .before .before .before .before .before .before .before .before .before .before .before .join-rows .ensures) (c .before .before .before .before .before .before .before .before .before .before .before .before .before .turn .ensures) (c .before .before .before .before .before .before .before .join-tables .ensures .0) (c .before .before .before .before .before .before .before .join-tables .ensures .1)
           (c .before .before .diagonal .ensures),
     )

@@ -6,7 +6,7 @@ use borrow.Author.Needs.{needs}
 use borrow.Rule.Slice.PartMut.{same-len-mid}
 use lib.ListN.{length}
 use Rattle.words.proofs.Writes.{tail-length}
-use Rattle.layers.proofs.Rows.{parts-le}
+use Rattle.together.proofs.Rows.{parts-le}
 use Rattle.layers.proofs.Stages.{step-made}
 use Rattle.layers.proofs.step.step.Statement.{statement}
 use Rattle.layers.proofs.step.step.Tie as tie
@@ -22,8 +22,8 @@ mate-requires c κs = let start = c .before .before .before .before .before .bef
       adds-long = m .adds-long;
       adders-long = m .adders-long;
       adders-inside = m .adders-inside;
-      foes-long = m .foes-long;
-      foes-inside = m .foes-inside;
+      interferers-long = m .interferers-long;
+      interferers-inside = m .interferers-inside;
       live-long = c .before .before .before .before .before .before .before .before .before .admit .kept .1 .1 .1 .1 .1 .1 .0 ∙ m .live-long;
       r-long = c .before .before .before .before .before .before .before .before .before .admit .kept .1 .1 .1 .1 .1 .0 ∙ m .r-long;
       mates-long = m .mates-long;
@@ -121,7 +121,7 @@ returns : tie.Need-returns
 returns c = λ A told del is.
     let start = c .before .before .before .before .before .before .before .before .before .before .before .before .before .before .before .before .before .before .before .before .before .before .before .before .before .before .before .before .before .before .before .before .before .before .before .before .before .before .before .before .before .before .before .before .before .before .before .before .before .before .before .before .before .before .before .before .before .before .before .before .before .before .before in
     let a = start .args in
-    step-made A (a .all) (a .n) (a .width) (a .at) _ (a .needs .now) (a .adds .now) (a .dels .now) (a .adders .now) (a .foes .now) (a .labels .now) (a .live .now) (a .t .now)
+    step-made A (a .all) (a .n) (a .width) (a .at) _ (a .needs .now) (a .adds .now) (a .dels .now) (a .adders .now) (a .interferers .now) (a .labels .now) (a .live .now) (a .t .now)
     (a .r .now) (a .mates .now) (a .besides .now) (a .spare .now) (a .words .now) _ _ _ _ _ _ _ _ (start .pre) told del is
     (c .before .before .before .before .before .before .before .before .before .before .before .before .before .before .before .before .before .before .before .before .before .before .before .before .before .before .before .before .before .before .before .before .before .before .before .before .before .before .before .before .before .before .before .before .before .admit .ensures .0) (c .before .before .before .before .before .before .before .before .before .before .before .before .before .before .before .before .before .before .before .before .before .before .before .before .before .before .before .before .before .before .before .before .before .before .before .before .before .before .before .before .before .before .before .before .before .admit .ensures .1) (c .before .before .before .before .before .before .before .before .before .before .before .before .before .before .before .before .before .before .before .before .before .before .before .before .before .before .before .before .before .before .before .before .before .before .before .mate .ensures) (c .before .before .before .before .before .before .before .before .before .before .before .before .before .before .before .before .before .before .before .before .before .before .put-actions .ensures) (c .before .before .before .before .before .before .before .before .before .before .before .before .before .before .next .ensures .1) (c .before .before .put-props .ensures)
 

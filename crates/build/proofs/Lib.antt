@@ -1,0 +1,4 @@
+-- Laws that the proofs of the functions cite.
+pub mod Builds
+pub mod Repeats
+pub mod Listings

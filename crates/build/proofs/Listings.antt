@@ -1,0 +1,159 @@
+-- The lists that the build reads tell the file's actions.
+-- Assumes nothing.
+use Prim.Native.Nat.{ℕ, _+_, _*_, _≤_, _<_, _^_}
+use mathlib.Core.Path.{_≡_, refl, sym, ap, ap₂, subst, _∙_}
+use mathlib.Core.Bool.{Bool, So}
+use mathlib.Core.List.{List, _++_}
+use native.Mathlib.Nat.{lt-of-lt-of-le}
+use native.Mathlib.Omega.{arith}
+use lib.ListN.{length, getD, List·getD-append}
+use lib.Pow.{pow-mono}
+use Rattle.rules.specs.Test.{_or_}
+use Rattle.rules.specs.Word.{bit, union, single, meets, first}
+use Rattle.rules.specs.Over.{keep}
+use Rattle.rules.specs.Lists.{listOver}
+use Rattle.rules.specs.Domain.{Actions, needsOf, addsOf, deletesOf, clobbers}
+use Rattle.rules.specs.Shared.{startLabel}
+use Rattle.rules.proofs.Overs.{joinOver-eq, joinOver-lt, keep-lt}
+use Rattle.rules.proofs.Words.{single-lt, bit-below, bit-first}
+use Rattle.rules.proofs.Tests.{below-of}
+use Rattle.rules.proofs.Members.{bit-those, startLabel-lt}
+use Rattle.rules.proofs.Layers.{getD-listOver, length-listOver}
+use Rattle.rules.proofs.Domains.{needs-action, adds-action, deletes-action}
+use Rattle.words.specs.Rows.{rowLength, InParts, Inside, columnsOf}
+use Rattle.together.specs.Interference.{clobbersIn, interferersOf}
+use Rattle.together.specs.Cells.{Width}
+use Rattle.layers.specs.Step.{Told, Deletes}
+use Rattle.rules.specs.Layer.{size, stride, wordCount}
+use Rattle.rules.proofs.Layouts.{count-stride}
+use Rattle.graph.specs.Format.{setAt, actionsOf, shapeIn}
+use Rattle.graph.specs.File.{Taken}
+use Rattle.build.specs.Rooms.{Read}
+use Rattle.graph.specs.declared.format.Counts.{Counts}
+
+-- the labels of n sets that are the same
+pub startLabel-eq : (n : ℕ) (f g : ℕ → ℕ) (p : ℕ) → ((i : ℕ) → i < n → f i ≡ g i) → startLabel n f p ≡ startLabel n g p
+unfolding startLabel
+startLabel-eq n f g p e = joinOver-eq n _ _ (λ i h. ap (λ (x : ℕ). keep (bit p x) (single i)) (e i h))
+
+-- the labels that were made at the front of a row
+pub labels-read : (n m : ℕ) (start : ℕ → ℕ) (xs starts row rest : List ℕ) → length row ≡ n → xs ≡ columnsOf (length row) starts → starts ≡ listOver m start
+    → (p : ℕ) → p < n → getD (xs ++ rest) p 0 ≡ startLabel m start p
+unfolding columnsOf
+labels-read n m start xs starts row rest e ex es p h =
+    let f : ℕ → ℕ = startLabel (length starts) (λ i. getD starts i 0) in
+    let ex' : xs ≡ listOver n f = ex ∙ ap (λ (x : ℕ). listOver x f) e in
+    List·getD-append xs rest 0 p (omega (arith, ap length ex', length-listOver n f)) ∙ ap (λ (l : List ℕ). getD l p 0) ex' ∙ getD-listOver n f p h
+    ∙ ap (λ (x : ℕ). startLabel x (λ i. getD starts i 0) p) (ap length es ∙ length-listOver m start)
+    ∙ startLabel-eq m _ _ p (λ i k. ap (λ (l : List ℕ). getD l i 0) es ∙ getD-listOver m start i k)
+
+-- no label names a state that is not there
+pub label-inside : (n : ℕ) (start : ℕ → ℕ) (s p x : ℕ) → x ≡ startLabel n start p → So (bit s x) → So (bit s (first n))
+label-inside n start s p x e b =
+    bit-first s n ∙ below-of s n (bit-below s (startLabel n start p) n (startLabel-lt n start p) (ap (bit s) (sym e) ∙ b))
+
+module _ (file : List ℕ) (c : Counts) (needs adds dels adders interferers : List ℕ) (taken : Taken file c) (is : Read file c needs adds dels adders interferers) where
+  abbrev A : Actions
+  A = actionsOf file c
+
+  pub needs-count : length needs ≡ c .actions
+  needs-count = ap length (is .needs-are) ∙ length-listOver (c .actions) _
+
+  adds-count : length adds ≡ c .actions
+  adds-count = ap length (is .adds-are) ∙ length-listOver (c .actions) _
+
+  pre-is : (i : ℕ) → i < c .actions → getD needs i 0 ≡ A .pre i
+  pre-is i h = ap (λ (l : List ℕ). getD l i 0) (is .needs-are) ∙ getD-listOver (c .actions) _ i h
+
+  add-is : (i : ℕ) → i < c .actions → getD adds i 0 ≡ A .add i
+  add-is i h = ap (λ (l : List ℕ). getD l i 0) (is .adds-are) ∙ getD-listOver (c .actions) _ i h
+
+  del-is : (i : ℕ) → i < c .actions → getD dels i 0 ≡ A .del i
+  del-is i h = ap (λ (l : List ℕ). getD l i 0) (is .dels-are) ∙ getD-listOver (c .actions) _ i h
+
+  clobbers-is : (i j : ℕ) → i < c .actions → j < c .actions → clobbersIn needs adds dels i j ≡ clobbers A i j
+  unfolding clobbersIn clobbers actionsOf
+  clobbers-is i j h k =
+      ap₂ meets (del-is i h ∙ sym (deletes-action A i h)) (ap₂ union (pre-is j k ∙ sym (needs-action A j k)) (add-is j k ∙ sym (adds-action A j k)))
+
+  interferers-is : (i : ℕ) → i < c .actions → getD interferers i 0 ≡ interferersOf needs adds dels i
+  interferers-is i h = ap (λ (l : List ℕ). getD l i 0) (is .interferers-are) ∙ getD-listOver (length needs) _ i (omega (arith, needs-count))
+
+  pub told : Told A (c .props) needs adds adders interferers
+  unfolding actionsOf columnsOf interferersOf
+  told = record {
+    props = refl;
+    count = sym needs-count;
+    pre = pre-is;
+    add = add-is;
+    by = λ p h.
+        ap (λ (l : List ℕ). getD l p 0) (is .adders-are) ∙ getD-listOver (c .props) _ p h
+        ∙ ap (λ (x : ℕ). startLabel x (λ i. getD adds i 0) p) adds-count ∙ startLabel-eq (c .actions) _ _ p (λ i k. add-is i k);
+    interfere = λ i j h k.
+        ap (bit j) (interferers-is i h) ∙ bit-those (length needs) (λ j. clobbersIn needs adds dels i j or clobbersIn needs adds dels j i) j (omega (arith, needs-count))
+        ∙ ap₂ _or_ (clobbers-is i j h k) (clobbers-is j i k h);
+  }
+
+  pub deletes : Deletes A dels
+  unfolding actionsOf
+  deletes = del-is
+
+  -- the sets of a taken file are sets of its propositions
+  set-lt : (i k at : ℕ) → i < c .actions → k < 3 → at ≡ 8 + 12 * i + 4 * k → setAt file at < 2 ^ c .props
+  set-lt i k at h l e =
+      let q : 8 + 4 * (3 * i + k) ≡ at = omega arith in
+      subst (λ (x : ℕ). setAt file x < 2 ^ c .props) q (taken .sets (3 * i + k) (omega arith))
+
+  pub needs-inside : Inside (c .props) needs
+  unfolding actionsOf
+  needs-inside i h =
+      let k : i < c .actions = omega (arith, needs-count) in
+      subst (λ (x : ℕ). x < 2 ^ c .props) (sym (pre-is i k)) (set-lt i 0 _ k (omega arith) (omega arith))
+
+  pub deletes-inside : Inside (c .props) dels
+  unfolding actionsOf
+  deletes-inside i h =
+      let k : i < c .actions = omega (arith, ap length (is .dels-are), length-listOver (c .actions) (A .del)) in
+      subst (λ (x : ℕ). x < 2 ^ c .props) (sym (del-is i k)) (set-lt i 2 _ k (omega arith) (omega arith))
+
+  few : c .actions ≤ rowLength
+  few = omega (arith, taken .ranged .actions)
+
+  pub adders-inside : Inside rowLength adders
+  unfolding columnsOf
+  adders-inside p h =
+      let k : p < c .props = omega (arith, ap length (is .adders-are), length-listOver (c .props) (startLabel (length adds) (λ i. getD adds i 0))) in
+      subst (λ (x : ℕ). x < 2 ^ rowLength) (sym (ap (λ (l : List ℕ). getD l p 0) (is .adders-are) ∙ getD-listOver (c .props) _ p k))
+      (let le : length adds ≤ rowLength = omega (arith, adds-count, few) in lt-of-lt-of-le (startLabel-lt (length adds) (λ i. getD adds i 0) p) (pow-mono le))
+
+  pub interferers-inside : Inside rowLength interferers
+  unfolding interferersOf
+  interferers-inside i h =
+      let k : i < c .actions = omega (arith, ap length (is .interferers-are), length-listOver (length needs) (interferersOf needs adds dels), needs-count) in
+      subst (λ (x : ℕ). x < 2 ^ rowLength) (sym (interferers-is i k))
+      (let le : length needs ≤ rowLength = omega (arith, needs-count, few) in lt-of-lt-of-le (joinOver-lt (length needs) _ (length needs) (λ j l. keep-lt (length needs) _ (single j) (λ t. single-lt (length needs) j l)))
+      (pow-mono le))
+
+  pub wide-for : (width : ℕ) → InParts width → c .props ≤ width → c .actions ≤ width → Width (c .props) width needs
+  wide-for width parts p a = record { parts = parts; props = p; actions = omega (arith, needs-count); inside = needs-inside }
+
+  pub adds-same : length adds ≡ length needs
+  adds-same = adds-count ∙ sym needs-count
+
+  pub dels-same : length dels ≡ length needs
+  dels-same = ap length (is .dels-are) ∙ length-listOver (c .actions) _ ∙ sym needs-count
+
+  pub adders-count : length adders ≡ c .props
+  unfolding columnsOf
+  adders-count = ap length (is .adders-are) ∙ length-listOver (c .props) _
+
+  pub interferers-same : length interferers ≡ length needs
+  interferers-same = ap length (is .interferers-are) ∙ length-listOver (length needs) _
+
+  -- the words of the graph, as the steps count them
+  pub steps-fit : (depth len : ℕ) → wordCount (shapeIn c) depth ≤ len → size (c .props) + depth * (size (length needs + c .props) + size (c .props)) ≤ len
+  unfolding stride
+  steps-fit depth len h =
+      let e : size (length needs + c .props) ≡ size (c .actions + c .props) = ap (λ (x : ℕ). size (x + c .props)) needs-count in
+      let q : depth * (size (length needs + c .props) + size (c .props)) ≡ depth * (size (c .props) + size (c .actions + c .props)) = ap (λ (x : ℕ). depth * x) (omega arith) in
+      omega (arith, count-stride (shapeIn c) depth)

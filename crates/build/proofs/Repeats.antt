@@ -1,0 +1,215 @@
+-- Where the graph rests all later words are copies.
+-- Assumes nothing.
+use Prim.Native.Nat.{ℕ, zero, suc, _+_, _-_, _*_, _/_, _%_, _≤_, _<_}
+use mathlib.Core.Path.{_≡_, refl, sym, ap, ap₂, subst, _∙_}
+use mathlib.Core.Bool.{Bool, false, So, false≢true}
+use mathlib.Core.Logic.{by-cases}
+use mathlib.Core.List.{List, _++_, append-nil}
+use native.Mathlib.Decide.{decLe}
+use native.Mathlib.Nat.{mul-le-mul, le-refl, suc-mul, zero-mul, mul-zero, one-mul, add-mul, mul-le-mul-right, add-sub-of-le}
+use native.Mathlib.Nat.{mod-lt, mod-eq-of-lt, mod-eq-sub-mod, mul-add-mod-self-right, div-add-mod', mul-assoc}
+use native.Mathlib.Numerals.{add-one}
+use native.Mathlib.Omega.{arith}
+use borrow.Rule.Slice.PartMut.{putMid}
+use lib.ListN.{length, getD, take, drop, length-append, drop-of-length-le}
+use lib.Seq.{getD-take, getD-append-add, drop-at, drop-drop, length-take-le, ext-getD}
+use Rattle.rules.specs.Test.{same}
+use Rattle.rules.specs.Over.{allBelow}
+use Rattle.rules.specs.Lists.{listOver, runOver}
+use Rattle.rules.specs.Domain.{Domain, shapeOf}
+use Rattle.rules.specs.Layer.{size, stride}
+use Rattle.rules.specs.Shared.{propFrom}
+use Rattle.rules.proofs.Tests.{same-at, test-eq}
+use Rattle.rules.proofs.Overs.{all-at}
+use Rattle.rules.proofs.Rests.{rests}
+use Rattle.rules.proofs.Layers.{run-append, list-append, length-listOver, getD-listOver, listOver-eq, listOver-self, runOver-eq, length-runOver}
+use Rattle.words.specs.Memory.{putAt}
+use Rattle.layers.specs.Step.{stepWords}
+use Rattle.build.specs.Steps.{Ended}
+use Rattle.words.proofs.Writes.{Lists, list-front, same-word, put-put, put-word, put-front, tail-all, tail-length}
+use Rattle.build.proofs.Builds.{step-length}
+
+-- ---- a loop that writes the `far` words before `to` again and again
+
+module _ {w₀ : List ℕ} {to far n i : ℕ} {w : List ℕ} (s : Lists (λ k. getD w₀ (to - far + k % far) 0) to n w₀ i w) (some : 0 < far) (near : far ≤ to)
+    (h : i < n) where
+  before : i < far → getD w (to + i - far) 0 ≡ getD w₀ (to - far + i % far) 0
+  before l =
+      let place : to + i - far ≡ to - far + i % far = omega (arith, mod-eq-of-lt l) in
+      same-word to (to + i - far) w w₀ (list-front to s (le-refl to)) (omega arith) ∙ ap (λ (x : ℕ). getD w₀ x 0) place
+
+  behind : far ≤ i → getD w (to + i - far) 0 ≡ getD w₀ (to - far + i % far) 0
+  behind l =
+      let f : ℕ → ℕ = λ k. getD w₀ (to - far + k % far) 0 in
+      let place : to + i - far ≡ to + (i - far) = omega arith in
+      ap₂ (λ (x : List ℕ) (y : ℕ). getD x y 0) (s .is) place
+      ∙ put-word to (listOver i f) w₀ (omega (arith, length-listOver i f, s .room)) (i - far) (omega (arith, length-listOver i f))
+      ∙ getD-listOver i f (i - far) (omega arith) ∙ ap (λ (x : ℕ). getD w₀ (to - far + x) 0) (sym (mod-eq-sub-mod l))
+
+  -- the word that is read stood before `to`, or the loop wrote it
+  pub repeat-word : getD w (to + i - far) 0 ≡ getD w₀ (to - far + i % far) 0
+  repeat-word = by-cases (decLe far i) behind (λ f. before (omega arith))
+
+-- words that go by the remainder are one list again and again
+list-again : (m s : ℕ) (f : ℕ → ℕ) → listOver (m * s) (λ i. f (i % s)) ≡ runOver m (λ t. listOver s f)
+unfolding listOver runOver
+list-again zero s f = ap (λ (x : ℕ). listOver x (λ i. f (i % s))) (zero-mul s)
+list-again (suc m) s f =
+    ap (λ (x : ℕ). listOver x (λ i. f (i % s))) (suc-mul m s)
+    ∙ list-append (m * s) s (λ i. f (i % s))
+    ∙ ap₂ (λ (x y : List ℕ). x ++ y) (list-again m s f) (listOver-eq s _ f (λ i h. ap f (mul-add-mod-self-right m s i ∙ mod-eq-of-lt h)))
+
+-- ---- the steps that are left
+
+-- from one proposition layer to the next
+abbrev apart : Domain → ℕ
+apart D = size (D .vertices) + size (D .props)
+
+-- the words of step k over the layer l
+abbrev step : Domain → ℕ → List ℕ → ℕ → List ℕ
+step D all l k = stepWords D all (propFrom D all l k)
+
+steps-length : (D : Domain) (all : ℕ) (l : List ℕ) (k : ℕ) → length (runOver k (step D all l)) ≡ k * apart D
+steps-length D all l k = length-runOver (step D all l) (apart D) k (λ i h. step-length D all (propFrom D all l i))
+
+-- no factor of a product above 0 is 0
+factors : (a b : ℕ) → 0 < a * b → (0 < a) × (0 < b)
+factors zero b h = absurd (omega (arith, zero-mul b))
+factors (suc a) zero h = absurd (omega (arith, mul-zero (suc a)))
+factors (suc a) (suc b) h = (omega arith, omega arith)
+
+module _ {D : Domain} {all : ℕ} {l : List ℕ} {depth : ℕ} {w₀ : List ℕ} {t : ℕ} {w : List ℕ} (s : Ended D all l depth w₀ t w)
+    (room : depth * apart D + size (D .props) ≤ length w₀) where
+  products : t * apart D + (depth - t) * apart D ≡ depth * apart D
+  products = sym (add-mul t (depth - t) (apart D)) ∙ ap (λ (x : ℕ). x * apart D) (add-sub-of-le (s .within))
+
+  fits : size (D .props) + length (runOver t (step D all l)) ≤ length w₀
+  fits = omega (arith, steps-length D all l t, products)
+
+  -- the last words written are those of the last step
+  last-word : 0 < t → (i : ℕ) → i < apart D → getD w (size (D .props) + t * apart D - apart D + i) 0
+      ≡ getD (step D all l (t - 1)) i 0
+  unfolding runOver
+  last-word some i h =
+      let q : t ≡ suc (t - 1) = omega arith in
+      let before : ℕ = length (runOver (t - 1) (step D all l)) in
+      let product : t * apart D ≡ before + apart D =
+      ap (λ (x : ℕ). x * apart D) q ∙ suc-mul (t - 1) (apart D) ∙ omega (arith, steps-length D all l (t - 1)) in
+      let place : size (D .props) + t * apart D - apart D + i ≡ size (D .props) + (before + i) = omega arith in
+      ap₂ (λ (x : List ℕ) (y : ℕ). getD x y 0) (s .is) place
+      ∙ put-word (size (D .props)) (runOver t (step D all l)) w₀ fits (before + i) (omega (arith, steps-length D all l t))
+      ∙ ap (λ (x : ℕ). getD (runOver x (step D all l)) (before + i) 0) q
+      ∙ getD-append-add (runOver (t - 1) (step D all l)) (step D all l (t - 1)) i 0
+
+  -- and of each step that is left
+  left-step : (k : ℕ) → t < depth → listOver (apart D) (λ i. getD w (size (D .props) + t * apart D - apart D + i) 0)
+      ≡ step D all l (t + k)
+  left-step k h =
+      let (some, e) = s .rests h in
+      let q : t ≡ suc (t - 1) = omega arith in
+      let last : List ℕ = step D all l (t - 1) in
+      listOver-eq (apart D) _ (λ i. getD last i 0) (last-word some)
+      ∙ ap (λ (x : ℕ). listOver x (λ i. getD last i 0)) (sym (step-length D all (propFrom D all l (t - 1)))) ∙ listOver-self last
+      ∙ ap (stepWords D all) (sym (rests D all l (t - 1) (e ∙ ap (propFrom D all l) q) (t + k) (omega arith)))
+
+  -- they begin at `at + t * far`
+  module _ (at far : ℕ) (ea : at ≡ size (D .props)) (ef : far ≡ apart D) where
+    -- written again and again, it makes all steps to the depth
+    pub left-put : (w₂ : List ℕ) → w₂ ≡ putAt (at + t * far) (listOver ((depth - t) * far) (λ i. getD w (at + t * far - far + i % far) 0)) w
+        → w₂ ≡ putAt (size (D .props)) (runOver depth (λ k. stepWords D all (propFrom D all l k))) w₀
+    left-put w₂ e =
+        let left : List ℕ = runOver (depth - t) (λ k. step D all l (t + k)) in
+        e
+        ∙ ap₂ (λ (x y : ℕ). putAt (x + t * y) (listOver ((depth - t) * y) (λ i. getD w (x + t * y - y + i % y) 0)) w) ea ef
+        ∙ ap₂ (λ (x : List ℕ) (y : ℕ). putAt (size (D .props) + y) x w)
+        (list-again (depth - t) (apart D) (λ i. getD w (size (D .props) + t * apart D - apart D + i) 0)
+        ∙ runOver-eq (depth - t) _ (λ k. step D all l (t + k)) (λ k h. left-step k (omega arith)))
+        (sym (steps-length D all l t))
+        ∙ ap (putAt (size (D .props) + length (runOver t (step D all l))) left) (s .is)
+        ∙ put-put (size (D .props)) (runOver t (step D all l)) w₀ fits left
+        ∙ ap (λ (x : List ℕ). putAt (size (D .props)) x w₀)
+        (sym (run-append t (depth - t) (step D all l)) ∙ ap (λ (x : ℕ). runOver x (step D all l)) (add-sub-of-le (s .within)))
+
+-- ---- words copied from one stride back, then from many strides back
+
+-- a remainder by many strides, by one
+mod-many : (i m s : ℕ) → i % (m * s) % s ≡ i % s
+mod-many i m s =
+    let e : i ≡ i / (m * s) * (m * s) + i % (m * s) = sym (div-add-mod' i (m * s)) in
+    sym (mul-add-mod-self-right (i / (m * s) * m) s (i % (m * s))) ∙ ap (λ (x : ℕ). x % s) (ap (λ (x : ℕ). x + i % (m * s)) (mul-assoc (i / (m * s)) m s)
+    ∙ sym e)
+
+module _ (to s m : ℕ) (w₀ w₁ : List ℕ) (some : 0 < s) (back : s ≤ to) (room : to + m * s ≤ length w₀)
+    (e₁ : w₁ ≡ putAt to (listOver (m * s) (λ k. getD w₀ (to - s + k % s) 0)) w₀) where
+  abbrev copied : List ℕ
+  copied = listOver (m * s) (λ k. getD w₀ (to - s + k % s) 0)
+
+  long : to + length copied ≤ length w₀
+  long = omega (arith, length-listOver (m * s) (λ k. getD w₀ (to - s + k % s) 0))
+
+  -- what stands many strides back is what one stride back would give
+  far-word : (i x : ℕ) → x ≡ i % (suc m * s) → getD w₁ (to - s + x) 0 ≡ getD w₀ (to - s + (m * s + i) % s) 0
+  far-word i x e = by-cases (decLe s x) later sooner
+    where
+      short : x < suc m * s
+      short = subst (λ (y : ℕ). y < suc m * s) (sym e) (mod-lt i (omega (arith, suc-mul m s)))
+
+      target : getD w₀ (to - s + x % s) 0 ≡ getD w₀ (to - s + (m * s + i) % s) 0
+      target = ap (λ (y : ℕ). getD w₀ (to - s + y) 0) (ap (λ (y : ℕ). y % s) e ∙ mod-many i (suc m) s ∙ sym (mul-add-mod-self-right m s i))
+
+      later : s ≤ x → getD w₁ (to - s + x) 0 ≡ getD w₀ (to - s + (m * s + i) % s) 0
+      later h =
+          let q : to - s + x ≡ to + (x - s) = omega arith in
+          let k : x - s < m * s = omega (arith, short, suc-mul m s) in
+          ap₂ (λ (l : List ℕ) (y : ℕ). getD l y 0) e₁ q
+          ∙ put-word to copied w₀ long (x - s) (omega (arith, length-listOver (m * s) (λ k. getD w₀ (to - s + k % s) 0)))
+          ∙ getD-listOver (m * s) (λ k. getD w₀ (to - s + k % s) 0) (x - s) k
+          ∙ ap (λ (y : ℕ). getD w₀ (to - s + y) 0) (sym (mod-eq-sub-mod h)) ∙ target
+
+      sooner : (s ≤ x → ⊥) → getD w₁ (to - s + x) 0 ≡ getD w₀ (to - s + (m * s + i) % s) 0
+      sooner h =
+          let k : x < s = omega arith in
+          same-word to (to - s + x) w₁ w₀ (ap (take to) e₁ ∙ put-front to copied w₀ long to (le-refl to)) (omega arith)
+          ∙ ap (λ (y : ℕ). getD w₀ (to - s + y) 0) (sym (mod-eq-of-lt k)) ∙ target
+
+  pub again-put : (rest : ℕ) (w₂ : List ℕ)
+      → w₂ ≡ putAt (to + m * s) (listOver rest (λ i. getD w₁ (to + m * s - suc m * s + i % (suc m * s)) 0)) w₁
+      → w₂ ≡ putAt to (listOver (m * s + rest) (λ k. getD w₀ (to - s + k % s) 0)) w₀
+  again-put rest w₂ e₂ =
+      let g : ℕ → ℕ = λ k. getD w₀ (to - s + k % s) 0 in
+      let here : to + m * s - suc m * s ≡ to - s = omega (arith, suc-mul m s) in
+      let l : length copied ≡ m * s = length-listOver (m * s) g in
+      e₂
+      ∙ ap (λ (x : List ℕ). putAt (to + m * s) x w₁) (listOver-eq rest _ (λ i. g (m * s + i)) (λ i h.
+      ap (λ (y : ℕ). getD w₁ (y + i % (suc m * s)) 0) here ∙ far-word i (i % (suc m * s)) refl))
+      ∙ ap₂ (λ (x : ℕ) (y : List ℕ). putAt (to + x) (listOver rest (λ i. g (m * s + i))) y) (sym l) e₁
+      ∙ put-put to copied w₀ long (listOver rest (λ i. g (m * s + i)))
+      ∙ ap (λ (x : List ℕ). putAt to x w₀) (sym (list-append (m * s) rest g))
+
+  -- the code's numbers: `first` words from one stride back, the rest from `span` words back
+  pub two-copies : (count first span : ℕ) (w₂ : List ℕ) → first ≡ m * s → span ≡ suc m * s → first ≤ count
+      → w₂ ≡ putAt (to + first) (listOver (count - first) (λ i. getD w₁ (to + first - span + i % span) 0)) w₁
+      → w₂ ≡ putAt to (listOver count (λ k. getD w₀ (to - s + k % s) 0)) w₀
+  two-copies count first span w₂ ef es h e₂ =
+      let all : m * s + (count - first) ≡ count = omega arith in
+      again-put (count - first) w₂
+      (e₂ ∙ ap₂ (λ (x y : ℕ). putAt (to + x) (listOver (count - first) (λ i. getD w₁ (to + x - y + i % y) 0)) w₁) ef es)
+      ∙ ap (λ (x : ℕ). putAt to (listOver x (λ k. getD w₀ (to - s + k % s) 0)) w₀) all
+
+-- so many strides and one more
+pub one-stride : (m s : ℕ) → (m + 1) * s ≡ suc m * s
+one-stride m s = ap (λ (x : ℕ). x * s) (add-one m)
+
+-- ---- what is left has room
+
+pub small-product : {a b : ℕ} → a ≤ 255 → b ≤ 4160 → a * b ≤ 1060800
+small-product h k = mul-le-mul h k
+
+pub few-product : {a b : ℕ} → a ≤ 1024 → b ≤ 32 → a * b ≤ 32768
+few-product h k = mul-le-mul h k
+
+pub repeat-room : (count far done depth len : ℕ) → done ≤ depth → (done < depth → 0 < done) → count + depth * far ≤ len
+    → (0 < (depth - done) * far → (0 < far) × (far ≤ count + done * far)) × (count + done * far + (depth - done) * far ≤ len)
+repeat-room count far done depth len h some fits =
+    let sum : done * far + (depth - done) * far ≡ depth * far = sym (add-mul done (depth - done) far) ∙ ap (λ (x : ℕ). x * far) (add-sub-of-le h) in
+    (λ g. let (more, one) = factors (depth - done) far g in (one, omega (arith, mul-le-mul-right far (some (omega arith)), one-mul far)), omega arith)

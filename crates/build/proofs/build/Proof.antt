@@ -1,0 +1,47 @@
+-- `build::build` meets its contract: causes 1 to 5, or what comes after them.
+use mathlib.Core.Path.{sym}
+use borrow.Author.Needs.{needs}
+use Rattle.graph.specs.File.{fileVerdict}
+use Rattle.graph.specs.Build.{buildRule}
+use Rattle.graph.proofs.Ladder.{taken-means}
+use Rattle.graph.proofs.Verdicts.{told, then-refused, then-accepted, laid-refused, same-rule}
+use Rattle.build.proofs.build.Statement.{statement}
+use Rattle.build.proofs.build.Tie as tie
+
+check-file-requires : tie.Need-check-file-requires
+check-file-requires c κs = search needs
+
+enum-known-taken : tie.Need-enum-known-taken
+enum-known-taken c = search needs
+
+enum-known-taken-2 : tie.Need-enum-known-taken-2
+enum-known-taken-2 c = search needs
+
+build-taken-requires : tie.Need-build-taken-requires
+build-taken-requires c κs = taken-means _ _ (told fileVerdict (c .before .before .before .before .check-file .ensures) (c .before .before .taken2 .given .1))
+
+returns : tie.Need-returns
+unfolding buildRule
+returns c = laid-refused _ _ _ _ (then-refused _ _ _ _ (told fileVerdict (c .before .before .before .check-file .ensures) (c .before .taken .given .1)))
+
+same-length : tie.Need-same-length
+same-length c = search needs
+
+returns-2 : tie.Need-returns-2
+unfolding buildRule
+returns-2 c =
+    let at-file = c .before .before .before .before .before .before .before in
+    same-rule _ _ _ (sym (then-accepted _ _ _ (told fileVerdict (at-file .check-file .ensures) (c .before .before .before .before .before .taken2 .given .1))))
+    (c .before .before .build-taken .ensures)
+
+pub build-spec : {M : Type 1} → statement M
+build-spec =
+    tie.close
+    (tie.spec
+    check-file-requires
+    enum-known-taken
+    enum-known-taken-2
+    build-taken-requires
+    returns
+    same-length
+    returns-2)

@@ -1,0 +1,3 @@
+-- The build, as a call.
+pub mod Rooms
+pub mod Steps

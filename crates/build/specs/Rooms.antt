@@ -1,0 +1,46 @@
+-- The build's answer, and the memory that it lends.
+use Prim.Native.Nat.{ℕ}
+use mathlib.Core.Path.{_≡_}
+use mathlib.Core.List.{List}
+use lib.ListN.{length}
+use Rattle.rules.specs.Lists.{listOver}
+use Rattle.words.specs.Rows.{rowLength, tableLength, columnsOf}
+use Rattle.together.specs.Interference.{interferersOf}
+use Rattle.graph.specs.Verdict.{Verdict, accepted, turnedAway}
+use Rattle.graph.specs.Format.{actionsOf}
+use Rattle.graph.specs.declared.format.Counts.{Counts}
+use Rattle.build.specs.declared.BuildAnswer.{BuildAnswer}
+use Rattle.build.specs.declared.BuildAnswer.the-variants as answer
+
+abbrev pub buildVerdict : BuildAnswer → Verdict ℕ
+buildVerdict (answer.Built words) = accepted words
+buildVerdict (answer.Refused why) = turnedAway why
+
+-- what the code asks of the memory that is lent for the sets of the actions: how long each list is, and that no adder is there yet
+pub record Empty (c : Counts) (needs adds dels adders interferers : List ℕ) : Type 0 where
+  pub needs-long : length needs ≡ c .actions
+  pub adds-long : length adds ≡ c .actions
+  pub dels-long : length dels ≡ c .actions
+  pub adders-long : length adders ≡ c .props
+  pub interferers-long : length interferers ≡ c .actions
+  pub no-adders : adders ≡ listOver (length adders) (λ p. 0)
+
+-- the sets of the file's actions, who adds each proposition, and who interferes with each action
+pub record Read (file : List ℕ) (c : Counts) (needs adds dels adders interferers : List ℕ) : Type 0 where
+  pub needs-are : needs ≡ listOver (c .actions) (actionsOf file c .pre)
+  pub adds-are : adds ≡ listOver (c .actions) (actionsOf file c .add)
+  pub dels-are : dels ≡ listOver (c .actions) (actionsOf file c .del)
+  pub adders-are : adders ≡ columnsOf (c .props) adds
+  pub interferers-are : interferers ≡ listOver (length needs) (interferersOf needs adds dels)
+
+-- what the code asks of all memory that a build lends
+pub record Rooms (c : Counts) (needs adds dels starts adders interferers labels live t r mates besides spare : List ℕ) : Type 0 where
+  pub lists : Empty c needs adds dels adders interferers
+  pub starts-long : length starts ≡ c .states
+  pub no-labels : labels ≡ listOver rowLength (λ p. 0)
+  pub live-long : length live ≡ rowLength
+  pub t-long : length t ≡ tableLength
+  pub r-long : length r ≡ tableLength
+  pub mates-long : length mates ≡ tableLength
+  pub besides-long : length besides ≡ tableLength
+  pub spare-long : length spare ≡ tableLength

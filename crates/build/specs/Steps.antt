@@ -1,0 +1,29 @@
+-- Layer behind layer, and steps that end where the graph rests.
+use Prim.Native.Nat.{ℕ, _+_, _-_, _*_, _≤_, _<_}
+use mathlib.Core.Path.{_≡_}
+use mathlib.Core.List.{List}
+use lib.ListN.{length}
+use Rattle.rules.specs.Lists.{runOver}
+use Rattle.rules.specs.Domain.{Domain, Actions, domain, shapeOf}
+use Rattle.rules.specs.Layer.{size, stride}
+use Rattle.rules.specs.Shared.{propFrom}
+use Rattle.words.specs.Memory.{putAt}
+use Rattle.words.specs.Rows.{rowLength, tableLength, Inside}
+use Rattle.layers.specs.Step.{Mating, stepWords}
+use Rattle.graph.specs.Limits.{maxDepth}
+
+-- t of `depth` steps over the layer l make w of w₀; if they end before the depth, layer t, labels and mutex words, equals the one before it
+pub record Ended (D : Domain) (all : ℕ) (l : List ℕ) (depth : ℕ) (w₀ : List ℕ) (t : ℕ) (w : List ℕ) : Type 0 where
+  pub within : t ≤ depth
+  pub is : w ≡ putAt (size (D .props)) (runOver t (λ k. stepWords D all (propFrom D all l k))) w₀
+  pub rests : t < depth → (0 < t) × (propFrom D all l (t - 1) ≡ propFrom D all l t)
+
+-- what the code asks of the lists and tables of a step, and of the memory
+pub record Lent (n width depth : ℕ) (needs adds dels adders interferers labels live t r mates besides spare words : List ℕ) : Type 0 where
+  pub mating : Mating n width needs adds adders interferers live r mates besides spare
+  pub dels-long : length dels ≡ length needs
+  pub deletes : Inside n dels
+  pub labels-long : length labels ≡ rowLength
+  pub t-long : length t ≡ tableLength
+  pub deep : depth ≤ maxDepth
+  pub fits : size n + depth * (size (length needs + n) + size n) ≤ length words

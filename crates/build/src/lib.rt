@@ -1,0 +1,217 @@
+// The build: the file's graph to a depth, written into lent memory, or the cause for which it is turned away.
+mod copies;
+mod problem;
+mod steps;
+
+use crate::problem::many_pairs;
+use crate::problem::read_labels;
+use crate::problem::read_problem;
+use crate::problem::width_for;
+use crate::steps::steps;
+use graph::checks::check_graph;
+use graph::file::FileAnswer;
+use graph::file::check_file;
+use graph::format::Counts;
+use graph::layout::word_count;
+use graph::limits::MAX_ACTIONS;
+use graph::refusal::Check;
+use graph::refusal::Refusal;
+use layers::start::start;
+use words::sets::STATE_WIDTH;
+use words::sets::States;
+use words::tables::ROW;
+use words::tables::TABLE;
+ghost use mathlib.Core.Path.{_≡_};
+ghost use Prim.Native.Nat.{ℕ, _≤_, _<_};
+ghost use lib.ListN.{length, getD};
+ghost use Rattle.rules.specs.Word as W;
+ghost use Rattle.rules.specs.Domain.{Actions, domain};
+ghost use Rattle.rules.specs.Layer.{wordCount};
+ghost use Rattle.rules.specs.Shared.{startLabel, graphWords};
+ghost use Rattle.words.specs.Memory.{putAt};
+ghost use Rattle.layers.specs.Step.{Told, Deletes};
+ghost use Rattle.graph.specs.Verdict.{laid, written};
+ghost use Rattle.graph.specs.Limits.{maxDepth};
+ghost use Rattle.graph.specs.Format.{shapeIn};
+ghost use Rattle.graph.specs.File.{Taken};
+ghost use Rattle.graph.specs.Build.{buildTaken, buildRule, graphOf};
+ghost use Rattle.build.specs.Steps.{Lent};
+ghost use Rattle.build.specs.Rooms.{buildVerdict, Rooms};
+
+pub enum BuildAnswer {
+    Built(usize),
+    Refused(Refusal),
+}
+
+// All layers to the depth, from the labels of layer 0.
+fn layers_of(
+    words: &mut [u64],
+    n: usize,
+    needs: &[u32],
+    adds: &[u32],
+    dels: &[u32],
+    adders: &[u64],
+    interferers: &[u64],
+    all: u64,
+    width: usize,
+    depth: usize,
+    labels: &mut [u64],
+    live: &mut [u64],
+    t: &mut [u64],
+    r: &mut [u64],
+    mates: &mut [u64],
+    besides: &mut [u64],
+    spare: &mut [u64],
+)
+    requires { ⌜ Lent n width depth (now needs) (now adds) (now dels) (now adders) (now interferers) (now labels) (now live) (now t) (now r) (now mates) (now besides) (now spare) (now words) ⌝ }
+    ensures { λ _. ⌜ ((A : Actions) (m : ℕ) (start : ℕ → ℕ) → Told A n (now (needs .entry)) (now (adds .entry)) (now (adders .entry)) (now (interferers .entry)) → Deletes A (now (dels .entry))
+        → all ≡ W.first m → ((p : ℕ) → p < n → getD (now (labels .entry)) p 0 ≡ startLabel m start p)
+        → now (words .exit) ≡ putAt 0 (graphWords (domain A) m start depth) (now (words .entry))) ⌝ }
+{
+    start(&mut *words, &mut *t, &*labels, &*spare, n, width);
+    steps(
+        words,
+        n,
+        needs,
+        adds,
+        dels,
+        adders,
+        interferers,
+        all,
+        many_pairs(interferers, width),
+        width,
+        depth,
+        labels,
+        live,
+        t,
+        r,
+        mates,
+        besides,
+        spare,
+    );
+}
+
+// Writes the words, with room lent for the lists and tables.
+fn build_in(
+    file: &[u8],
+    c: Counts,
+    depth: usize,
+    words: &mut [u64],
+    needs: &mut [u32],
+    adds: &mut [u32],
+    dels: &mut [u32],
+    starts: &mut [u32],
+    adders: &mut [u64],
+    interferers: &mut [u64],
+    labels: &mut [u64],
+    live: &mut [u64],
+    t: &mut [u64],
+    r: &mut [u64],
+    mates: &mut [u64],
+    besides: &mut [u64],
+    spare: &mut [u64],
+)
+    requires { ⌜ Taken (now file) c × (depth ≤ maxDepth) × (wordCount (shapeIn c) depth ≤ length (now words)) ⌝ }
+    requires { ⌜ Rooms c (now needs) (now adds) (now dels) (now starts) (now adders) (now interferers) (now labels) (now live) (now t) (now r) (now mates) (now besides) (now spare) ⌝ }
+    ensures { λ _. ⌜ now (words .exit) ≡ putAt 0 (graphOf (now (file .entry)) c depth) (now (words .entry)) ⌝ }
+{
+    read_problem(
+        file,
+        c,
+        &mut *needs,
+        &mut *adds,
+        &mut *dels,
+        &mut *adders,
+        &mut *interferers,
+    );
+    read_labels(file, c, starts, &mut *labels);
+    layers_of(
+        words,
+        c.props,
+        &needs[..],
+        &adds[..],
+        &dels[..],
+        &adders[..],
+        &interferers[..],
+        States::first(c.states).0,
+        width_for(c),
+        depth,
+        labels,
+        live,
+        t,
+        r,
+        mates,
+        besides,
+        spare,
+    );
+}
+
+// Writes the words; lists and tables are arrays of this call.
+fn build_words(file: &[u8], c: Counts, depth: usize, words: &mut [u64])
+    requires { ⌜ Taken (now file) c × (depth ≤ maxDepth) × (wordCount (shapeIn c) depth ≤ length (now words)) ⌝ }
+    ensures { λ _. ⌜ now (words .exit) ≡ putAt 0 (graphOf (now (file .entry)) c depth) (now (words .entry)) ⌝ }
+{
+    let p = c.props;
+    let a = c.actions;
+    let n = c.states;
+    let mut needs = [0u32; MAX_ACTIONS];
+    let mut adds = [0u32; MAX_ACTIONS];
+    let mut dels = [0u32; MAX_ACTIONS];
+    let mut starts = [0u32; STATE_WIDTH];
+    let mut adders = [0u64; ROW];
+    let mut interferers = [0u64; ROW];
+    let mut labels = [0u64; ROW];
+    let mut live = [0u64; ROW];
+    let mut t = [0u64; TABLE];
+    let mut r = [0u64; TABLE];
+    let mut mates = [0u64; TABLE];
+    let mut besides = [0u64; TABLE];
+    let mut spare = [0u64; TABLE];
+    build_in(
+        file,
+        c,
+        depth,
+        words,
+        &mut needs[..a],
+        &mut adds[..a],
+        &mut dels[..a],
+        &mut starts[..n],
+        &mut adders[..p],
+        &mut interferers[..a],
+        &mut labels[..],
+        &mut live[..],
+        &mut t[..],
+        &mut r[..],
+        &mut mates[..],
+        &mut besides[..],
+        &mut spare[..],
+    );
+}
+
+// Once the file is taken: causes 6 and 9, or the words.
+fn build_taken(file: &[u8], c: Counts, depth: usize, words: &mut [u64]) -> BuildAnswer
+    requires { ⌜ Taken (now file) c ⌝ }
+    ensures { λ r. ⌜ (buildVerdict r ≡ written (buildTaken (now (file .entry)) c depth (length (now (words .entry)))))
+        × (now (words .exit) ≡ laid (buildTaken (now (file .entry)) c depth (length (now (words .entry)))) (now (words .entry))) ⌝ }
+{
+    let check = check_graph(c, depth, Check::Passed, words.len());
+    match check {
+        Check::Refused(why) => BuildAnswer::Refused(why),
+        Check::Passed => {
+            build_words(file, c, depth, words);
+            BuildAnswer::Built(word_count(c.shape(), depth))
+        }
+    }
+}
+
+// Builds the file's graph to the depth: the words stand at the front of the memory, and what lies behind them stays. Turned away, no word changes.
+pub fn build(file: &[u8], depth: usize, words: &mut [u64]) -> BuildAnswer
+    ensures { λ r. ⌜ (buildVerdict r ≡ written (buildRule (now (file .entry)) depth (length (now (words .entry)))))
+        × (now (words .exit) ≡ laid (buildRule (now (file .entry)) depth (length (now (words .entry)))) (now (words .entry))) ⌝ }
+{
+    let taken = check_file(file);
+    match taken {
+        FileAnswer::Refused(why) => BuildAnswer::Refused(why),
+        FileAnswer::Taken(c) => build_taken(file, c, depth, words),
+    }
+}

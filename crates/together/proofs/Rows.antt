@@ -1,0 +1,150 @@
+-- Rows of tables: written by one step after another, and lent.
+-- Assumes nothing.
+use Prim.Native.Nat.{ℕ, _+_, _-_, _*_, _≤_, _<_, _^_}
+use mathlib.Core.Path.{_≡_, refl, sym, ap, ap₂, subst, _∙_}
+use mathlib.Core.Logic.{⊎-elim}
+use mathlib.Core.List.{List, _++_}
+use native.Mathlib.Omega.{arith}
+use native.Mathlib.Nat.{lt-of-lt-of-le}
+use borrow.Rule.Slice.PartMut.{putMid}
+use lib.ListN.{length, getD, take, drop, set, length-drop}
+use lib.Pow.{pow-mono}
+use lib.Seq.{getD-take, getD-drop, drop-drop, length-take-le, getD-set-same, getD-set-other}
+use Rattle.rules.specs.Test.{same, choose}
+use Rattle.rules.specs.Word.{bit, common}
+use Rattle.rules.specs.Over.{meetOf}
+use Rattle.rules.specs.Lists.{listOver}
+use Rattle.rules.proofs.Layers.{length-listOver}
+use Rattle.rules.proofs.Tests.{choose-held, choose-failed, holds-or, same-of, same-at, fails-at}
+use Rattle.rules.proofs.Words.{bit-below}
+use Rattle.words.specs.Memory.{putAt}
+use Rattle.words.specs.Rows.{rowLength, tableLength, cell, InParts, Inside}
+use Rattle.words.proofs.Cells.{Rows, rows-more, row-length, cell-put, cell-stays}
+use Rattle.together.specs.Cells.{RowPut, Row, rowIn, needsWith, labelFor, withProp, withAction}
+use Rattle.rules.proofs.Members.{meet-only}
+
+-- a part of a row or all of it is within the row
+pub parts-le : {width : ℕ} → InParts width → width ≤ rowLength
+parts-le p = ⊎-elim (λ e. omega arith) (λ e. omega arith) p
+
+-- and so is a set of its words
+pub parts-lt : {width set : ℕ} → InParts width → set < 2 ^ width → set < 2 ^ rowLength
+parts-lt p h = lt-of-lt-of-le h (pow-mono (parts-le p))
+
+-- one of these sets
+pub inside-lt : {n x : ℕ} (m : ℕ) (sets : List ℕ) (i : ℕ) → Inside n sets → n ≤ m → i < length sets → x ≡ getD sets i 0 → x < 2 ^ m
+inside-lt m sets i inside h l e = subst (λ (y : ℕ). y < 2 ^ m) (sym e) (lt-of-lt-of-le (inside i l) (pow-mono h))
+
+-- ---- a row that is written
+
+pub row-put : {f : ℕ → ℕ} {m row : ℕ} {w w' : List ℕ} → length w ≡ tableLength → row < rowLength → m ≤ rowLength
+    → w' ≡ putAt (row * rowLength) (listOver m f) w → RowPut f m row w w'
+row-put {f} {m} {row} {w} whole h few e = record {
+  is = λ k l. ap (λ (t : List ℕ). cell t row k) e ∙ cell-put row m f w whole h few k l;
+  stays = λ i k l other. ap (λ (t : List ℕ). cell t i k) e ∙ cell-stays row m f w whole h few i k l other;
+}
+
+-- one word of it
+pub row-set : (row col v : ℕ) {at : ℕ} {w : List ℕ} → length w ≡ tableLength → row < rowLength → col < rowLength → at ≡ row * rowLength + col
+    → RowPut (λ k. choose (same col k) v (cell w row k)) rowLength row w (set w at v)
+unfolding cell
+row-set row col v {at} {w} whole h l e = record {
+  is = λ k g. ⊎-elim
+      (λ u.
+      let p : row * rowLength + k ≡ at = omega (arith, same-at col k u) in
+      ap (λ (x : ℕ). getD (set w at v) x 0) p ∙ getD-set-same w at v 0 (omega arith) ∙ sym (choose-held (same col k) v _ u))
+      (λ u. getD-set-other w at (row * rowLength + k) v 0 (λ p. fails-at (same col k) u (same-of col k (omega arith))) ∙ sym (choose-failed (same col k) v _ u))
+      (holds-or (same col k));
+  stays = λ i k g other. getD-set-other w at (i * rowLength + k) v 0 (λ p. other (omega arith));
+}
+
+-- a row written again, from what stood there
+pub row-again : {f g : ℕ → ℕ} (h : ℕ → ℕ) {width m row : ℕ} {w₀ w₁ w₂ : List ℕ} → RowPut f width row w₀ w₁ → width ≤ m → RowPut g m row w₁ w₂
+    → ((k : ℕ) → k < width → cell w₁ row k ≡ f k → g k ≡ h k) → RowPut h width row w₀ w₂
+row-again h {width} {m} {row} one few two e = record {
+  is = λ k l. two .is k (omega arith) ∙ e k l (one .is k l);
+  stays = λ i k l other. two .stays i k l other ∙ one .stays i k l other;
+}
+
+-- a table filled row by row
+pub rows-row : {f : ℕ → ℕ → ℕ} {g : ℕ → ℕ} {width i : ℕ} {w w' : List ℕ} → Rows f width i w → InParts width → length w' ≡ tableLength → RowPut g width i w w'
+    → ((k : ℕ) → k < width → g k ≡ f i k) → Rows f width (i + 1) w'
+rows-row s parts whole put e = rows-more s whole
+    (λ j k h l. put .stays j k (omega (arith, parts-le parts)) (λ q. omega arith))
+    (λ k l. put .is k l ∙ e k l)
+
+-- ---- a row that is lent, from its first word to that of the next row
+
+module _ (table : List ℕ) (i : ℕ) where
+  pub lent : take (i * rowLength + rowLength - i * rowLength) (drop (i * rowLength) table) ≡ rowIn table i
+  unfolding rowIn
+  lent = let e : i * rowLength + rowLength - i * rowLength ≡ rowLength = omega arith in ap (λ (n : ℕ). take n (drop (i * rowLength) table)) e
+
+  pub row-long : length table ≡ tableLength → i < rowLength → length (rowIn table i) ≡ rowLength
+  unfolding rowIn
+  row-long whole h = length-take-le rowLength (drop (i * rowLength) table) (omega (arith, length-drop (i * rowLength) table))
+
+  pub row-word : (k : ℕ) → k < rowLength → getD (rowIn table i) k 0 ≡ cell table i k
+  unfolding rowIn cell
+  row-word k h = getD-take rowLength (drop (i * rowLength) table) k 0 h ∙ getD-drop (i * rowLength) table k 0
+
+  -- and comes back written
+  pub row-back : (p : List ℕ) → length p ≡ rowLength → putMid (i * rowLength) (i * rowLength + rowLength - i * rowLength) table p ≡ putAt (i * rowLength) p table
+  unfolding putAt
+  row-back p e =
+      let q : i * rowLength + (i * rowLength + rowLength - i * rowLength) ≡ i * rowLength + length p = omega arith in
+      ap (λ (l : List ℕ). take (i * rowLength) table ++ (p ++ l)) (drop-drop (i * rowLength + rowLength - i * rowLength) (i * rowLength) table ∙ ap (λ (x : ℕ). drop x table) q)
+
+-- made anew
+module _ (table : List ℕ) (i : ℕ) (f : ℕ → ℕ) {p : List ℕ} (whole : length table ≡ tableLength) (h : i < rowLength) (e : p ≡ listOver rowLength f) where
+  lent-put : putMid (i * rowLength) (i * rowLength + rowLength - i * rowLength) table p ≡ putAt (i * rowLength) (listOver rowLength f) table
+  lent-put = row-back table i p (ap length e ∙ length-listOver rowLength f) ∙ ap (λ (l : List ℕ). putAt (i * rowLength) l table) e
+
+  pub lent-row : RowPut f rowLength i table (putMid (i * rowLength) (i * rowLength + rowLength - i * rowLength) table p)
+  lent-row = row-put whole h (omega arith) lent-put
+
+  pub lent-long : length (putMid (i * rowLength) (i * rowLength + rowLength - i * rowLength) table p) ≡ tableLength
+  lent-long = ap length lent-put ∙ row-length i rowLength f table whole h (omega arith)
+
+-- ---- a row of an action with the propositions: met, cut to the label that it gives, and emptied where the action deletes
+
+module _ (all : ℕ) {i width need del : ℕ} {r labels t r₁ : List ℕ} (asks : Row i width need del r labels t)
+    (met : r₁ ≡ putAt (i * rowLength) (listOver width (needsWith all labels t need)) r) (long₁ : length r₁ ≡ tableLength) where
+  first-put : RowPut (needsWith all labels t need) width i r r₁
+  first-put = row-put (asks .r-long) (asks .inside) (parts-le (asks .parts)) met
+
+  pub admit-label : {l : ℕ} (row : List ℕ) → row ≡ rowIn r₁ i → l ≡ meetOf (length row) need (λ q. getD row q 0) all → l ≡ labelFor all labels t need
+  unfolding labelFor
+  admit-label {l} row e d =
+      let long : length row ≡ rowLength = ap length e ∙ row-long r₁ i long₁ (asks .inside) in
+      d ∙ ap (λ (n : ℕ). meetOf n need (λ q. getD row q 0) all) long
+      ∙ meet-only rowLength need all _ _ (λ q h m.
+      ap (λ (x : List ℕ). getD x q 0) e ∙ row-word r₁ i q h ∙ first-put .is q (bit-below q need width (asks .needs) m))
+
+  pub admit-put : {l : ℕ} {r₂ r₃ : List ℕ} → l ≡ labelFor all labels t need → length r₂ ≡ tableLength
+      → r₂ ≡ putAt (i * rowLength) (listOver width (λ k. common (cell r₁ i k) l)) r₁
+      → r₃ ≡ putAt (i * rowLength) (listOver rowLength (λ k. choose (bit k del) 0 (cell r₂ i k))) r₂
+      → RowPut (withProp all labels t need del) width i r r₃
+  unfolding withProp
+  admit-put {l} e long₂ cut cleared =
+      let inside = parts-le (asks .parts) in
+      let second : RowPut (λ k. common (needsWith all labels t need k) (labelFor all labels t need)) width i r _ =
+      row-again _ first-put (omega arith) (row-put long₁ (asks .inside) inside cut) (λ k h q. ap₂ common q e) in
+      row-again _ second inside (row-put long₂ (asks .inside) (omega arith) cleared) (λ k h q. ap (λ (x : ℕ). choose (bit k del) 0 x) q)
+
+-- ---- a row of an action with the actions: met, emptied where they interfere, and with itself
+
+module _ (needs interferers live turned : List ℕ) {i width : ℕ} {w w₁ w₂ : List ℕ} (parts : InParts width) (h : i < rowLength) (long : length w ≡ tableLength)
+    (long₁ : length w₁ ≡ tableLength) (long₂ : length w₂ ≡ tableLength) where
+  pub pairs-put : {named : ℕ} → named ≡ getD needs i 0
+      → w₁ ≡ putAt (i * rowLength) (listOver width (λ k. meetOf rowLength named (λ p. cell turned p k) (common (getD live k 0) (getD live i 0)))) w
+      → w₂ ≡ putAt (i * rowLength) (listOver rowLength (λ k. choose (bit k (getD interferers i 0)) 0 (cell w₁ i k))) w₁
+      → RowPut (withAction needs interferers live turned i) width i w (set w₂ (i * rowLength + i) (getD live i 0))
+  unfolding withAction
+  pairs-put {named} e met cleared =
+      let inside = parts-le parts in
+      let one = row-put long h inside met in
+      let two : RowPut (λ k. choose (bit k (getD interferers i 0)) 0 (meetOf rowLength (getD needs i 0) (λ p. cell turned p k) (common (getD live k 0) (getD live i 0)))) width i w w₂ =
+      row-again _ one inside (row-put long₁ h (omega arith) cleared) (λ k l q. ap (λ (x : ℕ). choose (bit k (getD interferers i 0)) 0 x)
+      (q ∙ ap (λ (set : ℕ). meetOf rowLength set (λ p. cell turned p k) (common (getD live k 0) (getD live i 0))) e)) in
+      row-again _ two inside (row-set i i (getD live i 0) long₂ h h refl) (λ k l q. ap (λ (x : ℕ). choose (same i k) (getD live i 0) x) q)

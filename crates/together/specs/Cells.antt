@@ -1,0 +1,142 @@
+-- What the code writes into its tables, word by word, from the tables before. The laws that these are the words of the rules stand in proofs/Stages.
+use Prim.Native.Nat.{ℕ, _*_, _≤_, _<_, _^_}
+use mathlib.Core.Path.{_≡_}
+use mathlib.Core.List.{List}
+use lib.ListN.{length, getD, take, drop}
+use Rattle.rules.specs.Test.{same, choose}
+use Rattle.rules.specs.Word.{bit, common, union, without, single, first}
+use Rattle.rules.specs.Over.{keep, joinOf, meetOf}
+use Rattle.rules.specs.Lists.{listOver}
+use Rattle.words.specs.Rows.{rowLength, tableLength, cell, InParts, Inside}
+
+-- how many words of a row are in use for n propositions and these actions: a part of it or all
+pub record Width (n width : ℕ) (needs : List ℕ) : Type 0 where
+  pub parts : InParts width
+  pub props : n ≤ width
+  pub actions : length needs ≤ width
+  pub inside : Inside n needs
+
+-- what the code asks that writes row i of an action with these needs and deletes
+pub record Row (i width need del : ℕ) (r labels t : List ℕ) : Type 0 where
+  pub parts : InParts width
+  pub inside : i < rowLength
+  pub needs : need < 2 ^ width
+  pub deletes : del < 2 ^ rowLength
+  pub r-long : length r ≡ tableLength
+  pub labels-long : length labels ≡ rowLength
+  pub t-long : length t ≡ tableLength
+
+-- and of all actions
+pub record Admitting (n width : ℕ) (needs dels labels t r live : List ℕ) : Type 0 where
+  pub wide : Width n width needs
+  pub dels-long : length dels ≡ length needs
+  pub deletes : Inside n dels
+  pub labels-long : length labels ≡ rowLength
+  pub t-long : length t ≡ tableLength
+  pub r-long : length r ≡ tableLength
+  pub live-long : length live ≡ rowLength
+
+-- one row of a table is written, all others stay
+pub record RowPut (f : ℕ → ℕ) (width row : ℕ) (old new : List ℕ) : Type 0 where
+  pub is : (k : ℕ) → k < width → cell new row k ≡ f k
+  pub stays : (i k : ℕ) → k < rowLength → (i ≡ row → ⊥) → cell new i k ≡ cell old i k
+
+-- the states in which q is together with each need: t is the table of the propositions, `labels` its labels
+unfoldable pub needsWith : ℕ → List ℕ → List ℕ → ℕ → ℕ → ℕ
+needsWith all labels t need q = meetOf rowLength need (λ p. cell t p q) (common (getD labels q 0) all)
+
+-- the label of an action
+unfoldable pub labelFor : ℕ → List ℕ → List ℕ → ℕ → ℕ
+labelFor all labels t need = meetOf rowLength need (needsWith all labels t need) all
+
+-- an action with a proposition
+unfoldable pub withProp : ℕ → List ℕ → List ℕ → ℕ → ℕ → ℕ → ℕ
+withProp all labels t need del q = choose (bit q del) 0 (common (needsWith all labels t need q) (labelFor all labels t need))
+
+-- action i with action j: `live` are the labels of the actions, `turned` has the actions with each proposition, row by row
+unfoldable pub withAction : List ℕ → List ℕ → List ℕ → List ℕ → ℕ → ℕ → ℕ
+withAction needs interferers live turned i j =
+    choose (same i j) (getD live i 0)
+    (choose (bit j (getD interferers i 0)) 0 (meetOf rowLength (getD needs i 0) (λ p. cell turned p j) (common (getD live j 0) (getD live i 0))))
+
+-- the other actions that do not interfere with i
+unfoldable pub independentOf : List ℕ → List ℕ → ℕ → ℕ
+independentOf needs interferers i = without (first (length needs)) (union (getD interferers i 0) (single i))
+
+-- action i with one of them, j: `row` has i with each proposition
+unfoldable pub withIndependent : List ℕ → List ℕ → List ℕ → ℕ → ℕ → ℕ
+withIndependent needs live row i j = meetOf rowLength (getD needs j 0) (λ q. getD row q 0) (common (getD live i 0) (getD live j 0))
+
+-- what the code asks that pairs the actions by rows
+pub record Pairing (n width : ℕ) (needs interferers live turned mates : List ℕ) : Type 0 where
+  pub wide : Width n width needs
+  pub interferers-long : length interferers ≡ length needs
+  pub interferers-inside : Inside rowLength interferers
+  pub live-long : length live ≡ rowLength
+  pub turned-long : length turned ≡ tableLength
+  pub mates-long : length mates ≡ tableLength
+
+-- what it asks that joins rows of a table
+pub record Joining (to from table sets : List ℕ) (width : ℕ) : Type 0 where
+  pub to-long : length to ≡ tableLength
+  pub from-long : length from ≡ tableLength
+  pub table-long : length table ≡ tableLength
+  pub few : length sets ≤ rowLength
+  pub rows : Inside rowLength sets
+  pub parts : InParts width
+
+-- what it asks of action i and a set of others, one by one
+pub record Independent (i set : ℕ) (needs adds live row : List ℕ) : Type 0 where
+  pub few : length needs ≤ rowLength
+  pub adds-long : length adds ≡ length needs
+  pub live-long : length live ≡ rowLength
+  pub row-long : length row ≡ rowLength
+  pub own : i < length needs
+  pub others : set < 2 ^ length needs
+  pub needs-inside : Inside rowLength needs
+
+-- the same with the interferers, for action i and all that are independent of it
+pub record Lists (i : ℕ) (needs adds interferers live row : List ℕ) : Type 0 where
+  pub few : length needs ≤ rowLength
+  pub adds-long : length adds ≡ length needs
+  pub interferers-long : length interferers ≡ length needs
+  pub live-long : length live ≡ rowLength
+  pub row-long : length row ≡ rowLength
+  pub own : i < length needs
+  pub needs-inside : Inside rowLength needs
+
+-- the row of action i with all actions
+unfoldable pub matesOf : List ℕ → List ℕ → List ℕ → List ℕ → ℕ → List ℕ → List ℕ
+matesOf needs interferers live row i mates =
+    listOver rowLength (λ j. choose (same j i) (getD live i 0) (choose (bit j (independentOf needs interferers i)) (withIndependent needs live row i j) (getD mates j 0)))
+
+-- and what it is together with among the adders of each proposition
+unfoldable pub besideOf : List ℕ → List ℕ → List ℕ → List ℕ → List ℕ → ℕ → List ℕ → List ℕ
+besideOf needs adds interferers live row i beside =
+    listOver rowLength (λ p. union (union (getD beside p 0) (joinOf rowLength (independentOf needs interferers i) (λ j. keep (bit p (getD adds j 0)) (withIndependent needs live row i j))))
+    (keep (bit p (getD adds i 0)) (getD live i 0)))
+
+-- what it asks of all actions, one by one
+pub record Fewing (n width : ℕ) (needs adds interferers live r mates besides : List ℕ) : Type 0 where
+  pub wide : Width n width needs
+  pub adds-long : length adds ≡ length needs
+  pub interferers-long : length interferers ≡ length needs
+  pub live-long : length live ≡ rowLength
+  pub r-long : length r ≡ tableLength
+  pub mates-long : length mates ≡ tableLength
+  pub besides-long : length besides ≡ tableLength
+
+-- row i of a table
+unfoldable pub rowIn : List ℕ → ℕ → List ℕ
+rowIn table i = take rowLength (drop (i * rowLength) table)
+
+-- action i with action j, one by one: as by rows, the other way round
+unfoldable pub mateOf : List ℕ → List ℕ → List ℕ → List ℕ → ℕ → ℕ → ℕ
+mateOf needs interferers live r i j =
+    choose (same j i) (getD live i 0) (choose (bit j (independentOf needs interferers i)) (withIndependent needs live (rowIn r i) i j) 0)
+
+-- and with the adders of p
+unfoldable pub besideFor : List ℕ → List ℕ → List ℕ → List ℕ → List ℕ → ℕ → ℕ → ℕ
+besideFor needs adds interferers live r i p =
+    union (union (cell r i p) (joinOf rowLength (independentOf needs interferers i) (λ j. keep (bit p (getD adds j 0)) (withIndependent needs live (rowIn r i) i j))))
+    (keep (bit p (getD adds i 0)) (getD live i 0))

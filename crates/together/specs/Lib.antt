@@ -1,0 +1,3 @@
+-- What is together, over tables.
+pub mod Cells
+pub mod Interference
