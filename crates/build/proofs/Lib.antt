@@ -2,3 +2,4 @@
 pub mod Builds
 pub mod Repeats
 pub mod Listings
+pub mod Whole

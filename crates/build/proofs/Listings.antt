@@ -36,18 +36,6 @@ pub startLabel-eq : (n : ℕ) (f g : ℕ → ℕ) (p : ℕ) → ((i : ℕ) → i
 unfolding startLabel
 startLabel-eq n f g p e = joinOver-eq n _ _ (λ i h. ap (λ (x : ℕ). keep (bit p x) (single i)) (e i h))
 
--- the labels that were made at the front of a row
-pub labels-read : (n m : ℕ) (start : ℕ → ℕ) (xs starts row rest : List ℕ) → length row ≡ n → xs ≡ columnsOf (length row) starts → starts ≡ listOver m start
-    → (p : ℕ) → p < n → getD (xs ++ rest) p 0 ≡ startLabel m start p
-unfolding columnsOf
-labels-read n m start xs starts row rest e ex es p h =
-    let f : ℕ → ℕ = startLabel (length starts) (λ i. getD starts i 0) in
-    let ex' : xs ≡ listOver n f = ex ∙ ap (λ (x : ℕ). listOver x f) e in
-    List·getD-append xs rest 0 p (omega (arith, ap length ex', length-listOver n f)) ∙ ap (λ (l : List ℕ). getD l p 0) ex' ∙ getD-listOver n f p h
-    ∙ ap (λ (x : ℕ). startLabel x (λ i. getD starts i 0) p) (ap length es ∙ length-listOver m start)
-    ∙ startLabel-eq m _ _ p (λ i k. ap (λ (l : List ℕ). getD l i 0) es ∙ getD-listOver m start i k)
-
--- no label names a state that is not there
 pub label-inside : (n : ℕ) (start : ℕ → ℕ) (s p x : ℕ) → x ≡ startLabel n start p → So (bit s x) → So (bit s (first n))
 label-inside n start s p x e b =
     bit-first s n ∙ below-of s n (bit-below s (startLabel n start p) n (startLabel-lt n start p) (ap (bit s) (sym e) ∙ b))

@@ -6,26 +6,28 @@ use mathlib.Core.Bool.{Bool, false, So, false≢true}
 use mathlib.Core.Logic.{by-cases}
 use mathlib.Core.List.{List, _++_, append-nil}
 use native.Mathlib.Decide.{decLe}
-use native.Mathlib.Nat.{mul-le-mul, le-refl, suc-mul, zero-mul, mul-zero, one-mul, add-mul, mul-le-mul-right, add-sub-of-le}
+use native.Mathlib.Nat.{mul-le-mul, le-refl, add-comm, suc-mul, zero-mul, mul-zero, one-mul, add-mul, mul-le-mul-right, add-sub-of-le}
 use native.Mathlib.Nat.{mod-lt, mod-eq-of-lt, mod-eq-sub-mod, mul-add-mod-self-right, div-add-mod', mul-assoc}
 use native.Mathlib.Numerals.{add-one}
 use native.Mathlib.Omega.{arith}
 use borrow.Rule.Slice.PartMut.{putMid}
 use lib.ListN.{length, getD, take, drop, length-append, drop-of-length-le}
 use lib.Seq.{getD-take, getD-append-add, drop-at, drop-drop, length-take-le, ext-getD}
+use Rattle.rules.specs.declared.Shape.{Shape}
 use Rattle.rules.specs.Test.{same}
 use Rattle.rules.specs.Over.{allBelow}
 use Rattle.rules.specs.Lists.{listOver, runOver}
 use Rattle.rules.specs.Domain.{Domain, shapeOf}
-use Rattle.rules.specs.Layer.{size, stride}
+use Rattle.rules.specs.Layer.{size, stride, wordCount}
 use Rattle.rules.specs.Shared.{propFrom}
 use Rattle.rules.proofs.Tests.{same-at, test-eq}
 use Rattle.rules.proofs.Overs.{all-at}
 use Rattle.rules.proofs.Rests.{rests}
+use Rattle.rules.proofs.Layouts.{count-stride}
 use Rattle.rules.proofs.Layers.{run-append, list-append, length-listOver, getD-listOver, listOver-eq, listOver-self, runOver-eq, length-runOver}
 use Rattle.words.specs.Memory.{putAt}
 use Rattle.layers.specs.Step.{stepWords}
-use Rattle.build.specs.Steps.{Ended}
+use Rattle.build.specs.Steps.{Ended, Left}
 use Rattle.words.proofs.Writes.{Lists, list-front, same-word, put-put, put-word, put-front, tail-all, tail-length}
 use Rattle.build.proofs.Builds.{step-length}
 
@@ -62,15 +64,19 @@ list-again (suc m) s f =
 -- ---- the steps that are left
 
 -- from one proposition layer to the next
-abbrev apart : Domain → ℕ
-apart D = size (D .vertices) + size (D .props)
+abbrev far : Domain → ℕ
+far D = stride (shapeOf D)
 
 -- the words of step k over the layer l
 abbrev step : Domain → ℕ → List ℕ → ℕ → List ℕ
 step D all l k = stepWords D all (propFrom D all l k)
 
-steps-length : (D : Domain) (all : ℕ) (l : List ℕ) (k : ℕ) → length (runOver k (step D all l)) ≡ k * apart D
-steps-length D all l k = length-runOver (step D all l) (apart D) k (λ i h. step-length D all (propFrom D all l i))
+step-far : (D : Domain) (all : ℕ) (l : List ℕ) → length (stepWords D all l) ≡ far D
+unfolding stride
+step-far D all l = step-length D all l ∙ add-comm (size (D .vertices)) (size (D .props))
+
+steps-length : (D : Domain) (all : ℕ) (l : List ℕ) (k : ℕ) → length (runOver k (step D all l)) ≡ k * far D
+steps-length D all l k = length-runOver (step D all l) (far D) k (λ i h. step-far D all (propFrom D all l i))
 
 -- no factor of a product above 0 is 0
 factors : (a b : ℕ) → 0 < a * b → (0 < a) × (0 < b)
@@ -79,56 +85,64 @@ factors (suc a) zero h = absurd (omega (arith, mul-zero (suc a)))
 factors (suc a) (suc b) h = (omega arith, omega arith)
 
 module _ {D : Domain} {all : ℕ} {l : List ℕ} {depth : ℕ} {w₀ : List ℕ} {t : ℕ} {w : List ℕ} (s : Ended D all l depth w₀ t w)
-    (room : depth * apart D + size (D .props) ≤ length w₀) where
-  products : t * apart D + (depth - t) * apart D ≡ depth * apart D
-  products = sym (add-mul t (depth - t) (apart D)) ∙ ap (λ (x : ℕ). x * apart D) (add-sub-of-le (s .within))
+    (room : wordCount (shapeOf D) depth ≤ length w₀) where
+  products : t * far D + (depth - t) * far D ≡ depth * far D
+  products = sym (add-mul t (depth - t) (far D)) ∙ ap (λ (x : ℕ). x * far D) (add-sub-of-le (s .within))
+
+  all-words : wordCount (shapeOf D) depth ≡ depth * far D + size (D .props)
+  all-words = count-stride (shapeOf D) depth
 
   fits : size (D .props) + length (runOver t (step D all l)) ≤ length w₀
-  fits = omega (arith, steps-length D all l t, products)
+  fits = omega (arith, steps-length D all l t, products, all-words)
 
   -- the last words written are those of the last step
-  last-word : 0 < t → (i : ℕ) → i < apart D → getD w (size (D .props) + t * apart D - apart D + i) 0
+  last-word : 0 < t → (i : ℕ) → i < far D → getD w (size (D .props) + t * far D - far D + i) 0
       ≡ getD (step D all l (t - 1)) i 0
   unfolding runOver
   last-word some i h =
       let q : t ≡ suc (t - 1) = omega arith in
       let before : ℕ = length (runOver (t - 1) (step D all l)) in
-      let product : t * apart D ≡ before + apart D =
-      ap (λ (x : ℕ). x * apart D) q ∙ suc-mul (t - 1) (apart D) ∙ omega (arith, steps-length D all l (t - 1)) in
-      let place : size (D .props) + t * apart D - apart D + i ≡ size (D .props) + (before + i) = omega arith in
+      let product : t * far D ≡ before + far D =
+      ap (λ (x : ℕ). x * far D) q ∙ suc-mul (t - 1) (far D) ∙ omega (arith, steps-length D all l (t - 1)) in
+      let place : size (D .props) + t * far D - far D + i ≡ size (D .props) + (before + i) = omega arith in
       ap₂ (λ (x : List ℕ) (y : ℕ). getD x y 0) (s .is) place
       ∙ put-word (size (D .props)) (runOver t (step D all l)) w₀ fits (before + i) (omega (arith, steps-length D all l t))
       ∙ ap (λ (x : ℕ). getD (runOver x (step D all l)) (before + i) 0) q
       ∙ getD-append-add (runOver (t - 1) (step D all l)) (step D all l (t - 1)) i 0
 
   -- and of each step that is left
-  left-step : (k : ℕ) → t < depth → listOver (apart D) (λ i. getD w (size (D .props) + t * apart D - apart D + i) 0)
+  left-step : (k : ℕ) → t < depth → listOver (far D) (λ i. getD w (size (D .props) + t * far D - far D + i) 0)
       ≡ step D all l (t + k)
   left-step k h =
       let (some, e) = s .rests h in
       let q : t ≡ suc (t - 1) = omega arith in
       let last : List ℕ = step D all l (t - 1) in
-      listOver-eq (apart D) _ (λ i. getD last i 0) (last-word some)
-      ∙ ap (λ (x : ℕ). listOver x (λ i. getD last i 0)) (sym (step-length D all (propFrom D all l (t - 1)))) ∙ listOver-self last
+      listOver-eq (far D) _ (λ i. getD last i 0) (last-word some)
+      ∙ ap (λ (x : ℕ). listOver x (λ i. getD last i 0)) (sym (step-far D all (propFrom D all l (t - 1)))) ∙ listOver-self last
       ∙ ap (stepWords D all) (sym (rests D all l (t - 1) (e ∙ ap (propFrom D all l) q) (t + k) (omega arith)))
 
-  -- they begin at `at + t * far`
-  module _ (at far : ℕ) (ea : at ≡ size (D .props)) (ef : far ≡ apart D) where
-    -- written again and again, it makes all steps to the depth
-    pub left-put : (w₂ : List ℕ) → w₂ ≡ putAt (at + t * far) (listOver ((depth - t) * far) (λ i. getD w (at + t * far - far + i % far) 0)) w
-        → w₂ ≡ putAt (size (D .props)) (runOver depth (λ k. stepWords D all (propFrom D all l k))) w₀
-    left-put w₂ e =
-        let left : List ℕ = runOver (depth - t) (λ k. step D all l (t + k)) in
-        e
-        ∙ ap₂ (λ (x y : ℕ). putAt (x + t * y) (listOver ((depth - t) * y) (λ i. getD w (x + t * y - y + i % y) 0)) w) ea ef
-        ∙ ap₂ (λ (x : List ℕ) (y : ℕ). putAt (size (D .props) + y) x w)
-        (list-again (depth - t) (apart D) (λ i. getD w (size (D .props) + t * apart D - apart D + i) 0)
-        ∙ runOver-eq (depth - t) _ (λ k. step D all l (t + k)) (λ k h. left-step k (omega arith)))
-        (sym (steps-length D all l t))
-        ∙ ap (putAt (size (D .props) + length (runOver t (step D all l))) left) (s .is)
-        ∙ put-put (size (D .props)) (runOver t (step D all l)) w₀ fits left
-        ∙ ap (λ (x : List ℕ). putAt (size (D .props)) x w₀)
-        (sym (run-append t (depth - t) (step D all l)) ∙ ap (λ (x : ℕ). runOver x (step D all l)) (add-sub-of-le (s .within)))
+  -- they begin behind the words of the steps made; written again and again, the last one makes all steps to the depth
+  place : wordCount (shapeOf D) t ≡ size (D .props) + t * far D
+  place = count-stride (shapeOf D) t ∙ add-comm (t * far D) (size (D .props))
+
+  count : wordCount (shapeOf D) depth - wordCount (shapeOf D) t ≡ (depth - t) * far D
+  count = omega (arith, place, products, all-words)
+
+  pub left-put : (w₂ : List ℕ)
+      → w₂ ≡ putAt (wordCount (shapeOf D) t) (listOver (wordCount (shapeOf D) depth - wordCount (shapeOf D) t) (λ i. getD w (wordCount (shapeOf D) t - far D + i % far D) 0)) w
+      → w₂ ≡ putAt (size (D .props)) (runOver depth (λ k. stepWords D all (propFrom D all l k))) w₀
+  left-put w₂ e =
+      let left : List ℕ = runOver (depth - t) (λ k. step D all l (t + k)) in
+      e
+      ∙ ap₂ (λ (x y : ℕ). putAt x (listOver y (λ i. getD w (x - far D + i % far D) 0)) w) place count
+      ∙ ap₂ (λ (x : List ℕ) (y : ℕ). putAt (size (D .props) + y) x w)
+      (list-again (depth - t) (far D) (λ i. getD w (size (D .props) + t * far D - far D + i) 0)
+      ∙ runOver-eq (depth - t) _ (λ k. step D all l (t + k)) (λ k h. left-step k (omega arith)))
+      (sym (steps-length D all l t))
+      ∙ ap (putAt (size (D .props) + length (runOver t (step D all l))) left) (s .is)
+      ∙ put-put (size (D .props)) (runOver t (step D all l)) w₀ fits left
+      ∙ ap (λ (x : List ℕ). putAt (size (D .props)) x w₀)
+      (sym (run-append t (depth - t) (step D all l)) ∙ ap (λ (x : ℕ). runOver x (step D all l)) (add-sub-of-le (s .within)))
 
 -- ---- words copied from one stride back, then from many strides back
 
@@ -208,8 +222,29 @@ small-product h k = mul-le-mul h k
 pub few-product : {a b : ℕ} → a ≤ 1024 → b ≤ 32 → a * b ≤ 32768
 few-product h k = mul-le-mul h k
 
-pub repeat-room : (count far done depth len : ℕ) → done ≤ depth → (done < depth → 0 < done) → count + depth * far ≤ len
-    → (0 < (depth - done) * far → (0 < far) × (far ≤ count + done * far)) × (count + done * far + (depth - done) * far ≤ len)
-repeat-room count far done depth len h some fits =
-    let sum : done * far + (depth - done) * far ≡ depth * far = sym (add-mul done (depth - done) far) ∙ ap (λ (x : ℕ). x * far) (add-sub-of-le h) in
-    (λ g. let (more, one) = factors (depth - done) far g in (one, omega (arith, mul-le-mul-right far (some (omega arith)), one-mul far)), omega arith)
+-- after `done` of `depth` steps: the words that are left have room, and a step stands before them
+module _ {S : Shape} {done depth : ℕ} {words : List ℕ} (left : Left S done depth words) where
+  sum : wordCount S done + (depth - done) * stride S ≡ wordCount S depth
+  sum =
+      let all : done * stride S + (depth - done) * stride S ≡ depth * stride S =
+      sym (add-mul done (depth - done) (stride S)) ∙ ap (λ (x : ℕ). x * stride S) (add-sub-of-le (left .within)) in
+      omega (arith, all, count-stride S done, count-stride S depth)
+
+  -- in the code's numbers
+  module _ {to far all : ℕ} (et : to ≡ wordCount S done) (ef : far ≡ stride S) (ea : all ≡ wordCount S depth) where
+    pub left-within : to ≤ all
+    left-within = omega (arith, sum)
+
+    pub left-room : (0 < all - to → (0 < far) × (far ≤ to)) × (to + (all - to) ≤ length words)
+    left-room = (
+      λ g.
+          let (more, one) = factors (depth - done) (stride S) (omega (arith, sum)) in
+          (omega (arith, one), omega (arith, count-stride S done, mul-le-mul-right (stride S) (left .some (omega arith)), one-mul (stride S))),
+      omega (arith, sum, left .fits),
+    )
+
+    pub left-is : (w : List ℕ) → w ≡ putAt to (listOver (all - to) (λ i. getD words (to - far + i % far) 0)) words
+        → w ≡ putAt (wordCount S done) (listOver (wordCount S depth - wordCount S done) (λ i. getD words (wordCount S done - stride S + i % stride S) 0)) words
+    left-is w e =
+        e ∙ ap₂ (λ (x y : ℕ). putAt x (listOver (all - x) (λ i. getD words (x - y + i % y) 0)) words) et ef
+        ∙ ap (λ (x : ℕ). putAt (wordCount S done) (listOver (x - wordCount S done) (λ i. getD words (wordCount S done - stride S + i % stride S) 0)) words) ea

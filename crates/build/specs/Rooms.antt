@@ -34,9 +34,8 @@ pub record Read (file : List ℕ) (c : Counts) (needs adds dels adders interfere
   pub interferers-are : interferers ≡ listOver (length needs) (interferersOf needs adds dels)
 
 -- what the code asks of all memory that a build lends
-pub record Rooms (c : Counts) (needs adds dels starts adders interferers labels live t r mates besides spare : List ℕ) : Type 0 where
+pub record Rooms (c : Counts) (needs adds dels adders interferers labels live t r mates besides spare : List ℕ) : Type 0 where
   pub lists : Empty c needs adds dels adders interferers
-  pub starts-long : length starts ≡ c .states
   pub no-labels : labels ≡ listOver rowLength (λ p. 0)
   pub live-long : length live ≡ rowLength
   pub t-long : length t ≡ tableLength

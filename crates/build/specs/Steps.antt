@@ -3,14 +3,16 @@ use Prim.Native.Nat.{ℕ, _+_, _-_, _*_, _≤_, _<_}
 use mathlib.Core.Path.{_≡_}
 use mathlib.Core.List.{List}
 use lib.ListN.{length}
+use Rattle.rules.specs.declared.Shape.{Shape}
 use Rattle.rules.specs.Lists.{runOver}
-use Rattle.rules.specs.Domain.{Domain, Actions, domain, shapeOf}
-use Rattle.rules.specs.Layer.{size, stride}
+use Rattle.rules.specs.Domain.{Domain}
+use Rattle.rules.specs.Layer.{size, wordCount}
 use Rattle.rules.specs.Shared.{propFrom}
 use Rattle.words.specs.Memory.{putAt}
 use Rattle.words.specs.Rows.{rowLength, tableLength, Inside}
 use Rattle.layers.specs.Step.{Mating, stepWords}
 use Rattle.graph.specs.Limits.{maxDepth}
+use Rattle.graph.specs.Checks.{Small}
 
 -- t of `depth` steps over the layer l make w of w₀; if they end before the depth, layer t, labels and mutex words, equals the one before it
 pub record Ended (D : Domain) (all : ℕ) (l : List ℕ) (depth : ℕ) (w₀ : List ℕ) (t : ℕ) (w : List ℕ) : Type 0 where
@@ -27,3 +29,11 @@ pub record Lent (n width depth : ℕ) (needs adds dels adders interferers labels
   pub t-long : length t ≡ tableLength
   pub deep : depth ≤ maxDepth
   pub fits : size n + depth * (size (length needs + n) + size n) ≤ length words
+
+-- what it asks that copies the last of `done` steps up to the depth
+pub record Left (S : Shape) (done depth : ℕ) (words : List ℕ) : Type 0 where
+  pub small : Small S
+  pub deep : depth ≤ maxDepth
+  pub within : done ≤ depth
+  pub some : done < depth → 0 < done
+  pub fits : wordCount S depth ≤ length words

@@ -1,9 +1,14 @@
 // Layers written again and again, once the graph rests.
+use graph::layout::stride;
+use graph::layout::word_count;
+use rules::Shape;
 ghost use mathlib.Core.Path.{_≡_};
 ghost use Prim.Native.Nat.{_+_, _-_, _%_, _≤_, _<_};
 ghost use lib.ListN.{length, getD};
 ghost use Rattle.rules.specs.Lists.{listOver};
+ghost use Rattle.rules.specs.Layer as L;
 ghost use Rattle.words.specs.Memory.{putAt};
+ghost use Rattle.build.specs.Steps.{Left};
 
 // So many words on, a load need not wait for the store that it copies.
 const APART: usize = 1024;
@@ -19,7 +24,7 @@ fn copy_on(words: &mut [u64], to: usize, stride: usize, count: usize)
 }
 
 // The same, with a stride of many such strides once there are so many words: a load then need not wait for the store just before it.
-pub fn repeat(words: &mut [u64], to: usize, stride: usize, count: usize)
+fn repeat(words: &mut [u64], to: usize, stride: usize, count: usize)
     requires { ⌜ (0 < count → (0 < stride) × (stride ≤ to)) × (to + count ≤ length (now words)) ⌝ }
     ensures { λ r. ⌜ now (words .exit) ≡ putAt to (listOver count (λ i. getD (now (words .entry)) (to - stride + i % stride) 0)) (now (words .entry)) ⌝ }
 {
@@ -33,4 +38,13 @@ pub fn repeat(words: &mut [u64], to: usize, stride: usize, count: usize)
     }
     copy_on(&mut *words, to, stride, first);
     copy_on(words, to + first, span, count - first)
+}
+
+// After `done` steps the graph rests or the depth is reached: the words of the steps that are left are those of the last one, again and again.
+pub fn copy_rest(words: &mut [u64], s: Shape, done: usize, depth: usize)
+    requires { ⌜ Left s done depth (now words) ⌝ }
+    ensures { λ _. ⌜ now (words .exit) ≡ putAt (L.wordCount s done) (listOver (L.wordCount s depth - L.wordCount s done) (λ i. getD (now (words .entry)) (L.wordCount s done - L.stride s + i % L.stride s) 0)) (now (words .entry)) ⌝ }
+{
+    let to = word_count(s, done);
+    repeat(words, to, stride(s), word_count(s, depth) - to);
 }

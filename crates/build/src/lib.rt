@@ -3,11 +3,12 @@ mod copies;
 mod problem;
 mod steps;
 
+use crate::copies::copy_rest;
 use crate::problem::many_pairs;
 use crate::problem::read_labels;
 use crate::problem::read_problem;
 use crate::problem::width_for;
-use crate::steps::steps;
+use crate::steps::steps_until;
 use graph::checks::check_graph;
 use graph::file::FileAnswer;
 use graph::file::check_file;
@@ -17,7 +18,6 @@ use graph::limits::MAX_ACTIONS;
 use graph::refusal::Check;
 use graph::refusal::Refusal;
 use layers::start::start;
-use words::sets::STATE_WIDTH;
 use words::sets::States;
 use words::tables::ROW;
 use words::tables::TABLE;
@@ -43,54 +43,6 @@ pub enum BuildAnswer {
     Refused(Refusal),
 }
 
-// All layers to the depth, from the labels of layer 0.
-fn layers_of(
-    words: &mut [u64],
-    n: usize,
-    needs: &[u32],
-    adds: &[u32],
-    dels: &[u32],
-    adders: &[u64],
-    interferers: &[u64],
-    all: u64,
-    width: usize,
-    depth: usize,
-    labels: &mut [u64],
-    live: &mut [u64],
-    t: &mut [u64],
-    r: &mut [u64],
-    mates: &mut [u64],
-    besides: &mut [u64],
-    spare: &mut [u64],
-)
-    requires { ⌜ Lent n width depth (now needs) (now adds) (now dels) (now adders) (now interferers) (now labels) (now live) (now t) (now r) (now mates) (now besides) (now spare) (now words) ⌝ }
-    ensures { λ _. ⌜ ((A : Actions) (m : ℕ) (start : ℕ → ℕ) → Told A n (now (needs .entry)) (now (adds .entry)) (now (adders .entry)) (now (interferers .entry)) → Deletes A (now (dels .entry))
-        → all ≡ W.first m → ((p : ℕ) → p < n → getD (now (labels .entry)) p 0 ≡ startLabel m start p)
-        → now (words .exit) ≡ putAt 0 (graphWords (domain A) m start depth) (now (words .entry))) ⌝ }
-{
-    start(&mut *words, &mut *t, &*labels, &*spare, n, width);
-    steps(
-        words,
-        n,
-        needs,
-        adds,
-        dels,
-        adders,
-        interferers,
-        all,
-        many_pairs(interferers, width),
-        width,
-        depth,
-        labels,
-        live,
-        t,
-        r,
-        mates,
-        besides,
-        spare,
-    );
-}
-
 // Writes the words, with room lent for the lists and tables.
 fn build_in(
     file: &[u8],
@@ -100,7 +52,6 @@ fn build_in(
     needs: &mut [u32],
     adds: &mut [u32],
     dels: &mut [u32],
-    starts: &mut [u32],
     adders: &mut [u64],
     interferers: &mut [u64],
     labels: &mut [u64],
@@ -112,7 +63,7 @@ fn build_in(
     spare: &mut [u64],
 )
     requires { ⌜ Taken (now file) c × (depth ≤ maxDepth) × (wordCount (shapeIn c) depth ≤ length (now words)) ⌝ }
-    requires { ⌜ Rooms c (now needs) (now adds) (now dels) (now starts) (now adders) (now interferers) (now labels) (now live) (now t) (now r) (now mates) (now besides) (now spare) ⌝ }
+    requires { ⌜ Rooms c (now needs) (now adds) (now dels) (now adders) (now interferers) (now labels) (now live) (now t) (now r) (now mates) (now besides) (now spare) ⌝ }
     ensures { λ _. ⌜ now (words .exit) ≡ putAt 0 (graphOf (now (file .entry)) c depth) (now (words .entry)) ⌝ }
 {
     read_problem(
@@ -124,17 +75,21 @@ fn build_in(
         &mut *adders,
         &mut *interferers,
     );
-    read_labels(file, c, starts, &mut *labels);
-    layers_of(
-        words,
-        c.props,
+    read_labels(file, c, &mut *labels);
+    let n = c.props;
+    let width = width_for(c);
+    start(&mut *words, &mut *t, &*labels, &*spare, n, width);
+    let done = steps_until(
+        &mut *words,
+        n,
         &needs[..],
         &adds[..],
         &dels[..],
         &adders[..],
         &interferers[..],
         States::first(c.states).0,
-        width_for(c),
+        many_pairs(&interferers[..], width),
+        width,
         depth,
         labels,
         live,
@@ -144,6 +99,7 @@ fn build_in(
         besides,
         spare,
     );
+    copy_rest(words, c.shape(), done, depth);
 }
 
 // Writes the words; lists and tables are arrays of this call.
@@ -153,11 +109,9 @@ fn build_words(file: &[u8], c: Counts, depth: usize, words: &mut [u64])
 {
     let p = c.props;
     let a = c.actions;
-    let n = c.states;
     let mut needs = [0u32; MAX_ACTIONS];
     let mut adds = [0u32; MAX_ACTIONS];
     let mut dels = [0u32; MAX_ACTIONS];
-    let mut starts = [0u32; STATE_WIDTH];
     let mut adders = [0u64; ROW];
     let mut interferers = [0u64; ROW];
     let mut labels = [0u64; ROW];
@@ -175,7 +129,6 @@ fn build_words(file: &[u8], c: Counts, depth: usize, words: &mut [u64])
         &mut needs[..a],
         &mut adds[..a],
         &mut dels[..a],
-        &mut starts[..n],
         &mut adders[..p],
         &mut interferers[..a],
         &mut labels[..],

@@ -6,11 +6,14 @@ use graph::read::precondition;
 use graph::read::start;
 use together::interference::interferer_sets;
 use words::columns::columns;
+use words::columns::spread;
+use words::members::single;
 use words::parts::PART;
+use words::sets::Props;
 use words::tables::ROW;
 ghost use mathlib.Core.Path.{_≡_};
-ghost use Prim.Native.Nat.{ℕ, _*_, _≤_, _<_};
-ghost use lib.ListN.{length, getD};
+ghost use Prim.Native.Nat.{_*_, _≤_};
+ghost use lib.ListN.{length};
 ghost use Rattle.rules.specs.Lists.{listOver};
 ghost use Rattle.rules.specs.Shared.{startLabel};
 ghost use Rattle.words.specs.Rows.{rowLength, InParts};
@@ -35,15 +38,6 @@ fn read_actions(file: &[u8], c: Counts, needs: &mut [u32], adds: &mut [u32], del
     }
 }
 
-fn read_starts(file: &[u8], c: Counts, out: &mut [u32])
-    requires { ⌜ Taken (now file) c × (length (now out) ≡ c .states) ⌝ }
-    ensures { λ r. ⌜ now (out .exit) ≡ listOver (c .states) (startOf (now (file .entry)) c) ⌝ }
-{
-    for s in 0..out.len() {
-        out[s] = start(file, c, s);
-    }
-}
-
 // The actions' sets, the adders of each proposition, and the actions that interfere with each.
 pub fn read_problem(
     file: &[u8],
@@ -62,14 +56,14 @@ pub fn read_problem(
     interferer_sets(&needs[..], &adds[..], &dels[..], &mut *interferers);
 }
 
-// The labels of layer 0, at the front of a row of empty words.
-pub fn read_labels(file: &[u8], c: Counts, starts: &mut [u32], labels: &mut [u64])
-    requires { ⌜ Taken (now file) c × (length (now starts) ≡ c .states) × (now labels ≡ listOver rowLength (λ p. 0)) ⌝ }
-    ensures { λ _. ⌜ ((p : ℕ) → p < c .props → getD (now (labels .exit)) p 0 ≡ startLabel (c .states) (startOf (now (file .entry)) c) p) ⌝ }
+// The labels of layer 0, in a row of empty words.
+pub fn read_labels(file: &[u8], c: Counts, labels: &mut [u64])
+    requires { ⌜ Taken (now file) c × (now labels ≡ listOver rowLength (λ p. 0)) ⌝ }
+    ensures { λ _. ⌜ now (labels .exit) ≡ listOver rowLength (startLabel (c .states) (startOf (now (file .entry)) c)) ⌝ }
 {
-    let n = c.props;
-    read_starts(file, c, &mut *starts);
-    columns(&mut labels[..n], &starts[..]);
+    for s in 0..c.states {
+        spread(&mut *labels, Props(start(file, c, s)), single(s));
+    }
 }
 
 // How many actions interfere, counted both ways.

@@ -1,21 +1,15 @@
 // Layer behind layer, each written into the part of the memory that begins where the one before it ended.
-use crate::copies::repeat;
 use graph::layout::layer_size;
 use layers::step::step;
-ghost use mathlib.Core.Path.{_≡_};
 ghost use Prim.Native.Nat.{_≤_, _<_};
-ghost use Rattle.rules.specs.Lists.{runOver};
 ghost use Rattle.rules.specs.Domain.{Actions, domain};
-ghost use Rattle.rules.specs.Layer.{size};
-ghost use Rattle.rules.specs.Shared.{propFrom};
 ghost use Rattle.rules.specs.Together.{layerBy};
-ghost use Rattle.words.specs.Memory.{putAt};
 ghost use Rattle.words.specs.Rows.{cell};
-ghost use Rattle.layers.specs.Step.{Told, Deletes, Tells, stepWords};
+ghost use Rattle.layers.specs.Step.{Told, Deletes, Tells};
 ghost use Rattle.build.specs.Steps.{Lent, Ended};
 
 // Writes steps behind layer 0 until the graph rests or the depth is reached; how many.
-fn steps_until(
+pub fn steps_until(
     words: &mut [u64],
     n: usize,
     needs: &[u32],
@@ -68,55 +62,4 @@ fn steps_until(
         at += apart;
     }
     depth
-}
-
-// Writes so many action and proposition layers behind layer 0. Where the graph rests, those that are left are copies.
-pub fn steps(
-    words: &mut [u64],
-    n: usize,
-    needs: &[u32],
-    adds: &[u32],
-    dels: &[u32],
-    adders: &[u64],
-    interferers: &[u64],
-    all: u64,
-    many: bool,
-    width: usize,
-    depth: usize,
-    labels: &mut [u64],
-    live: &mut [u64],
-    t: &mut [u64],
-    r: &mut [u64],
-    mates: &mut [u64],
-    besides: &mut [u64],
-    spare: &mut [u64],
-)
-    requires { ⌜ Lent n width depth (now needs) (now adds) (now dels) (now adders) (now interferers) (now labels) (now live) (now t) (now r) (now mates) (now besides) (now spare) (now words) ⌝ }
-    ensures { λ _. ⌜ ((A : Actions) → Told A n (now (needs .entry)) (now (adds .entry)) (now (adders .entry)) (now (interferers .entry)) → Deletes A (now (dels .entry)) → Tells A all (now (labels .entry)) (now (t .entry)) → now (words .exit) ≡ putAt (size n) (runOver depth (λ k. stepWords (domain A) all (propFrom (domain A) all (layerBy (domain A .props) (cell (now (t .entry)))) k))) (now (words .entry))) ⌝ }
-{
-    let done = steps_until(
-        &mut *words,
-        n,
-        needs,
-        adds,
-        dels,
-        adders,
-        interferers,
-        all,
-        many,
-        width,
-        depth,
-        labels,
-        live,
-        t,
-        r,
-        mates,
-        besides,
-        spare,
-    );
-    let count = layer_size(n);
-    let apart = layer_size(needs.len() + n) + count;
-    let to = count + done * apart;
-    let left = (depth - done) * apart;
-    repeat(words, to, apart, left);
 }

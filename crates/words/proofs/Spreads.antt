@@ -114,20 +114,20 @@ spread-nothing t all row e =
 
 -- ---- lists of sets turned round, one set after the other
 
-pub columns-none : (n : ℕ) (sets row : List ℕ) → row ≡ listOver n (λ q. 0) → row ≡ listOver n (startLabel 0 (λ a. getD sets a 0))
+pub columns-none : (n : ℕ) (f : ℕ → ℕ) (row : List ℕ) → row ≡ listOver n (λ q. 0) → row ≡ listOver n (startLabel 0 f)
 unfolding startLabel joinOver
-columns-none n sets row e = e
+columns-none n f row e = e
 
 label-next : (i : ℕ) (f : ℕ → ℕ) (q : ℕ) → union (startLabel i f q) (keep (bit q (f i)) (single i)) ≡ startLabel (suc i) f q
 unfolding startLabel joinOver
 label-next i f q = refl
 
-pub columns-more : (n i : ℕ) (sets row row' : List ℕ) (x y : ℕ) → row ≡ listOver n (startLabel i (λ a. getD sets a 0)) → x ≡ getD sets i 0 → y ≡ single i
-    → row' ≡ listOver (length row) (λ q. union (labelIn row q) (keep (bit q x) y)) → row' ≡ listOver n (startLabel (i + 1) (λ a. getD sets a 0))
+pub columns-more : (n i : ℕ) (f : ℕ → ℕ) (row row' : List ℕ) (x y : ℕ) → row ≡ listOver n (startLabel i f) → x ≡ f i → y ≡ single i
+    → row' ≡ listOver (length row) (λ q. union (labelIn row q) (keep (bit q x) y)) → row' ≡ listOver n (startLabel (i + 1) f)
 unfolding labelIn
-columns-more n i sets row row' x y e f g h =
+columns-more n i f row row' x y e named one h =
     h ∙ ap (λ (m : ℕ). listOver m (λ q. union (getD row q 0) (keep (bit q x) y))) (ap length e ∙ length-listOver n _)
     ∙ listOver-eq n _ _ (λ q l.
     ap (λ (z : ℕ). union z (keep (bit q x) y)) (ap (λ (r : List ℕ). getD r q 0) e ∙ getD-listOver n _ q l)
-    ∙ ap₂ (λ (u v : ℕ). union (startLabel i (λ a. getD sets a 0) q) (keep (bit q u) v)) f g ∙ label-next i (λ a. getD sets a 0) q
-    ∙ ap (λ (k : ℕ). startLabel k (λ a. getD sets a 0) q) (sym (add-one i)))
+    ∙ ap₂ (λ (u v : ℕ). union (startLabel i f q) (keep (bit q u) v)) named one ∙ label-next i f q
+    ∙ ap (λ (k : ℕ). startLabel k f q) (sym (add-one i)))

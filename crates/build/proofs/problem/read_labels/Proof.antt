@@ -1,62 +1,76 @@
--- The start states, turned round at the front of the row.
-use mathlib.Core.Path.{_≡_, sym, ap, _∙_}
-use mathlib.Core.List.{List}
-use Prim.Native.Nat.{ℕ, _≤_}
+-- The loop joins each start state to the labels of what it contains.
+use mathlib.Core.Path.{_≡_, refl, ap, _∙_}
+use Prim.Native.Nat.{ℕ, _-_, _≤_}
 use native.Mathlib.Omega.{arith}
-use borrow.Author.Needs.{needs}
-use lib.ListN.{length, take, drop}
-use lib.Seq.{length-take-le}
+use borrow.Author.Needs.{needs as simple}
+use lib.ListN.{length}
 use Rattle.rules.specs.Lists.{listOver}
+use Rattle.rules.specs.Shared.{startLabel}
 use Rattle.rules.proofs.Layers.{length-listOver}
 use Rattle.words.specs.Rows.{rowLength}
-use Rattle.words.proofs.Zeros.{zeros-front}
+use Rattle.words.proofs.Spreads.{columns-none, columns-more}
 use Rattle.graph.specs.Format.{startOf}
-use Rattle.build.proofs.Listings.{labels-read}
 use Rattle.build.proofs.problem.read_labels.Statement.{statement}
 use Rattle.build.proofs.problem.read_labels.Tie as tie
 
-row-fits : (start : tie.Start) → start .args .c .props ≤ length (start .args .labels .now)
-row-fits start = omega (arith, ap length (start .pre .2), length-listOver rowLength (λ p. 0), start .pre .0 .ranged .props)
+abbrev Inv-loop : tie.InvT-loop
+Inv-loop file c labels₀ s₀ s-end labels s = (s ≤ c .states) × (length labels ≡ length labels₀) × (labels ≡ listOver rowLength (startLabel s (startOf file c)))
 
-read-starts-requires : tie.Need-read-starts-requires
-read-starts-requires c κs = search needs
+abbrev μ-loop : tie.MeasureT-loop
+μ-loop file c labels₀ s₀ s-end labels s = c .states - s
 
-slice-relend-prefix-columns : tie.Need-slice-relend-prefix-columns
-slice-relend-prefix-columns c = row-fits (c .before .before .before .before .before .before .before)
+loop-holds : tie.Need-loop-holds Inv-loop μ-loop
+loop-holds c = (omega arith, refl, columns-none _ _ _ (c .before .before .pre .1))
 
-slice-aggregate-columns : tie.Need-slice-aggregate-columns
-slice-aggregate-columns c = let start = c .before .before .before .before .before .before .before .before in
-    sym (length-take-le (start .args .c .props) (start .args .labels .now) (row-fits start))
+start-requires : tie.Need-start-requires Inv-loop μ-loop
+start-requires c κs = search simple
 
-columns-requires : tie.Need-columns-requires
-columns-requires c κs = let start = c .before .before .before .before .before .before .before .before .before in
-    let n = start .args .c .props in
-    let long = length-take-le n (start .args .labels .now) (row-fits start) in (
-      omega (arith, long, start .pre .0 .ranged .props),
-      omega (arith, start .pre .0 .ranged .states, ap length (c .before .before .before .before .read-starts .ensures), length-listOver (start .args .c .states) (startOf (start .args .file .now) (start .args .c))),
-      zeros-front n rowLength (start .args .labels .now) (start .pre .2) (start .pre .0 .ranged .props) ∙ ap (λ (x : ℕ). listOver x (λ p. 0)) (sym long),
+single-requires : tie.Need-single-requires Inv-loop μ-loop
+single-requires c κs = let start = c .before .before .before .before .before .before in
+    omega (arith, c .before .before .loop-test .taken, start .pre .0 .ranged .states)
+
+spread-requires : tie.Need-spread-requires Inv-loop μ-loop
+spread-requires c κs = let at-loop = c .before .before .before .before in
+    omega (arith, ap length (at-loop .loop .inv .2), length-listOver rowLength (startLabel (at-loop .loop .s) (startOf (at-loop .before .before .before .args .file .now) (at-loop .before .before .before .args .c))))
+
+add-s : tie.Need-add-s Inv-loop μ-loop
+add-s c = omega arith
+
+loop-less : tie.Need-loop-less Inv-loop μ-loop
+loop-less c = omega arith
+
+loop-again : tie.Need-loop-again Inv-loop μ-loop
+loop-again c =
+    let at-spread = c .before .before in
+    let l = at-spread .before .before .before .before .before .loop in (
+      omega arith,
+      at-spread .spread .kept .0 ∙ l .inv .1,
+      columns-more _ (l .s) _ (l .labels) _ _ _ (l .inv .2) (c .before .before .before .before .start .ensures)
+          (c .before .before .before .single .ensures) (at-spread .spread .ensures),
     )
 
-same-length : tie.Need-same-length
-same-length c = search needs
+same-length : tie.Need-same-length Inv-loop μ-loop
+same-length c = c .before .loop .inv .1
 
-same-length-2 : tie.Need-same-length-2
-same-length-2 c = search needs
-
-returns : tie.Need-returns
-returns c = let start = c .before .before .before .before .before .before .before .before .before .before .before .before in
-    let n = start .args .c .props in
-    labels-read n (start .args .c .states) (startOf (start .args .file .now) (start .args .c)) _ _ (take n (start .args .labels .now)) (drop n (start .args .labels .now))
-    (length-take-le n (start .args .labels .now) (row-fits start)) (c .before .before .columns .ensures) (c .before .before .before .before .before .before .before .read-starts .ensures)
+returns : tie.Need-returns Inv-loop μ-loop
+returns c =
+    let l = c .before .loop in
+    let a = c .before .before .before .before .args in
+    let e : l .s ≡ a .c .states = omega (arith, l .inv .0) in
+    l .inv .2 ∙ ap (λ (x : ℕ). listOver rowLength (startLabel x (startOf (a .file .now) (a .c)))) e
 
 pub read-labels-spec : {M : Type 1} → statement M
 read-labels-spec =
     tie.close
     (tie.spec
-    read-starts-requires
-    slice-relend-prefix-columns
-    slice-aggregate-columns
-    columns-requires
+    Inv-loop
+    μ-loop
+    loop-holds
+    start-requires
+    single-requires
+    spread-requires
+    add-s
+    loop-less
+    loop-again
     same-length
-    same-length-2
     returns)

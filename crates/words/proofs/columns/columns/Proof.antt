@@ -25,7 +25,7 @@ loop-holds c =
       start .pre .1,
       omega arith,
       refl,
-      columns-none _ (start .args .sets .now) _ (start .pre .2),
+      columns-none _ _ _ (start .pre .2),
     )
 
 mul-t9 : tie.Need-mul-t9 Inv-loop μ-loop
@@ -54,7 +54,7 @@ loop-again c =
       l .inv .1,
       omega arith,
       at-spread .spread .kept .0 ∙ l .inv .3,
-      columns-more _ (l .i) (c .before .before .before .before .before .before .before .before .before .before .args .sets .now) (l .row) _ _ _
+      columns-more _ (l .i) _ (l .row) _ _ _
           (l .inv .4) refl (c .before .before .before .single .ensures) (at-spread .spread .ensures),
     )
 
