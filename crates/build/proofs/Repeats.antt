@@ -2,33 +2,26 @@
 -- Assumes nothing.
 use Prim.Native.Nat.{ℕ, zero, suc, _+_, _-_, _*_, _/_, _%_, _≤_, _<_}
 use mathlib.Core.Path.{_≡_, refl, sym, ap, ap₂, subst, _∙_}
-use mathlib.Core.Bool.{Bool, false, So, false≢true}
 use mathlib.Core.Logic.{by-cases}
-use mathlib.Core.List.{List, _++_, append-nil}
+use mathlib.Core.List.{List, _++_}
 use native.Mathlib.Decide.{decLe}
-use native.Mathlib.Nat.{mul-le-mul, le-refl, add-comm, suc-mul, zero-mul, mul-zero, one-mul, add-mul, mul-le-mul-right, add-sub-of-le}
+use native.Mathlib.Nat.{le-refl, add-comm, suc-mul, zero-mul, mul-zero, one-mul, add-mul, mul-le-mul-right, add-sub-of-le}
 use native.Mathlib.Nat.{mod-lt, mod-eq-of-lt, mod-eq-sub-mod, mul-add-mod-self-right, div-add-mod', mul-assoc}
-use native.Mathlib.Numerals.{add-one}
 use native.Mathlib.Omega.{arith}
-use borrow.Rule.Slice.PartMut.{putMid}
-use lib.ListN.{length, getD, take, drop, length-append, drop-of-length-le}
-use lib.Seq.{getD-take, getD-append-add, drop-at, drop-drop, length-take-le, ext-getD}
+use lib.ListN.{length, getD, take}
+use lib.Seq.{getD-append-add}
 use Rattle.rules.specs.declared.Shape.{Shape}
-use Rattle.rules.specs.Test.{same}
-use Rattle.rules.specs.Over.{allBelow}
 use Rattle.rules.specs.Lists.{listOver, runOver}
 use Rattle.rules.specs.Domain.{Domain, shapeOf}
 use Rattle.rules.specs.Layer.{size, stride, wordCount}
 use Rattle.rules.specs.Shared.{propFrom}
-use Rattle.rules.proofs.Tests.{same-at, test-eq}
-use Rattle.rules.proofs.Overs.{all-at}
 use Rattle.rules.proofs.Rests.{rests}
 use Rattle.rules.proofs.Layouts.{count-stride}
 use Rattle.rules.proofs.Layers.{run-append, list-append, length-listOver, getD-listOver, listOver-eq, listOver-self, runOver-eq, length-runOver}
 use Rattle.words.specs.Memory.{putAt}
 use Rattle.layers.specs.Step.{stepWords}
 use Rattle.build.specs.Steps.{Ended, Left}
-use Rattle.words.proofs.Writes.{Lists, list-front, same-word, put-put, put-word, put-front, tail-all, tail-length}
+use Rattle.words.proofs.Writes.{Lists, list-front, same-word, put-none, put-length, put-put, put-word, put-front}
 use Rattle.build.proofs.Builds.{step-length}
 
 -- ---- a loop that writes the `far` words before `to` again and again
@@ -144,7 +137,7 @@ module _ {D : Domain} {all : ℕ} {l : List ℕ} {depth : ℕ} {w₀ : List ℕ}
       ∙ ap (λ (x : List ℕ). putAt (size (D .props)) x w₀)
       (sym (run-append t (depth - t) (step D all l)) ∙ ap (λ (x : ℕ). runOver x (step D all l)) (add-sub-of-le (s .within)))
 
--- ---- words copied from one stride back, then from many strides back
+-- ---- a loop that writes all words from one stride before `to` on again and again: `done` words are written, whole strides
 
 -- a remainder by many strides, by one
 mod-many : (i m s : ℕ) → i % (m * s) % s ≡ i % s
@@ -153,74 +146,95 @@ mod-many i m s =
     sym (mul-add-mod-self-right (i / (m * s) * m) s (i % (m * s))) ∙ ap (λ (x : ℕ). x % s) (ap (λ (x : ℕ). x + i % (m * s)) (mul-assoc (i / (m * s)) m s)
     ∙ sym e)
 
-module _ (to s m : ℕ) (w₀ w₁ : List ℕ) (some : 0 < s) (back : s ≤ to) (room : to + m * s ≤ length w₀)
-    (e₁ : w₁ ≡ putAt to (listOver (m * s) (λ k. getD w₀ (to - s + k % s) 0)) w₀) where
+pub record Again (to s count : ℕ) (w₀ : List ℕ) (done : ℕ) (w : List ℕ) : Type 0 where
+  pub times : ℕ
+  pub whole : done ≡ times * s
+  pub within : done ≤ count
+  pub long : length w ≡ length w₀
+  pub is : w ≡ putAt to (listOver done (λ k. getD w₀ (to - s + k % s) 0)) w₀
+
+pub again-none : {to s count : ℕ} {w : List ℕ} → Again to s count w 0 w
+unfolding listOver
+again-none {to} {s} {count} {w} = record { times = 0; whole = sym (zero-mul s); within = omega arith; long = refl; is = sym (put-none to w) }
+
+module _ {to s count : ℕ} {w₀ : List ℕ} {done : ℕ} {w : List ℕ} (a : Again to s count w₀ done w) (near : 0 < count → (0 < s) × (s ≤ to))
+    (room : to + count ≤ length w₀) where
+  abbrev word : ℕ → ℕ
+  word k = getD w₀ (to - s + k % s) 0
+
   abbrev copied : List ℕ
-  copied = listOver (m * s) (λ k. getD w₀ (to - s + k % s) 0)
+  copied = listOver done word
 
-  long : to + length copied ≤ length w₀
-  long = omega (arith, length-listOver (m * s) (λ k. getD w₀ (to - s + k % s) 0))
+  fitting : to + length copied ≤ length w₀
+  fitting = omega (arith, length-listOver done word, a .within)
 
-  -- what stands many strides back is what one stride back would give
-  far-word : (i x : ℕ) → x ≡ i % (suc m * s) → getD w₁ (to - s + x) 0 ≡ getD w₀ (to - s + (m * s + i) % s) 0
-  far-word i x e = by-cases (decLe s x) later sooner
+  -- what stands that far back is what one stride back would give
+  far-word : 0 < count → (i x : ℕ) → x ≡ i % (done + s) → getD w (to - s + x) 0 ≡ word (done + i)
+  far-word more i x e = by-cases (decLe s x) later sooner
     where
-      short : x < suc m * s
-      short = subst (λ (y : ℕ). y < suc m * s) (sym e) (mod-lt i (omega (arith, suc-mul m s)))
+      span : done + s ≡ suc (a .times) * s
+      span = omega (arith, a .whole, suc-mul (a .times) s)
 
-      target : getD w₀ (to - s + x % s) 0 ≡ getD w₀ (to - s + (m * s + i) % s) 0
-      target = ap (λ (y : ℕ). getD w₀ (to - s + y) 0) (ap (λ (y : ℕ). y % s) e ∙ mod-many i (suc m) s ∙ sym (mul-add-mod-self-right m s i))
+      short : x < done + s
+      short = subst (λ (y : ℕ). y < done + s) (sym e) (mod-lt i (omega (arith, near more .0)))
 
-      later : s ≤ x → getD w₁ (to - s + x) 0 ≡ getD w₀ (to - s + (m * s + i) % s) 0
+      target : word x ≡ word (done + i)
+      target = ap (λ (y : ℕ). getD w₀ (to - s + y) 0)
+          (ap (λ (y : ℕ). y % s) (e ∙ ap (λ (y : ℕ). i % y) span) ∙ mod-many i (suc (a .times)) s ∙ sym (mul-add-mod-self-right (a .times) s i)
+          ∙ ap (λ (y : ℕ). (y + i) % s) (sym (a .whole)))
+
+      later : s ≤ x → getD w (to - s + x) 0 ≡ word (done + i)
       later h =
-          let q : to - s + x ≡ to + (x - s) = omega arith in
-          let k : x - s < m * s = omega (arith, short, suc-mul m s) in
-          ap₂ (λ (l : List ℕ) (y : ℕ). getD l y 0) e₁ q
-          ∙ put-word to copied w₀ long (x - s) (omega (arith, length-listOver (m * s) (λ k. getD w₀ (to - s + k % s) 0)))
-          ∙ getD-listOver (m * s) (λ k. getD w₀ (to - s + k % s) 0) (x - s) k
+          let q : to - s + x ≡ to + (x - s) = omega (arith, near more .1) in
+          ap₂ (λ (l : List ℕ) (y : ℕ). getD l y 0) (a .is) q
+          ∙ put-word to copied w₀ fitting (x - s) (omega (arith, short, length-listOver done word))
+          ∙ getD-listOver done word (x - s) (omega (arith, short))
           ∙ ap (λ (y : ℕ). getD w₀ (to - s + y) 0) (sym (mod-eq-sub-mod h)) ∙ target
 
-      sooner : (s ≤ x → ⊥) → getD w₁ (to - s + x) 0 ≡ getD w₀ (to - s + (m * s + i) % s) 0
+      sooner : (s ≤ x → ⊥) → getD w (to - s + x) 0 ≡ word (done + i)
       sooner h =
           let k : x < s = omega arith in
-          same-word to (to - s + x) w₁ w₀ (ap (take to) e₁ ∙ put-front to copied w₀ long to (le-refl to)) (omega arith)
+          same-word to (to - s + x) w w₀ (ap (take to) (a .is) ∙ put-front to copied w₀ fitting to (le-refl to)) (omega (arith, near more .1))
           ∙ ap (λ (y : ℕ). getD w₀ (to - s + y) 0) (sym (mod-eq-of-lt k)) ∙ target
 
-  pub again-put : (rest : ℕ) (w₂ : List ℕ)
-      → w₂ ≡ putAt (to + m * s) (listOver rest (λ i. getD w₁ (to + m * s - suc m * s + i % (suc m * s)) 0)) w₁
-      → w₂ ≡ putAt to (listOver (m * s + rest) (λ k. getD w₀ (to - s + k % s) 0)) w₀
-  again-put rest w₂ e₂ =
-      let g : ℕ → ℕ = λ k. getD w₀ (to - s + k % s) 0 in
-      let here : to + m * s - suc m * s ≡ to - s = omega (arith, suc-mul m s) in
-      let l : length copied ≡ m * s = length-listOver (m * s) g in
-      e₂
-      ∙ ap (λ (x : List ℕ). putAt (to + m * s) x w₁) (listOver-eq rest _ (λ i. g (m * s + i)) (λ i h.
-      ap (λ (y : ℕ). getD w₁ (y + i % (suc m * s)) 0) here ∙ far-word i (i % (suc m * s)) refl))
-      ∙ ap₂ (λ (x : ℕ) (y : List ℕ). putAt (to + x) (listOver rest (λ i. g (m * s + i))) y) (sym l) e₁
-      ∙ put-put to copied w₀ long (listOver rest (λ i. g (m * s + i)))
-      ∙ ap (λ (x : List ℕ). putAt to x w₀) (sym (list-append (m * s) rest g))
+  -- so many more words, each from that far back
+  again-put : {w₂ : List ℕ} → 0 < count → (more : ℕ) → w₂ ≡ putAt (to + done) (listOver more (λ i. getD w (to + done - (done + s) + i % (done + s)) 0)) w
+      → w₂ ≡ putAt to (listOver (done + more) word) w₀
+  again-put some more e =
+      let here : to + done - (done + s) ≡ to - s = omega arith in
+      e
+      ∙ ap (λ (x : List ℕ). putAt (to + done) x w) (listOver-eq more _ (λ i. word (done + i)) (λ i h.
+      ap (λ (y : ℕ). getD w (y + i % (done + s)) 0) here ∙ far-word some i (i % (done + s)) refl))
+      ∙ ap₂ (λ (x : ℕ) (y : List ℕ). putAt (to + x) (listOver more (λ i. word (done + i))) y) (sym (length-listOver done word)) (a .is)
+      ∙ put-put to copied w₀ fitting (listOver more (λ i. word (done + i)))
+      ∙ ap (λ (x : List ℕ). putAt to x w₀) (sym (list-append done more word))
 
-  -- the code's numbers: `first` words from one stride back, the rest from `span` words back
-  pub two-copies : (count first span : ℕ) (w₂ : List ℕ) → first ≡ m * s → span ≡ suc m * s → first ≤ count
-      → w₂ ≡ putAt (to + first) (listOver (count - first) (λ i. getD w₁ (to + first - span + i % span) 0)) w₁
-      → w₂ ≡ putAt to (listOver count (λ k. getD w₀ (to - s + k % s) 0)) w₀
-  two-copies count first span w₂ ef es h e₂ =
-      let all : m * s + (count - first) ≡ count = omega arith in
-      again-put (count - first) w₂
-      (e₂ ∙ ap₂ (λ (x y : ℕ). putAt (to + x) (listOver (count - first) (λ i. getD w₁ (to + x - y + i % y) 0)) w₁) ef es)
-      ∙ ap (λ (x : ℕ). putAt to (listOver x (λ k. getD w₀ (to - s + k % s) 0)) w₀) all
+  pub again-more : {w₂ : List ℕ} → done + (done + s) < count
+      → w₂ ≡ putAt (to + done) (listOver (done + s) (λ i. getD w (to + done - (done + s) + i % (done + s)) 0)) w
+      → Again to s count w₀ (done + (done + s)) w₂
+  again-more h e =
+      let m = a .times in
+      let is = again-put (omega arith) (done + s) e in
+      record {
+        times = m + suc m;
+        whole = omega (arith, a .whole, add-mul m (suc m) s, suc-mul m s);
+        within = omega arith;
+        long = ap length is ∙ put-length to (listOver (done + (done + s)) word) w₀ (omega (arith, length-listOver (done + (done + s)) word));
+        is = is;
+      }
 
--- so many strides and one more
-pub one-stride : (m s : ℕ) → (m + 1) * s ≡ suc m * s
-one-stride m s = ap (λ (x : ℕ). x * s) (add-one m)
+  pub again-done : {w₂ : List ℕ} → w₂ ≡ putAt (to + done) (listOver (count - done) (λ i. getD w (to + done - (done + s) + i % (done + s)) 0)) w
+      → w₂ ≡ putAt to (listOver count word) w₀
+  unfolding listOver
+  again-done e = by-cases (decLe 1 count)
+      (λ h. again-put h (count - done) e ∙ ap (λ (x : ℕ). putAt to (listOver x word) w₀) (add-sub-of-le (a .within)))
+      (λ h.
+      let none : count - done ≡ 0 = omega arith in
+      let all : done ≡ count = omega (arith, a .within) in
+      e ∙ ap (λ (x : ℕ). putAt (to + done) (listOver x (λ i. getD w (to + done - (done + s) + i % (done + s)) 0)) w) none
+      ∙ put-none (to + done) w ∙ a .is ∙ ap (λ (x : ℕ). putAt to (listOver x word) w₀) all)
 
 -- ---- what is left has room
-
-pub small-product : {a b : ℕ} → a ≤ 255 → b ≤ 4160 → a * b ≤ 1060800
-small-product h k = mul-le-mul h k
-
-pub few-product : {a b : ℕ} → a ≤ 1024 → b ≤ 32 → a * b ≤ 32768
-few-product h k = mul-le-mul h k
 
 -- after `done` of `depth` steps: the words that are left have room, and a step stands before them
 module _ {S : Shape} {done depth : ℕ} {words : List ℕ} (left : Left S done depth words) where

@@ -23,21 +23,28 @@ fn copy_on(words: &mut [u64], to: usize, stride: usize, count: usize)
     }
 }
 
-// The same, with a stride of many such strides once there are so many words: a load then need not wait for the store just before it.
+// The smaller of two numbers.
+fn least(a: usize, b: usize) -> usize
+    ensures { λ r. ⌜ r ≤ a ⌝ }
+{
+    if a < b {
+        return a;
+    }
+    b
+}
+
+// The same: while few words are written, all of them are written again, so that a load need not wait for the store just before it.
 fn repeat(words: &mut [u64], to: usize, stride: usize, count: usize)
     requires { ⌜ (0 < count → (0 < stride) × (stride ≤ to)) × (to + count ≤ length (now words)) ⌝ }
     ensures { λ r. ⌜ now (words .exit) ≡ putAt to (listOver count (λ i. getD (now (words .entry)) (to - stride + i % stride) 0)) (now (words .entry)) ⌝ }
 {
-    if count == 0 {
-        return;
+    let limit = least(count, APART);
+    let mut done = 0;
+    while done + done + stride < limit {
+        copy_on(&mut *words, to + done, done + stride, done + stride);
+        done += done + stride;
     }
-    let span = (APART / stride + 1) * stride;
-    let first = span - stride;
-    if count <= first {
-        return copy_on(words, to, stride, count);
-    }
-    copy_on(&mut *words, to, stride, first);
-    copy_on(words, to + first, span, count - first)
+    copy_on(words, to + done, done + stride, count - done)
 }
 
 // After `done` steps the graph rests or the depth is reached: the words of the steps that are left are those of the last one, again and again.

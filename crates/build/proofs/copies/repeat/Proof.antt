@@ -1,141 +1,108 @@
--- The two copies together are the words again and again.
-use mathlib.Core.Path.{_≡_, sym, ap, _∙_}
-use Prim.Native.Nat.{ℕ, _+_, _-_, _*_, _/_, _%_}
+-- All words written so far are written again, then those that are left.
+use Prim.Native.Nat.{_-_}
+use mathlib.Core.Logic.{by-cases}
+use native.Mathlib.Decide.{decLe}
 use native.Mathlib.Omega.{arith}
-use native.Mathlib.Nat.{suc-mul, div-mul-le-self, div-le-self}
-use lib.ListN.{getD}
-use Rattle.rules.specs.Lists.{listOver}
-use Rattle.words.specs.Memory.{putAt}
-use Rattle.words.proofs.Writes.{put-none}
-use Rattle.build.proofs.Repeats.{two-copies, one-stride}
 use borrow.Author.Needs.{needs}
+use Rattle.build.proofs.Repeats.{Again, again-none, again-more, again-done}
 use Rattle.build.proofs.copies.repeat.Statement.{statement}
 use Rattle.build.proofs.copies.repeat.Tie as tie
 
-returns : tie.Need-returns
-unfolding listOver
-returns c = let a = c .before .before .args in
-    sym (ap (λ (x : ℕ). putAt (a .to) (listOver x (λ i. getD (a .words .now) (a .to - a .stride + i % a .stride) 0)) (a .words .now)) (c .if1 .taken)
-    ∙ put-none (a .to) (a .words .now))
+abbrev Inv-loop : tie.InvT-loop
+Inv-loop words₀ to stride count limit done₀ words done = Again to stride count words₀ done words
 
-div-span : tie.Need-div-span
-div-span c = c .before .before .pre .0 (omega (arith, c .if1 .left)) .0
+abbrev μ-loop : tie.MeasureT-loop
+μ-loop words₀ to stride count limit done₀ words done = count - done
 
-add-span : tie.Need-add-span
-add-span c = omega (arith, div-le-self 1024 (c .before .before .args .stride))
+least-requires : tie.Need-least-requires Inv-loop μ-loop
+least-requires c κs = search needs
 
-mul-span : tie.Need-mul-span
-mul-span c =
-    let start = c .before .before in
-    omega (
-      arith,
-      one-stride (1024 / start .args .stride) (start .args .stride),
-      suc-mul
-          (1024 / start .args .stride) (start .args .stride),
-      div-mul-le-self 1024
-          (start .args .stride),
-      start .pre .0 (omega (arith, c .if1 .left)),
-    )
+loop-holds : tie.Need-loop-holds Inv-loop μ-loop
+loop-holds c = again-none
 
-sub-first : tie.Need-sub-first
-sub-first c = search needs
+add-loop : tie.Need-add-loop Inv-loop μ-loop
+add-loop c = omega (arith, c .loop .inv .within)
 
-copy-on-requires : tie.Need-copy-on-requires
-copy-on-requires c κs = search needs
+add-loop-2 : tie.Need-add-loop-2 Inv-loop μ-loop
+add-loop-2 c =
+    by-cases (decLe 1 (c .before .before .before .args .count))
+    (λ h. omega (arith, c .loop .inv .within, c .before .before .before .pre .0 h)) (λ h. omega (arith, c .loop .inv .within))
 
-same-length : tie.Need-same-length
-same-length c = search needs
+add-copy-on : tie.Need-add-copy-on Inv-loop μ-loop
+add-copy-on c = omega arith
 
-returns-2 : tie.Need-returns-2
-returns-2 c = search needs
+add-copy-on-2 : tie.Need-add-copy-on-2 Inv-loop μ-loop
+add-copy-on-2 c = omega arith
 
-copy-on-requires-2 : tie.Need-copy-on-requires-2
-copy-on-requires-2 c κs = (λ _. c .before .before .before .before .pre .0 (omega (arith, c .before .before .if1 .left)), omega (arith, c .before .if2 .left))
+add-copy-on-3 : tie.Need-add-copy-on-3 Inv-loop μ-loop
+add-copy-on-3 c = omega arith
 
-add-copy-on : tie.Need-add-copy-on
-add-copy-on c = search needs
+copy-on-requires : tie.Need-copy-on-requires Inv-loop μ-loop
+copy-on-requires c κs =
+    let start = c .before .before .before .before .before in
+    let near = start .pre .0 (omega arith) in
+    (λ _. (omega (arith, near), omega (arith, near)), omega (arith, c .before .before .loop .inv .long))
 
-sub-copy-on : tie.Need-sub-copy-on
-sub-copy-on c = search needs
+add-done : tie.Need-add-done Inv-loop μ-loop
+add-done c = omega arith
 
-copy-on-requires-3 : tie.Need-copy-on-requires-3
-copy-on-requires-3 c κs =
+add-done-2 : tie.Need-add-done-2 Inv-loop μ-loop
+add-done-2 c = omega arith
+
+loop-less : tie.Need-loop-less Inv-loop μ-loop
+loop-less c = omega (arith, c .before .before .before .before .before .before .before .before .pre .0 (omega arith))
+
+loop-again : tie.Need-loop-again Inv-loop μ-loop
+loop-again c =
     let start = c .before .before .before .before .before .before .before .before in
-    let near = start .pre .0 (omega
-    (arith, c .before .before .before .before .before .before .if1 .left)) in (
-      (λ _. (
-        omega (
-          arith,
-          one-stride (1024 / start .args .stride)
-              (start .args .stride),
-          suc-mul
-              (1024 / start .args .stride)
-              (start .args .stride),
-          div-mul-le-self 1024
-              (start .args .stride),
-          near,
-        ),
-        omega (
-          arith,
-          one-stride
-              (1024 / start .args .stride)
-              (start .args .stride),
-          suc-mul
-              (1024 / start .args .stride)
-              (start .args .stride),
-          div-mul-le-self 1024
-              (start .args .stride),
-          near,
-        ),
-      )),
-      omega
-          (arith, c .before .before .before .before .before .if2 .left, c .before .before .before .copy-on2 .kept .0),
-    )
+    again-more (c .before .before .before .before .before .loop .inv) (start .pre .0) (start .pre .1) (omega arith) (c .before .before .copy-on .ensures)
 
-same-length-2 : tie.Need-same-length-2
-same-length-2 c = search needs
+add-copy-on-4 : tie.Need-add-copy-on-4 Inv-loop μ-loop
+add-copy-on-4 c = omega (arith, c .before .before .loop .inv .within)
 
-returns-3 : tie.Need-returns-3
-returns-3 c =
-    let at-if2 = c .before .before .before .before .before .before .before .before in
-    let start = at-if2 .before .before .before in
-    let a = start .args in
-    let m = 1024 / a .stride in
-    let near = start .pre .0 (omega
-    (arith, c .before .before .before .before .before .before .before .before .before .if1 .left)) in
-    let first : (m + 1) * a .stride - a .stride ≡ m * a .stride = omega (
-      arith,
-      one-stride
-          (1024 / start .args .stride)
-          (start .args .stride),
-      suc-mul
-          (1024 / start .args .stride)
-          (start .args .stride),
-      div-mul-le-self 1024
-          (start .args .stride),
-    ) in
-    two-copies (a .to) (a .stride) m (a .words .now) _ (near .0) (near .1) (omega
-    (arith, first, at-if2 .if2 .left))
-    (c .before .before .before .before .before .before .copy-on2 .ensures
-    ∙ ap (λ (x : ℕ). putAt (a .to) (listOver x (λ i. getD (a .words .now) (a .to - a .stride + i % a .stride) 0)) (a .words .now)) first)
-    (a .count) _ _ _ first (one-stride m (a .stride)) (omega (arith, at-if2 .if2 .left))
-    (c .before .before .copy-on3 .ensures)
+add-copy-on-5 : tie.Need-add-copy-on-5 Inv-loop μ-loop
+add-copy-on-5 c =
+    by-cases (decLe 1 (c .before .before .before .before .before .args .count))
+    (λ h. omega (arith, c .before .before .loop .inv .within, c .before .before .before .before .before .pre .0 h)) (λ h. omega (arith, c .before .before .loop .inv .within))
+
+sub-copy-on : tie.Need-sub-copy-on Inv-loop μ-loop
+sub-copy-on c = c .before .before .loop .inv .within
+
+copy-on-requires-2 : tie.Need-copy-on-requires-2 Inv-loop μ-loop
+copy-on-requires-2 c κs =
+    let start = c .before .before .before .before .before in
+    let a = c .before .before .loop .inv in
+    ((λ h. let near = start .pre .0 (omega arith) in (omega (arith, near), omega (arith, near))), omega (arith, a .long, a .within))
+
+same-length : tie.Need-same-length Inv-loop μ-loop
+same-length c = omega (arith, c .before .before .copy-on2 .kept .0, c .before .before .before .before .before .loop .inv .long)
+
+returns : tie.Need-returns Inv-loop μ-loop
+returns c =
+    let start = c .before .before .before .before .before .before .before .before in
+    again-done (c .before .before .before .before .before .loop .inv) (start .pre .0) (start .pre .1) (c .before .before .copy-on2 .ensures)
 
 pub repeat-spec : {M : Type 1} → statement M
 repeat-spec =
     tie.close
     (tie.spec
-    returns
-    div-span
-    add-span
-    mul-span
-    sub-first
-    copy-on-requires
-    same-length
-    returns-2
-    copy-on-requires-2
+    Inv-loop
+    μ-loop
+    least-requires
+    loop-holds
+    add-loop
+    add-loop-2
     add-copy-on
+    add-copy-on-2
+    add-copy-on-3
+    copy-on-requires
+    add-done
+    add-done-2
+    loop-less
+    loop-again
+    add-copy-on-4
+    add-copy-on-5
     sub-copy-on
-    copy-on-requires-3
-    same-length-2
-    returns-3)
+    copy-on-requires-2
+    same-length
+    returns)

@@ -1,11 +1,14 @@
 -- The products are small.
-use Prim.Native.Nat.{_*_}
+use Prim.Native.Nat.{ℕ, _*_, _≤_}
+use native.Mathlib.Nat.{mul-le-mul}
 use native.Mathlib.Omega.{arith}
 use borrow.Author.Needs.{needs}
 use lib.ListN.{length}
-use Rattle.build.proofs.Repeats.{few-product}
 use Rattle.build.proofs.problem.many_pairs.Statement.{statement}
 use Rattle.build.proofs.problem.many_pairs.Tie as tie
+
+few-product : {a b : ℕ} → a ≤ 1024 → b ≤ 32 → a * b ≤ 32768
+few-product h k = mul-le-mul h k
 
 count-interferers-requires : tie.Need-count-interferers-requires
 count-interferers-requires c κs = search needs
