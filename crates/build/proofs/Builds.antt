@@ -234,4 +234,4 @@ pub start-is : (A : Actions) (m n : ℕ) (start : ℕ → ℕ) (labels t : List 
     → ((p : ℕ) → p < n → getD labels p 0 ≡ startLabel m start p) → layerBy (domain A .props) (cell t) ≡ startLayer (domain A) m start
 unfolding domain startLayer
 start-is A m n start labels t e el is =
-    ap (λ (x : ℕ). layerBy x (cell t)) e ∙ el ∙ layer-eq n _ _ _ _ is (λ p q h k. refl) ∙ ap (λ (x : ℕ). layerOf x (startLabel m start) (λ p q. 0)) (sym e)
+    ap (λ (x : ℕ). layerBy x (cell t)) e ∙ el ∙ layer-eq is (λ p q h k. refl) ∙ ap (λ (x : ℕ). layerOf x (startLabel m start) (λ p q. 0)) (sym e)

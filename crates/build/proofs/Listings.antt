@@ -34,11 +34,12 @@ use Rattle.graph.specs.declared.format.Counts.{Counts}
 -- the labels of n sets that are the same
 pub startLabel-eq : (n : ℕ) (f g : ℕ → ℕ) (p : ℕ) → ((i : ℕ) → i < n → f i ≡ g i) → startLabel n f p ≡ startLabel n g p
 unfolding startLabel
-startLabel-eq n f g p e = joinOver-eq n _ _ (λ i h. ap (λ (x : ℕ). keep (bit p x) (single i)) (e i h))
+startLabel-eq n f g p e = joinOver-eq n (λ i h. ap (λ (x : ℕ). keep (bit p x) (single i)) (e i h))
 
+-- no label names a state that is not there
 pub label-inside : (n : ℕ) (start : ℕ → ℕ) (s p x : ℕ) → x ≡ startLabel n start p → So (bit s x) → So (bit s (first n))
 label-inside n start s p x e b =
-    bit-first s n ∙ below-of s n (bit-below s (startLabel n start p) n (startLabel-lt n start p) (ap (bit s) (sym e) ∙ b))
+    bit-first s n ∙ below-of (bit-below (startLabel-lt n start p) (ap (bit s) (sym e) ∙ b))
 
 module _ (file : List ℕ) (c : Counts) (needs adds dels adders interferers : List ℕ) (taken : Taken file c) (is : Read file c needs adds dels adders interferers) where
   abbrev A : Actions
@@ -51,21 +52,21 @@ module _ (file : List ℕ) (c : Counts) (needs adds dels adders interferers : Li
   adds-count = ap length (is .adds-are) ∙ length-listOver (c .actions) _
 
   pre-is : (i : ℕ) → i < c .actions → getD needs i 0 ≡ A .pre i
-  pre-is i h = ap (λ (l : List ℕ). getD l i 0) (is .needs-are) ∙ getD-listOver (c .actions) _ i h
+  pre-is i h = ap (λ (l : List ℕ). getD l i 0) (is .needs-are) ∙ getD-listOver _ h
 
   add-is : (i : ℕ) → i < c .actions → getD adds i 0 ≡ A .add i
-  add-is i h = ap (λ (l : List ℕ). getD l i 0) (is .adds-are) ∙ getD-listOver (c .actions) _ i h
+  add-is i h = ap (λ (l : List ℕ). getD l i 0) (is .adds-are) ∙ getD-listOver _ h
 
   del-is : (i : ℕ) → i < c .actions → getD dels i 0 ≡ A .del i
-  del-is i h = ap (λ (l : List ℕ). getD l i 0) (is .dels-are) ∙ getD-listOver (c .actions) _ i h
+  del-is i h = ap (λ (l : List ℕ). getD l i 0) (is .dels-are) ∙ getD-listOver _ h
 
   clobbers-is : (i j : ℕ) → i < c .actions → j < c .actions → clobbersIn needs adds dels i j ≡ clobbers A i j
   unfolding clobbersIn clobbers actionsOf
   clobbers-is i j h k =
-      ap₂ meets (del-is i h ∙ sym (deletes-action A i h)) (ap₂ union (pre-is j k ∙ sym (needs-action A j k)) (add-is j k ∙ sym (adds-action A j k)))
+      ap₂ meets (del-is i h ∙ sym (deletes-action A h)) (ap₂ union (pre-is j k ∙ sym (needs-action A k)) (add-is j k ∙ sym (adds-action A k)))
 
   interferers-is : (i : ℕ) → i < c .actions → getD interferers i 0 ≡ interferersOf needs adds dels i
-  interferers-is i h = ap (λ (l : List ℕ). getD l i 0) (is .interferers-are) ∙ getD-listOver (length needs) _ i (omega (arith, needs-count))
+  interferers-is i h = ap (λ (l : List ℕ). getD l i 0) (is .interferers-are) ∙ getD-listOver _ (omega (arith, needs-count))
 
   pub told : Told A (c .props) needs adds adders interferers
   unfolding actionsOf columnsOf interferersOf
@@ -75,10 +76,10 @@ module _ (file : List ℕ) (c : Counts) (needs adds dels adders interferers : Li
     pre = pre-is;
     add = add-is;
     by = λ p h.
-        ap (λ (l : List ℕ). getD l p 0) (is .adders-are) ∙ getD-listOver (c .props) _ p h
+        ap (λ (l : List ℕ). getD l p 0) (is .adders-are) ∙ getD-listOver _ h
         ∙ ap (λ (x : ℕ). startLabel x (λ i. getD adds i 0) p) adds-count ∙ startLabel-eq (c .actions) _ _ p (λ i k. add-is i k);
     interfere = λ i j h k.
-        ap (bit j) (interferers-is i h) ∙ bit-those (length needs) (λ j. clobbersIn needs adds dels i j or clobbersIn needs adds dels j i) j (omega (arith, needs-count))
+        ap (bit j) (interferers-is i h) ∙ bit-those (λ j. clobbersIn needs adds dels i j or clobbersIn needs adds dels j i) (omega (arith, needs-count))
         ∙ ap₂ _or_ (clobbers-is i j h k) (clobbers-is j i k h);
   }
 
@@ -111,7 +112,7 @@ module _ (file : List ℕ) (c : Counts) (needs adds dels adders interferers : Li
   unfolding columnsOf
   adders-inside p h =
       let k : p < c .props = omega (arith, ap length (is .adders-are), length-listOver (c .props) (startLabel (length adds) (λ i. getD adds i 0))) in
-      subst (λ (x : ℕ). x < 2 ^ rowLength) (sym (ap (λ (l : List ℕ). getD l p 0) (is .adders-are) ∙ getD-listOver (c .props) _ p k))
+      subst (λ (x : ℕ). x < 2 ^ rowLength) (sym (ap (λ (l : List ℕ). getD l p 0) (is .adders-are) ∙ getD-listOver _ k))
       (let le : length adds ≤ rowLength = omega (arith, adds-count, few) in lt-of-lt-of-le (startLabel-lt (length adds) (λ i. getD adds i 0) p) (pow-mono le))
 
   pub interferers-inside : Inside rowLength interferers
@@ -119,7 +120,7 @@ module _ (file : List ℕ) (c : Counts) (needs adds dels adders interferers : Li
   interferers-inside i h =
       let k : i < c .actions = omega (arith, ap length (is .interferers-are), length-listOver (length needs) (interferersOf needs adds dels), needs-count) in
       subst (λ (x : ℕ). x < 2 ^ rowLength) (sym (interferers-is i k))
-      (let le : length needs ≤ rowLength = omega (arith, needs-count, few) in lt-of-lt-of-le (joinOver-lt (length needs) _ (length needs) (λ j l. keep-lt (length needs) _ (single j) (λ t. single-lt (length needs) j l)))
+      (let le : length needs ≤ rowLength = omega (arith, needs-count, few) in lt-of-lt-of-le (joinOver-lt (length needs) _ (λ j l. keep-lt (length needs) (λ t. single-lt l)))
       (pow-mono le))
 
   pub wide-for : (width : ℕ) → InParts width → c .props ≤ width → c .actions ≤ width → Width (c .props) width needs

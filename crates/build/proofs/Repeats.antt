@@ -39,7 +39,7 @@ module _ {w₀ : List ℕ} {to far n i : ℕ} {w : List ℕ} (s : Lists (λ k. g
       let place : to + i - far ≡ to + (i - far) = omega arith in
       ap₂ (λ (x : List ℕ) (y : ℕ). getD x y 0) (s .is) place
       ∙ put-word to (listOver i f) w₀ (omega (arith, length-listOver i f, s .room)) (i - far) (omega (arith, length-listOver i f))
-      ∙ getD-listOver i f (i - far) (omega arith) ∙ ap (λ (x : ℕ). getD w₀ (to - far + x) 0) (sym (mod-eq-sub-mod l))
+      ∙ getD-listOver f (omega arith) ∙ ap (λ (x : ℕ). getD w₀ (to - far + x) 0) (sym (mod-eq-sub-mod l))
 
   -- the word that is read stood before `to`, or the loop wrote it
   pub repeat-word : getD w (to + i - far) 0 ≡ getD w₀ (to - far + i % far) 0
@@ -52,7 +52,7 @@ list-again zero s f = ap (λ (x : ℕ). listOver x (λ i. f (i % s))) (zero-mul 
 list-again (suc m) s f =
     ap (λ (x : ℕ). listOver x (λ i. f (i % s))) (suc-mul m s)
     ∙ list-append (m * s) s (λ i. f (i % s))
-    ∙ ap₂ (λ (x y : List ℕ). x ++ y) (list-again m s f) (listOver-eq s _ f (λ i h. ap f (mul-add-mod-self-right m s i ∙ mod-eq-of-lt h)))
+    ∙ ap₂ (λ (x y : List ℕ). x ++ y) (list-again m s f) (listOver-eq (λ i h. ap f (mul-add-mod-self-right m s i ∙ mod-eq-of-lt h)))
 
 -- ---- the steps that are left
 
@@ -69,7 +69,7 @@ unfolding stride
 step-far D all l = step-length D all l ∙ add-comm (size (D .vertices)) (size (D .props))
 
 steps-length : (D : Domain) (all : ℕ) (l : List ℕ) (k : ℕ) → length (runOver k (step D all l)) ≡ k * far D
-steps-length D all l k = length-runOver (step D all l) (far D) k (λ i h. step-far D all (propFrom D all l i))
+steps-length D all l k = length-runOver (step D all l) k (λ i h. step-far D all (propFrom D all l i))
 
 -- no factor of a product above 0 is 0
 factors : (a b : ℕ) → 0 < a * b → (0 < a) × (0 < b)
@@ -110,9 +110,9 @@ module _ {D : Domain} {all : ℕ} {l : List ℕ} {depth : ℕ} {w₀ : List ℕ}
       let (some, e) = s .rests h in
       let q : t ≡ suc (t - 1) = omega arith in
       let last : List ℕ = step D all l (t - 1) in
-      listOver-eq (far D) _ (λ i. getD last i 0) (last-word some)
-      ∙ ap (λ (x : ℕ). listOver x (λ i. getD last i 0)) (sym (step-far D all (propFrom D all l (t - 1)))) ∙ listOver-self last
-      ∙ ap (stepWords D all) (sym (rests D all l (t - 1) (e ∙ ap (propFrom D all l) q) (t + k) (omega arith)))
+      listOver-eq (last-word some)
+      ∙ ap (λ (x : ℕ). listOver x (λ i. getD last i 0)) (sym (step-far D all (propFrom D all l (t - 1)))) ∙ listOver-self
+      ∙ ap (stepWords D all) (sym (rests D all l (e ∙ ap (propFrom D all l) q) (omega arith)))
 
   -- they begin behind the words of the steps made; written again and again, the last one makes all steps to the depth
   place : wordCount (shapeOf D) t ≡ size (D .props) + t * far D
@@ -130,7 +130,7 @@ module _ {D : Domain} {all : ℕ} {l : List ℕ} {depth : ℕ} {w₀ : List ℕ}
       ∙ ap₂ (λ (x y : ℕ). putAt x (listOver y (λ i. getD w (x - far D + i % far D) 0)) w) place count
       ∙ ap₂ (λ (x : List ℕ) (y : ℕ). putAt (size (D .props) + y) x w)
       (list-again (depth - t) (far D) (λ i. getD w (size (D .props) + t * far D - far D + i) 0)
-      ∙ runOver-eq (depth - t) _ (λ k. step D all l (t + k)) (λ k h. left-step k (omega arith)))
+      ∙ runOver-eq (depth - t) (λ k h. left-step k (omega arith)))
       (sym (steps-length D all l t))
       ∙ ap (putAt (size (D .props) + length (runOver t (step D all l))) left) (s .is)
       ∙ put-put (size (D .props)) (runOver t (step D all l)) w₀ fits left
@@ -188,7 +188,7 @@ module _ {to s count : ℕ} {w₀ : List ℕ} {done : ℕ} {w : List ℕ} (a : A
           let q : to - s + x ≡ to + (x - s) = omega (arith, near more .1) in
           ap₂ (λ (l : List ℕ) (y : ℕ). getD l y 0) (a .is) q
           ∙ put-word to copied w₀ fitting (x - s) (omega (arith, short, length-listOver done word))
-          ∙ getD-listOver done word (x - s) (omega (arith, short))
+          ∙ getD-listOver word (omega (arith, short))
           ∙ ap (λ (y : ℕ). getD w₀ (to - s + y) 0) (sym (mod-eq-sub-mod h)) ∙ target
 
       sooner : (s ≤ x → ⊥) → getD w (to - s + x) 0 ≡ word (done + i)
@@ -203,7 +203,7 @@ module _ {to s count : ℕ} {w₀ : List ℕ} {done : ℕ} {w : List ℕ} (a : A
   again-put some more e =
       let here : to + done - (done + s) ≡ to - s = omega arith in
       e
-      ∙ ap (λ (x : List ℕ). putAt (to + done) x w) (listOver-eq more _ (λ i. word (done + i)) (λ i h.
+      ∙ ap (λ (x : List ℕ). putAt (to + done) x w) (listOver-eq (λ i h.
       ap (λ (y : ℕ). getD w (y + i % (done + s)) 0) here ∙ far-word some i (i % (done + s)) refl))
       ∙ ap₂ (λ (x : ℕ) (y : List ℕ). putAt (to + x) (listOver more (λ i. word (done + i))) y) (sym (length-listOver done word)) (a .is)
       ∙ put-put to copied w₀ fitting (listOver more (λ i. word (done + i)))

@@ -53,7 +53,7 @@ graph-made {file} {c} {needs} {adds} {dels} {adders} {interferers} taken read de
     tells = told file c needs adds dels adders interferers taken read
 
     labels-are : (p : ℕ) → p < c .props → getD labels p 0 ≡ startLabel (c .states) (startOf file c) p
-    labels-are p h = ap (λ (l : List ℕ). getD l p 0) are ∙ getD-listOver rowLength _ p (omega (arith, taken .ranged .props))
+    labels-are p h = ap (λ (l : List ℕ). getD l p 0) are ∙ getD-listOver _ (omega (arith, taken .ranged .props))
 
     front : size (domain (actionsOf file c) .props) ≤ length w₀
     front = omega (arith, room, count-stride (shapeIn c) depth, told-sizes (actionsOf file c) (c .props) needs adds adders interferers tells .1)

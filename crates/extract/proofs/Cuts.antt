@@ -33,7 +33,7 @@ module _ (S : Shape) (n depth set wanted : ℕ) (words : List ℕ) (small : set 
   cut-is : cutWords set words 0 wanted ≡ extractOf S n depth set words
   unfolding cutWords extractOf
   cut-is =
-      listOver-eq wanted _ _ (λ j l.
+      listOver-eq (λ j l.
       ap (λ (x : ℕ). closeUp stateWidth set (getD words x 0)) (zero-add j) ∙ closeUp-wide n set (getD words j 0) stateWidth few small)
       ∙ each-word (closeUp n set) words wanted h
       ∙ ap (λ (x : ℕ). map (closeUp n set) (take x words)) w
@@ -55,7 +55,7 @@ pub cut-again : (set : ℕ) (words out : List ℕ) (from to : ℕ) → from + pi
     → listOver pieceWords (λ i. getD out (from + i) 0) ≡ cutWords set words to pieceWords
 unfolding cutWords
 cut-again set words out from to h done same =
-    listOver-eq pieceWords _ _ (λ i l. done (from + i) (omega arith) ∙ ap (closeUp stateWidth set) (same i l))
+    listOver-eq (λ i l. done (from + i) (omega arith) ∙ ap (closeUp stateWidth set) (same i l))
 
 -- of so many words those up to a place have been cut
 pub record Front (set : ℕ) (words : List ℕ) (count : ℕ) (out₀ : List ℕ) (at : ℕ) (out : List ℕ) : Type 0 where
@@ -81,7 +81,7 @@ module _ {set : ℕ} {words : List ℕ} {count : ℕ} {out₀ : List ℕ} {at : 
   front-cut j h =
       ap₂ (λ (l : List ℕ) (x : ℕ). getD l x 0) (f .is) (sym (zero-add j))
       ∙ put-word 0 (cutWords set words 0 at) out₀ fits j (omega (arith, words-long set words 0 at))
-      ∙ getD-listOver at _ j h
+      ∙ getD-listOver _ h
       ∙ ap (λ (x : ℕ). closeUp stateWidth set (getD words x 0)) (zero-add j)
 
   more-words : (n : ℕ) → cutWords set words 0 at ++ cutWords set words at n ≡ cutWords set words 0 (at + n)
@@ -89,7 +89,7 @@ module _ {set : ℕ} {words : List ℕ} {count : ℕ} {out₀ : List ℕ} {at : 
   more-words n = sym (
       list-append at n (λ i. closeUp stateWidth set (getD words (0 + i) 0))
       ∙ ap (λ (l : List ℕ). listOver at (λ i. closeUp stateWidth set (getD words (0 + i) 0)) ++ l)
-      (listOver-eq n _ _ (λ i l. ap (λ (x : ℕ). closeUp stateWidth set (getD words x 0)) (zero-add (at + i)))))
+      (listOver-eq (λ i l. ap (λ (x : ℕ). closeUp stateWidth set (getD words x 0)) (zero-add (at + i)))))
 
   pub front-more : (n : ℕ) {out' : List ℕ} → at + n ≤ count → out' ≡ putAt at (cutWords set words at n) out → Front set words count out₀ (at + n) out'
   front-more n {out'} h e =

@@ -28,7 +28,7 @@ use Rattle.extract.proofs.Moves.{mod-le, rank-le}
 
 -- a shift by 1 << i
 pub shift-is : (i : ℕ) → i < mostMoves → 1 * 2 ^ i % 2 ^ stateWidth ≡ 2 ^ i
-shift-is i h = shift-single stateWidth i (omega arith)
+shift-is i h = shift-single stateWidth (omega arith)
 
 pub shift-some : (i : ℕ) → i < mostMoves → 0 < 1 * 2 ^ i % 2 ^ stateWidth
 shift-some i h = omega (arith, shift-is i h, pow-pos i)
@@ -41,12 +41,12 @@ left-le s g i l h = omega (arith, ap (λ (x : ℕ). g % x) (shift-is i h), mod-l
 module _ (s gap i : ℕ) where
   pub moves-not : (gap / 2 ^ i % 2 ≡ 1 → ⊥) → 0 ≡ keep (bit i gap) (single (s - gap % 2 ^ i))
   unfolding keep choose bit
-  moves-not f = simp (same-not (gap / 2 ^ i % 2) 1 f)
+  moves-not f = simp (same-not f)
 
   pub moves-now : (r : ℕ) → gap / 2 ^ i % 2 ≡ 1 → i < mostMoves → r ≡ single (s - gap % (1 * 2 ^ i % 2 ^ stateWidth))
       → r ≡ keep (bit i gap) (single (s - gap % 2 ^ i))
   unfolding keep choose bit
-  moves-now r f h q = q ∙ ap (λ (x : ℕ). single (s - gap % x)) (shift-is i h) ∙ simp (same-of (gap / 2 ^ i % 2) 1 f)
+  moves-now r f h q = q ∙ ap (λ (x : ℕ). single (s - gap % x)) (shift-is i h) ∙ simp (same-of f)
 
 stays : (b : Bool) → (b and fails false) ≡ b
 unfolding _and_ fails
@@ -69,7 +69,7 @@ ranked-all h = record { small = h; from = 0; past = λ i l t. omega arith; ahead
 -- no state of the set between two states: as many lie below
 rank-skip : (set a b : ℕ) → a ≤ b → ((i : ℕ) → a ≤ i → i < b → So (bit i set) → ⊥) → rank set b ≡ rank set a
 rank-skip set a b h none = le-ind (λ k. k ≤ b → rank set k ≡ rank set a) (λ l. refl)
-    (λ k g r l. rank-out set k (fails-of _ (none k g (omega arith))) ∙ r (omega arith)) b h (omega arith)
+    (λ k g r l. rank-out set k (fails-of (none k g (omega arith))) ∙ r (omega arith)) b h (omega arith)
 
 module _ {set left under : ℕ} (m : Ranked set left under) (some : 0 < left) where
   in-left : So (bit (trailingZeros stateWidth left) left)
@@ -98,11 +98,11 @@ module _ {set left under : ℕ} (m : Ranked set left under) (some : 0 < left) wh
 
   pub ranked-more : {left' : ℕ} → left' ≡ without left (single (trailingZeros stateWidth left)) → Ranked set left' (under + 1)
   ranked-more {left'} l = record {
-    small = subst (λ (x : ℕ). x < 2 ^ stateWidth) (sym l) (without-lt stateWidth left _ (m .small));
+    small = subst (λ (x : ℕ). x < 2 ^ stateWidth) (sym l) (without-lt stateWidth _ (m .small));
     from = suc (trailingZeros stateWidth left);
     past = λ i h t. omega (arith, others-above stateWidth left i (m .small) (sym (ap (bit i) l) ∙ t));
     ahead = λ i h. ap (bit i) l ∙ bit-without i left (single (trailingZeros stateWidth left))
-        ∙ ap (λ (b : Bool). bit i left and fails b) (bit-single i (trailingZeros stateWidth left) ∙ same-not _ _ (λ e. omega arith))
+        ∙ ap (λ (b : Bool). bit i left and fails b) (bit-single i (trailingZeros stateWidth left) ∙ same-not (λ e. omega arith))
         ∙ stays (bit i left) ∙ m .ahead i (omega (arith, from-le));
     ranks = add-one under ∙ ap suc next-rank ∙ sym (rank-in set (trailingZeros stateWidth left) next-in);
   }
@@ -128,7 +128,7 @@ mask-done : {f : ℕ → ℕ} {set left under mask : ℕ} (T : ℕ → Bool) (p 
     → ((s : ℕ) → f s ≡ keep (T s) (single (p s))) → mask ≡ joinOver stateWidth (λ s. keep (bit s set and T s) (single (p s)))
 unfolding joinOf
 mask-done {f} {set} T p m h e =
-    members-done (m .joins) h ∙ joinOver-eq stateWidth _ _ (λ s l. ap (keep (bit s set)) (e s) ∙ keep-keep (bit s set) (T s) (single (p s)))
+    members-done (m .joins) h ∙ joinOver-eq stateWidth (λ s l. ap (keep (bit s set)) (e s) ∙ keep-keep (bit s set) (T s) (single (p s)))
 
 -- the mask of a move
 abbrev pub movingAt : ℕ → ℕ → ℕ → ℕ

@@ -29,18 +29,18 @@ standing n T p = joinOver n (λ s. keep (T s) (single (p s)))
 
 module _ (n : ℕ) (T : ℕ → Bool) (p : ℕ → ℕ) where
   bit-standing : (j : ℕ) → bit j (standing n T p) ≡ anyBelow n (λ s. T s and same j (p s))
-  bit-standing j = bit-joinOver j _ _ n (λ s l. bit-keep j (T s) (single (p s)) ∙ ap (λ (x : Bool). T s and x) (bit-single j (p s)))
+  bit-standing j = bit-joinOver j _ (λ s l. bit-keep j (T s) (single (p s)) ∙ ap (λ (x : Bool). T s and x) (bit-single j (p s)))
 
   stands-of : (s j : ℕ) → s < n → So (T s) → j ≡ p s → So (bit j (standing n T p))
-  stands-of s j l t e = bit-standing j ∙ any-of n _ s l (and-of _ _ t (same-of _ _ e))
+  stands-of s j l t e = bit-standing j ∙ any-of _ l (and-of t (same-of e))
 
   stands-at : (j : ℕ) → So (bit j (standing n T p)) → (s : ℕ) × (s < n) × So (T s) × (j ≡ p s)
   stands-at j t =
-      let (s, l, u) = any-at n (λ s. T s and same j (p s)) (sym (bit-standing j) ∙ t) in
-      (s, l, and-left _ _ u, same-at _ _ (and-right _ _ u))
+      let (s, l, u) = any-at (sym (bit-standing j) ∙ t) in
+      (s, l, and-left _ u, same-at (and-right _ u))
 
   standing-lt : ((s : ℕ) → s < n → p s < n) → standing n T p < 2 ^ n
-  standing-lt h = joinOver-lt n _ n (λ s l. keep-lt n (T s) (single (p s)) (λ t. single-lt n (p s) (h s l)))
+  standing-lt h = joinOver-lt n _ (λ s l. keep-lt n (λ t. single-lt (h s l)))
 
 -- One move: of the states of S, no two of which stand at one place, those that pass the test b go down by d.
 module _ (n d : ℕ) (S b T : ℕ → Bool) (p q : ℕ → ℕ)
@@ -56,21 +56,21 @@ module _ (n d : ℕ) (S b T : ℕ → Bool) (p q : ℕ → ℕ)
   unfolding M
   goes s j t e m =
       let (u, l, v, g) = stands-at n (λ s. S s and b s) p j m in
-      subst (λ (x : ℕ). So (b x)) (sym (apart s u (chosen s t) (and-left _ _ v) (sym e ∙ g))) (and-right _ _ v)
+      subst (λ (x : ℕ). So (b x)) (sym (apart s u (chosen s t) (and-left _ v) (sym e ∙ g))) (and-right _ v)
 
   there : (j : ℕ) → So ((bit j (standing n T p) and fails (bit j M)) or (bit (d + j) (standing n T p) and bit (d + j) M)) → So (bit j (standing n T q))
   unfolding M
   there j t = ⊎-elim
       (λ a.
-      let (s, l, u, e) = stands-at n T p j (and-left _ _ a) in
+      let (s, l, u, e) = stands-at n T p j (and-left _ a) in
       let rests : So (fails (b s)) =
-      fails-of _ (λ v. fails-at _ (and-right _ _ a) (stands-of n (λ s. S s and b s) p s j l (and-of _ _ (chosen s u) v) e)) in
+      fails-of (λ v. fails-at (and-right _ a) (stands-of n (λ s. S s and b s) p s j l (and-of (chosen s u) v) e)) in
       stands-of n T q s j l u (e ∙ stays s rests))
       (λ a.
-      let (s, l, u, e) = stands-at n T p (d + j) (and-left _ _ a) in
-      let f : d + j ≡ d + q s = e ∙ moves s (goes s (d + j) u e (and-right _ _ a)) in
+      let (s, l, u, e) = stands-at n T p (d + j) (and-left _ a) in
+      let f : d + j ≡ d + q s = e ∙ moves s (goes s (d + j) u e (and-right _ a)) in
       stands-of n T q s j l u (omega arith))
-      (or-at _ _ t)
+      (or-at t)
 
   back : (j : ℕ) → So (bit j (standing n T q)) → So ((bit j (standing n T p) and fails (bit j M)) or (bit (d + j) (standing n T p) and bit (d + j) M))
   unfolding M
@@ -79,10 +79,10 @@ module _ (n d : ℕ) (S b T : ℕ → Bool) (p q : ℕ → ℕ)
       ⊎-elim
       (λ v.
       let f : d + j ≡ p s = ap (λ (x : ℕ). d + x) e ∙ sym (moves s v) in
-      or-right _ _ (and-of _ _ (stands-of n T p s (d + j) l u f) (stands-of n (λ s. S s and b s) p s (d + j) l (and-of _ _ (chosen s u) v) f)))
+      or-right _ (and-of (stands-of n T p s (d + j) l u f) (stands-of n (λ s. S s and b s) p s (d + j) l (and-of (chosen s u) v) f)))
       (λ v.
       let f : j ≡ p s = e ∙ sym (stays s v) in
-      or-left _ _ (and-of _ _ (stands-of n T p s j l u f) (fails-of _ (λ m. fails-at _ v (goes s j u f m)))))
+      or-left _ (and-of (stands-of n T p s j l u f) (fails-of (λ m. fails-at v (goes s j u f m)))))
       (holds-or (b s))
 
   lower : (s : ℕ) → q s ≤ p s
@@ -91,14 +91,13 @@ module _ (n d : ℕ) (S b T : ℕ → Bool) (p q : ℕ → ℕ)
   moved : ((s : ℕ) → s < n → p s < n) → union (without (standing n T p) M) (common (standing n T p) M / 2 ^ d) ≡ standing n T q
   moved h =
       let w : standing n T p < 2 ^ n = standing-lt n T p h in
-      ext n (union (without (standing n T p) M) (common (standing n T p) M / 2 ^ d)) (standing n T q)
-      (union-lt n (without (standing n T p) M) (common (standing n T p) M / 2 ^ d) (without-lt n (standing n T p) M w)
-      (lt-of-le-of-lt (shr-le (common (standing n T p) M) d) (common-lt n (standing n T p) M w)))
+      ext (union-lt n (without-lt n M w)
+      (lt-of-le-of-lt (shr-le (common (standing n T p) M) d) (common-lt n M w)))
       (standing-lt n T q (λ s l. omega (arith, lower s, h s l)))
       (λ j l.
       bit-union j (without (standing n T p) M) (common (standing n T p) M / 2 ^ d)
       ∙ ap₂ _or_ (bit-without j (standing n T p) M) (bit-shift (common (standing n T p) M) d j ∙ bit-common (d + j) (standing n T p) M)
-      ∙ test-eq _ _ (there j) (back j))
+      ∙ test-eq (there j) (back j))
 
 -- ---- where a state stands before each move
 
@@ -132,7 +131,7 @@ module _ (set : ℕ) where
   place-lt : (i s u : ℕ) → So (bit s set) → s < u → place set i s < place set i u
   unfolding place gap
   place-lt i s u t h =
-      sum (gap set s % 2 ^ i) (gap set u % 2 ^ i) (rank set s) (rank set u) (rank-le s) (rank-le u) (rank-lt set s u t h) (rank-near s u (omega arith))
+      sum (gap set s % 2 ^ i) (gap set u % 2 ^ i) (rank set s) (rank set u) (rank-le s) (rank-le u) (rank-lt set t h) (rank-near s u (omega arith))
       (mod-rise (gap set s) (gap set u) i (omega (arith, rank-le s, rank-near s u (omega arith)))) (mod-le (gap set s) i)
     where
       sum : (x y r k : ℕ) → r ≤ s → k ≤ u → r < k → k ≤ r + (u - s) → y ≤ x + ((u - k) - (s - r)) → x ≤ s - r → s - x < u - y
@@ -155,7 +154,7 @@ module _ (set : ℕ) where
   unfolding place bit
   place-moves i s t =
       sum (gap set s % 2 ^ i) (gap set s % 2 ^ suc i) (2 ^ i)
-      (gap-next i s ∙ ap (λ (x : ℕ). x * 2 ^ i + gap set s % 2 ^ i) (same-at _ _ t)) (omega (arith, mod-le (gap set s) (suc i), gap-le s))
+      (gap-next i s ∙ ap (λ (x : ℕ). x * 2 ^ i + gap set s % 2 ^ i) (same-at t)) (omega (arith, mod-le (gap set s) (suc i), gap-le s))
     where
       sum : (x y d : ℕ) → y ≡ 1 * d + x → y ≤ s → s - x ≡ d + (s - y)
       sum x y d e h = omega arith
@@ -163,7 +162,7 @@ module _ (set : ℕ) where
   place-stays : (i s : ℕ) → So (fails (bit i (gap set s))) → place set i s ≡ place set (suc i) s
   unfolding place bit
   place-stays i s t =
-      let none : gap set s / 2 ^ i % 2 ≡ 1 → ⊥ = λ e. fails-at _ t (same-of _ _ e) in
+      let none : gap set s / 2 ^ i % 2 ≡ 1 → ⊥ = λ e. fails-at t (same-of e) in
       let e : gap set s / 2 ^ i % 2 ≡ 0 = omega (arith, mod-lt (gap set s / 2 ^ i) (zero-lt-suc 1)) in
       ap (λ (x : ℕ). s - x) (sym (gap-next i s ∙ ap (λ (x : ℕ). x * 2 ^ i + gap set s % 2 ^ i) e ∙ omega arith))
 
@@ -183,11 +182,11 @@ module _ (n set w : ℕ) where
   pub closing-first : set < 2 ^ n → common set w ≡ closing n set w 0
   unfolding closing
   closing-first h =
-      ext n (common set w) (standing n (λ s. bit s set and bit s w) (place set 0)) (common-lt n set w h)
+      ext (common-lt n w h)
       (standing-lt n (λ s. bit s set and bit s w) (place set 0) (place-low set n 0))
       (λ j l.
-      bit-common j set w ∙ sym (any-only (λ s. bit s set and bit s w) j n l)
-      ∙ any-eq n _ _ (λ s k. ap (λ (x : ℕ). (bit s set and bit s w) and same j x) (sym (place-first set s)))
+      bit-common j set w ∙ sym (any-only (λ s. bit s set and bit s w) l)
+      ∙ any-eq n (λ s k. ap (λ (x : ℕ). (bit s set and bit s w) and same j x) (sym (place-first set s)))
       ∙ sym (bit-standing n (λ s. bit s set and bit s w) (place set 0) j))
 
   pub closing-next : (i x m : ℕ) → x ≡ closing n set w i → m ≡ moving n set i → union (without x m) (common x m / 2 ^ 2 ^ i) ≡ closing n set w (suc i)
@@ -195,7 +194,7 @@ module _ (n set w : ℕ) where
   closing-next i x m e f =
       ap₂ (λ (x m : ℕ). union (without x m) (common x m / 2 ^ 2 ^ i)) e f
       ∙ moved n (2 ^ i) (λ s. bit s set) (λ s. bit i (gap set s)) (λ s. bit s set and bit s w) (place set i) (place set (suc i))
-      (place-apart set i) (place-moves set i) (place-stays set i) (λ s. and-left _ _) (place-low set n i)
+      (place-apart set i) (place-moves set i) (place-stays set i) (λ s. and-left _) (place-low set n i)
 
   -- a move in which nothing goes down changes nothing
   pub closing-still : (i x m : ℕ) → x ≡ closing n set w i → m ≡ moving n set i → m ≡ 0 → x ≡ closing n set w (suc i)
@@ -207,7 +206,7 @@ module _ (n set w : ℕ) where
   pub closing-last : n ≤ stateWidth → closing n set w mostMoves ≡ closeUp n set w
   unfolding closing closeUp
   closing-last h =
-      joinOver-eq n _ _ (λ s l. ap (λ (x : ℕ). keep (bit s set and bit s w) (single x)) (place-last set s (omega arith)))
+      joinOver-eq n (λ s l. ap (λ (x : ℕ). keep (bit s set and bit s w) (single x)) (place-last set s (omega arith)))
 
   -- a set of n states has no others
   pub closeUp-wide : (k : ℕ) → n ≤ k → set < 2 ^ n → closeUp k set w ≡ closeUp n set w
@@ -216,7 +215,7 @@ module _ (n set w : ℕ) where
     where
       none : (m : ℕ) → n ≤ m → closeUp (suc m) set w ≡ closeUp m set w
       none m g =
-          ap (λ (b : Bool). union (closeUp m set w) (keep (b and bit m w) (single (rank set m)))) (bit-above m set n l g) ∙ or-zero-r (closeUp m set w)
+          ap (λ (b : Bool). union (closeUp m set w) (keep (b and bit m w) (single (rank set m)))) (bit-above l g) ∙ or-zero-r (closeUp m set w)
 
 -- ---- all that have as far to go at once
 
@@ -230,9 +229,9 @@ module _ (set far : ℕ) where
   unfolding going gap
   going-at s t =
       let (u, l, v, e) = stands-at stateWidth (λ s. bit s set and same (gap set s) far) (λ s. s) s t in
-      let g : gap set u ≡ far = same-at _ _ (and-right _ _ v) in
+      let g : gap set u ≡ far = same-at (and-right _ v) in
       subst (λ (x : ℕ). So (bit x set) × (x ≡ far + rank set x) × (x < stateWidth)) (sym e)
-      (and-left _ _ v, omega (arith, rank-le set u), l)
+      (and-left _ v, omega (arith, rank-le set u), l)
 
 module _ (set w near far low high : ℕ) (small : set < 2 ^ stateWidth) (low-is : low ≡ going set near) (high-is : high ≡ going set far)
     (all : union low high ≡ set) where
@@ -243,40 +242,40 @@ module _ (set w near far low high : ℕ) (small : set < 2 ^ stateWidth) (low-is 
   one-there : (d m : ℕ) → m ≡ going set d → (j : ℕ) → So (bit (d + j) m and bit (d + j) w) → So (bit j (standing stateWidth new (rank set)))
   unfolding new
   one-there d m e j t =
-      let (i, r, l) = going-at set d (d + j) (sym (ap (bit (d + j)) e) ∙ and-left _ _ t) in
-      stands-of stateWidth (λ s. bit s set and bit s w) (rank set) (d + j) j l (and-of _ _ i (and-right _ _ t)) (omega arith)
+      let (i, r, l) = going-at set d (d + j) (sym (ap (bit (d + j)) e) ∙ and-left _ t) in
+      stands-of stateWidth (λ s. bit s set and bit s w) (rank set) (d + j) j l (and-of i (and-right _ t)) (omega arith)
 
   one-back : (d m : ℕ) → m ≡ going set d → (s j : ℕ) → So (bit s m) → So (bit s w) → j ≡ rank set s → So (bit (d + j) m and bit (d + j) w)
   one-back d m e s j t u f =
       let (i, r, l) = going-at set d s (sym (ap (bit s) e) ∙ t) in
       let g : s ≡ d + j = omega arith in
-      subst (λ (x : ℕ). So (bit x m and bit x w)) g (and-of _ _ t u)
+      subst (λ (x : ℕ). So (bit x m and bit x w)) g (and-of t u)
 
   runs-there : (j : ℕ) → So ((bit (near + j) low and bit (near + j) w) or (bit (far + j) high and bit (far + j) w)) → So (bit j (standing stateWidth new (rank set)))
-  runs-there j t = ⊎-elim (one-there near low low-is j) (one-there far high high-is j) (or-at _ _ t)
+  runs-there j t = ⊎-elim (one-there near low low-is j) (one-there far high high-is j) (or-at t)
 
   runs-back : (j : ℕ) → So (bit j (standing stateWidth new (rank set))) → So ((bit (near + j) low and bit (near + j) w) or (bit (far + j) high and bit (far + j) w))
   unfolding new
   runs-back j t =
       let (s, l, u, e) = stands-at stateWidth (λ s. bit s set and bit s w) (rank set) j t in
       ⊎-elim
-      (λ m. or-left _ _ (one-back near low low-is s j m (and-right _ _ u) e))
-      (λ m. or-right _ _ (one-back far high high-is s j m (and-right _ _ u) e))
-      (or-at _ _ (sym (bit-union s low high) ∙ ap (bit s) all ∙ and-left _ _ u))
+      (λ m. or-left _ (one-back near low low-is s j m (and-right _ u) e))
+      (λ m. or-right _ (one-back far high high-is s j m (and-right _ u) e))
+      (or-at (sym (bit-union s low high) ∙ ap (bit s) all ∙ and-left _ u))
 
   part-lt : (d m : ℕ) → m ≡ going set d → common m w / 2 ^ d < 2 ^ stateWidth
-  part-lt d m e = lt-of-le-of-lt (shr-le (common m w) d) (common-lt stateWidth m w (subst (λ (x : ℕ). x < 2 ^ stateWidth) (sym e) (going-lt set d)))
+  part-lt d m e = lt-of-le-of-lt (shr-le (common m w) d) (common-lt stateWidth w (subst (λ (x : ℕ). x < 2 ^ stateWidth) (sym e) (going-lt set d)))
 
   pub runs-close : union (common low w / 2 ^ near) (common high w / 2 ^ far) ≡ closeUp stateWidth set w
   unfolding closeUp new
   runs-close =
-      ext stateWidth (union (common low w / 2 ^ near) (common high w / 2 ^ far)) (standing stateWidth new (rank set))
-      (union-lt stateWidth (common low w / 2 ^ near) (common high w / 2 ^ far) (part-lt near low low-is) (part-lt far high high-is))
+      ext {n = stateWidth}
+      (union-lt stateWidth (part-lt near low low-is) (part-lt far high high-is))
       (standing-lt stateWidth new (rank set) (λ s l. omega (arith, rank-le set s)))
       (λ j l.
       bit-union j (common low w / 2 ^ near) (common high w / 2 ^ far)
       ∙ ap₂ _or_ (bit-shift (common low w) near j ∙ bit-common (near + j) low w) (bit-shift (common high w) far j ∙ bit-common (far + j) high w)
-      ∙ test-eq _ _ (runs-there j) (runs-back j))
+      ∙ test-eq (runs-there j) (runs-back j))
 
   -- where all have as far to go, one shift does
   pub run-close : near ≡ far → common low w / 2 ^ near ≡ closeUp stateWidth set w

@@ -48,7 +48,7 @@ pub record Admitted (file : List ℕ) (depth set : ℕ) (words : List ℕ) (room
 -- a set that is not empty has a state
 rank-some : (n set : ℕ) → (set ≡ 0 → ⊥) → set < 2 ^ n → 1 ≤ rank set n
 rank-some n set h l =
-    let f : rank set n ≡ 0 → ⊥ = λ e. h (no-bits n set l (λ i k t. let g : rank set i < rank set n = rank-lt set i n t k in omega arith)) in
+    let f : rank set n ≡ 0 → ⊥ = λ e. h (no-bits l (λ i k t. let g : rank set i < rank set n = rank-lt set t k in omega arith)) in
     omega arith
 
 module _ (file : List ℕ) (c : Counts) (set : ℕ) where
@@ -59,12 +59,12 @@ module _ (file : List ℕ) (c : Counts) (set : ℕ) where
 
   state-is : (j : ℕ) → j < rank set (c .states) → getD (statesOf file c set) j 0 ≡ startOf file c (chosen (c .states) set j)
   unfolding statesOf
-  state-is j h = getD-listOver (rank set (c .states)) (λ j. startOf file c (chosen (c .states) set j)) j h
+  state-is j h = getD-listOver (λ j. startOf file c (chosen (c .states) set j)) h
 
   states-inside : Taken file c → Inside (c .props) (statesOf file c set)
   states-inside t j h =
       let l : j < rank set (c .states) = subst (λ (x : ℕ). j < x) states-count h in
-      subst (λ (x : ℕ). x < 2 ^ c .props) (sym (state-is j l)) (start-small file c t (chosen (c .states) set j) (chosen-lt (c .states) set j l))
+      subst (λ (x : ℕ). x < 2 ^ c .props) (sym (state-is j l)) (start-small file c t (chosen (c .states) set j) (chosen-lt (c .states) set l))
 
   module _ (e : fileRule file ≡ accepted c) (some : set ≡ 0 → ⊥) (few : set < 2 ^ c .states) where
     has-some : 1 ≤ length (statesOf file c set)
@@ -86,7 +86,7 @@ module _ (file : List ℕ) (c : Counts) (set : ℕ) where
     states-built depth room d m =
         with-built file c (statesOf file c set) e (states-inside (taken-means file c e)) has-some has-few depth room d m
         ∙ ap accepted (ap (λ (n : ℕ). graphWords (domainOf file c) n (λ s. getD (statesOf file c set) s 0) depth) states-count
-        ∙ graph-eq (domainOf file c) depth (rank set (c .states)) _ _ state-is)
+        ∙ graph-eq (domainOf file c) depth state-is)
 
 -- ---- extract
 
@@ -97,7 +97,7 @@ module _ (file : List ℕ) (depth set : ℕ) (words : List ℕ) (room : ℕ) (c 
   extract-accepts =
       then-accepted _ _ c (a .taken)
       ∙ then-accepted _ _ tt (graph-of c depth (setRule (c .states) set) (length words)
-      (record { deep = a .deep; fine = sym (some-states (c .states) set (same-not set 0 (a .some)) (a .few)); fits = a .memory }))
+      (record { deep = a .deep; fine = sym (some-states (c .states) set (same-not (a .some)) (a .few)); fits = a .memory }))
       ∙ then-accepted _ _ tt (sym (long-output (wordCount (shapeIn c) depth) room (a .output)))
 
   -- on memory that begins with built words
@@ -121,5 +121,5 @@ module _ (file : List ℕ) (depth set : ℕ) (words : List ℕ) (room : ℕ) (c 
       extractOf (shapeIn c) (c .states) depth set words,
       extract-accepts,
       subst (λ (x : ℕ). OneState (domainOf file c) depth (startOf file c s) (extractOf (shapeIn c) (c .states) depth x words)) (sym e)
-          (extract-one (domainOf file c) (c .states) (startOf file c) depth words built s (bit-below s set (c .states) (a .few) (single-has s set e))),
+          (extract-one (domainOf file c) (startOf file c) depth words built (bit-below (a .few) (single-has s e))),
     )

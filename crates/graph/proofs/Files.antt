@@ -25,7 +25,7 @@ join-at : (n : ℕ) (f : ℕ → ℕ) (i : ℕ) → i < n → f i ≤ joinOver n
 unfolding joinOver
 join-at zero f i h = absurd (not-suc-le-zero h)
 join-at (suc n) f i h =
-    below-suc (λ j. f j ≤ bitOr (joinOver n f) (f n)) n (le-or-r (joinOver n f) (f n)) (λ j l. le-trans (join-at n f j l) (le-or-l (joinOver n f) (f n))) i h
+    below-suc (le-or-r (joinOver n f) (f n)) (λ j l. le-trans (join-at n f j l) (le-or-l (joinOver n f) (f n))) h
 
 -- sets of which none has bit P or above pass
 sets-pass : (file : List ℕ) (props left at : ℕ) → ((i : ℕ) → i < left → setAt file (at + setBytes * i) < 2 ^ props)
@@ -34,7 +34,7 @@ unfolding setsFrom
 sets-pass file props zero at each = refl
 sets-pass file props (suc left) at each =
     sets-pass file props left (at + setBytes) (λ i h. subst (λ (x : ℕ). setAt file x < 2 ^ props) (omega arith) (each (suc i) (omega arith)))
-    ∙ sym (choose-held _ _ _ (below-of _ _ (subst (λ (x : ℕ). setAt file x < 2 ^ props) (omega arith) (each 0 (omega arith)))))
+    ∙ sym (choose-held _ (below-of (subst (λ (x : ℕ). setAt file x < 2 ^ props) (omega arith) (each 0 (omega arith)))))
 
 pub each-passes : (file : List ℕ) (c : Counts) → ((i : ℕ) → i < setCount c → setAt file (headBytes + setBytes * i) < 2 ^ c .props)
     → accepted tt ≡ setsRule file c

@@ -44,7 +44,7 @@ so-at true t = refl
 so-at false t = t
 
 neither : (a b : Bool) → So (fails (a or b)) → So (fails a) × So (fails b)
-neither a b t = (fails-of a (λ s. fails-at _ t (or-left a b s)), fails-of b (λ s. fails-at _ t (or-right a b s)))
+neither a b t = (fails-of (λ s. fails-at t (or-left b s)), fails-of (λ s. fails-at t (or-right a s)))
 
 -- a chain of checks was passed one by one
 pub passed-then : {X Y : Type 0} (v : Verdict X) (next : X → Verdict Y) (y : Y) → andThen v next ≡ accepted y
@@ -62,11 +62,11 @@ pub head-means : (file : List ℕ) → headRule file ≡ accepted tt → (headBy
 unfolding headRule
 head-means file e =
     let (short, none) = neither _ _ (passed-if-not _ _ _ _ _ e .0) in
-    (below-fails _ _ short, so-at _ none)
+    (below-fails short, so-at _ none)
 
 pub version-means : (file : List ℕ) → versionRule file ≡ accepted tt → version file ≡ 1
 unfolding versionRule
-version-means file e = same-at _ _ (passed-if _ _ _ _ _ e .0)
+version-means file e = same-at (passed-if _ _ _ _ _ e .0)
 
 pub counts-mean : (c : Counts) → countsRule c ≡ accepted tt → Ranged c
 unfolding countsRule
@@ -77,11 +77,11 @@ counts-mean c e =
     let (p₁, p₂) = neither _ _ p in
     let (n₁, n₂) = neither _ _ n in
     record {
-      some-props = below-fails _ _ p₁;
-      props = below-fails _ _ p₂;
-      actions = below-fails _ _ a;
-      some-states = below-fails _ _ n₁;
-      states = below-fails _ _ n₂;
+      some-props = below-fails p₁;
+      props = below-fails p₂;
+      actions = below-fails a;
+      some-states = below-fails n₁;
+      states = below-fails n₂;
     }
 
 -- so a graph of the file is small
@@ -90,7 +90,7 @@ small-of c r = record { props = r .props; vertices = omega (arith, r .props, r .
 
 pub length-means : (file : List ℕ) (c : Counts) → lengthRule file c ≡ accepted tt → length file ≡ rightLength c
 unfolding lengthRule
-length-means file c e = same-at _ _ (passed-if _ _ _ _ _ e .0)
+length-means file c e = same-at (passed-if _ _ _ _ _ e .0)
 
 from-mean : (file : List ℕ) (props left at : ℕ) → setsFrom file props left at ≡ accepted tt
     → (i : ℕ) → i < left → setAt file (at + setBytes * i) < 2 ^ props
@@ -98,7 +98,7 @@ unfolding setsFrom
 from-mean file props zero at e = λ i h. absurd (not-suc-le-zero h)
 from-mean file props (suc left) at e =
     let (t, r) = passed-if _ _ _ _ _ e in
-    each (below-at _ _ t) (from-mean file props left (at + setBytes) r)
+    each (below-at t) (from-mean file props left (at + setBytes) r)
   where
     each : setAt file at < 2 ^ props → ((i : ℕ) → i < left → setAt file (at + setBytes + setBytes * i) < 2 ^ props)
         → (i : ℕ) → i < suc left → setAt file (at + setBytes * i) < 2 ^ props
@@ -179,25 +179,25 @@ taken-means file c e =
 
 pub depth-means : (depth : ℕ) → depthRule depth ≡ accepted tt → depth ≤ maxDepth
 unfolding depthRule
-depth-means depth e = below-fails _ _ (passed-if-not _ _ _ _ _ e .0)
+depth-means depth e = below-fails (passed-if-not _ _ _ _ _ e .0)
 
 pub set-means : (n set : ℕ) → setRule n set ≡ accepted tt → (set ≡ 0 → ⊥) × (set < 2 ^ n)
 unfolding setRule
 set-means n set e =
     let (none, wide) = neither _ _ (passed-if-not _ _ _ _ _ e .0) in
-    (λ z. fails-at _ none (same-of _ _ z), below-at _ _ (so-at _ wide))
+    (λ z. fails-at none (same-of z), below-at (so-at _ wide))
 
 pub goal-means : (n goal : ℕ) → goalRule n goal ≡ accepted tt → goal < 2 ^ n
 unfolding goalRule
-goal-means n goal e = below-at _ _ (passed-if _ _ _ _ _ e .0)
+goal-means n goal e = below-at (passed-if _ _ _ _ _ e .0)
 
 pub memory-means : (wanted have : ℕ) → memoryRule wanted have ≡ accepted tt → wanted ≤ have
 unfolding memoryRule
-memory-means wanted have e = below-fails _ _ (passed-if-not _ _ _ _ _ e .0)
+memory-means wanted have e = below-fails (passed-if-not _ _ _ _ _ e .0)
 
 pub output-means : (wanted have : ℕ) → outputRule wanted have ≡ accepted tt → wanted ≤ have
 unfolding outputRule
-output-means wanted have e = below-fails _ _ (passed-if-not _ _ _ _ _ e .0)
+output-means wanted have e = below-fails (passed-if-not _ _ _ _ _ e .0)
 
 -- the set and the goal of a call that takes both
 pub asked-means : (c : Counts) (set goal : ℕ) → askedRule c set goal ≡ accepted tt

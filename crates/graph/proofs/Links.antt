@@ -20,42 +20,42 @@ use Rattle.graph.specs.declared.format.Counts.{Counts}
 module _ (file : List ℕ) where
   pub first-not : (getD file 0 0 ≡ 83 → ⊥) → false ≡ letters file
   unfolding letters _and_
-  first-not h = simp (same-not (getD file 0 0) 83 h)
+  first-not h = simp (same-not h)
 
   pub second-not : getD file 0 0 ≡ 83 → (getD file 1 0 ≡ 65 → ⊥) → false ≡ letters file
   unfolding letters _and_
-  second-not h k = simp (same-of (getD file 0 0) 83 h, same-not (getD file 1 0) 65 k)
+  second-not h k = simp (same-of h, same-not k)
 
   pub third-not : getD file 0 0 ≡ 83 → getD file 1 0 ≡ 65 → (getD file 2 0 ≡ 71 → ⊥) → false ≡ letters file
   unfolding letters _and_
-  third-not h k i = simp (same-of (getD file 0 0) 83 h, same-of (getD file 1 0) 65 k, same-not (getD file 2 0) 71 i)
+  third-not h k i = simp (same-of h, same-of k, same-not i)
 
   pub all-letters : getD file 0 0 ≡ 83 → getD file 1 0 ≡ 65 → getD file 2 0 ≡ 71 → true ≡ letters file
   unfolding letters _and_
-  all-letters h k i = simp (same-of (getD file 0 0) 83 h, same-of (getD file 1 0) 65 k, same-of (getD file 2 0) 71 i)
+  all-letters h k i = simp (same-of h, same-of k, same-of i)
 
 -- ---- causes 1 to 4
 
 module _ (file : List ℕ) where
   pub short : length file < headBytes → refused 1 0 ≡ headRule file
   unfolding headRule choose _or_
-  short h = simp (below-of (length file) headBytes h)
+  short h = simp (below-of h)
 
   pub no-letters : headBytes ≤ length file → letters file ≡ false → refused 1 0 ≡ headRule file
   unfolding headRule choose fails _or_
-  no-letters h s = simp (below-not (length file) headBytes h, s)
+  no-letters h s = simp (below-not h, s)
 
   pub headed : headBytes ≤ length file → letters file ≡ true → accepted tt ≡ headRule file
   unfolding headRule choose fails _or_
-  headed h s = simp (below-not (length file) headBytes h, s)
+  headed h s = simp (below-not h, s)
 
   pub other-version : (version file ≡ 1 → ⊥) → refused 2 3 ≡ versionRule file
   unfolding versionRule choose
-  other-version v = simp (same-not (version file) 1 v)
+  other-version v = simp (same-not v)
 
   pub right-version : version file ≡ 1 → accepted tt ≡ versionRule file
   unfolding versionRule choose
-  right-version v = simp (same-of (version file) 1 v)
+  right-version v = simp (same-of v)
 
   pub version-is : (v : ℕ) → v ≡ getD file 3 0 + 256 * getD file 4 0 → v ≡ version file
   unfolding version
@@ -64,61 +64,61 @@ module _ (file : List ℕ) where
   module _ (c : Counts) where
     pub wrong-length : (length file ≡ rightLength c → ⊥) → refused 4 (rightLength c) ≡ lengthRule file c
     unfolding lengthRule choose
-    wrong-length h = simp (same-not (length file) (rightLength c) h)
+    wrong-length h = simp (same-not h)
 
     pub right-length : length file ≡ rightLength c → accepted tt ≡ lengthRule file c
     unfolding lengthRule choose
-    right-length h = simp (same-of (length file) (rightLength c) h)
+    right-length h = simp (same-of h)
 
 module _ (c : Counts) where
   pub few-props : c .props < 1 → refused 3 5 ≡ countsRule c
   unfolding countsRule choose _or_
-  few-props h = simp (below-of (c .props) 1 h)
+  few-props h = simp (below-of h)
 
   pub many-props : 1 ≤ c .props → propWidth < c .props → refused 3 5 ≡ countsRule c
   unfolding countsRule choose _or_
-  many-props h k = simp (below-not (c .props) 1 h, below-of propWidth (c .props) k)
+  many-props h k = simp (below-not h, below-of k)
 
   module _ (h : 1 ≤ c .props) (k : c .props ≤ propWidth) where
     pub many-actions : maxActions < c .actions → refused 3 6 ≡ countsRule c
     unfolding countsRule choose _or_
-    many-actions i = simp (below-not (c .props) 1 h, below-not propWidth (c .props) k, below-of maxActions (c .actions) i)
+    many-actions i = simp (below-not h, below-not k, below-of i)
 
     module _ (i : c .actions ≤ maxActions) where
       pub few-states : c .states < 1 → refused 3 7 ≡ countsRule c
       unfolding countsRule choose _or_
       few-states j =
-          simp (below-not (c .props) 1 h, below-not propWidth (c .props) k, below-not maxActions (c .actions) i, below-of (c .states) 1 j)
+          simp (below-not h, below-not k, below-not i, below-of j)
 
       pub many-states : 1 ≤ c .states → stateWidth < c .states → refused 3 7 ≡ countsRule c
       unfolding countsRule choose _or_
       many-states j m = simp (
-        below-not (c .props) 1 h,
-        below-not propWidth (c .props) k,
-        below-not maxActions (c .actions) i,
-        below-not (c .states) 1 j,
-        below-of stateWidth (c .states) m,
+        below-not h,
+        below-not k,
+        below-not i,
+        below-not j,
+        below-of m,
       )
 
   pub counted : Ranged c → accepted tt ≡ countsRule c
   unfolding countsRule choose _or_
   counted r = simp (
-    below-not (c .props) 1 (r .some-props),
-    below-not propWidth (c .props) (r .props),
-    below-not maxActions (c .actions) (r .actions),
-    below-not (c .states) 1 (r .some-states),
-    below-not stateWidth (c .states) (r .states),
+    below-not (r .some-props),
+    below-not (r .props),
+    below-not (r .actions),
+    below-not (r .some-states),
+    below-not (r .states),
   )
 
 -- ---- causes 6 to 10
 
 pub too-deep : (depth : ℕ) → maxDepth < depth → refused 6 maxDepth ≡ depthRule depth
 unfolding depthRule choose
-too-deep depth h = simp (below-of maxDepth depth h)
+too-deep depth h = simp (below-of h)
 
 pub deep-enough : (depth : ℕ) → depth ≤ maxDepth → accepted tt ≡ depthRule depth
 unfolding depthRule choose
-deep-enough depth h = simp (below-not maxDepth depth h)
+deep-enough depth h = simp (below-not h)
 
 pub no-states : (n set : ℕ) → same set 0 ≡ true → refused 7 0 ≡ setRule n set
 unfolding setRule choose _or_
@@ -126,33 +126,33 @@ no-states n set e = simp e
 
 pub wide-states : (n set : ℕ) → same set 0 ≡ false → 2 ^ n ≤ set → refused 7 0 ≡ setRule n set
 unfolding setRule choose _or_ fails
-wide-states n set e h = simp (e, below-not set (2 ^ n) h)
+wide-states n set e h = simp (e, below-not h)
 
 pub some-states : (n set : ℕ) → same set 0 ≡ false → set < 2 ^ n → accepted tt ≡ setRule n set
 unfolding setRule choose _or_ fails
-some-states n set e h = simp (e, below-of set (2 ^ n) h)
+some-states n set e h = simp (e, below-of h)
 
 pub wide-goal : (n goal : ℕ) → 2 ^ n ≤ goal → refused 8 0 ≡ goalRule n goal
 unfolding goalRule choose
-wide-goal n goal h = simp (below-not goal (2 ^ n) h)
+wide-goal n goal h = simp (below-not h)
 
 pub fit-goal : (n goal : ℕ) → goal < 2 ^ n → accepted tt ≡ goalRule n goal
 unfolding goalRule choose
-fit-goal n goal h = simp (below-of goal (2 ^ n) h)
+fit-goal n goal h = simp (below-of h)
 
 module _ (wanted have : ℕ) where
   pub short-memory : have < wanted → refused 9 wanted ≡ memoryRule wanted have
   unfolding memoryRule choose
-  short-memory h = simp (below-of have wanted h)
+  short-memory h = simp (below-of h)
 
   pub long-memory : wanted ≤ have → accepted tt ≡ memoryRule wanted have
   unfolding memoryRule choose
-  long-memory h = simp (below-not have wanted h)
+  long-memory h = simp (below-not h)
 
   pub short-output : have < wanted → refused 10 wanted ≡ outputRule wanted have
   unfolding outputRule choose
-  short-output h = simp (below-of have wanted h)
+  short-output h = simp (below-of h)
 
   pub long-output : wanted ≤ have → accepted tt ≡ outputRule wanted have
   unfolding outputRule choose
-  long-output h = simp (below-not have wanted h)
+  long-output h = simp (below-not h)

@@ -106,7 +106,7 @@ module _ (file : List ℕ) (c : Counts) (sets : List ℕ) (long : length file �
   unfolding withStates withCount
   with-length =
       length-append (beforeStates file c m) (runOver m starts)
-      ∙ omega (arith, before-length, length-runOver starts setBytes m starts-length)
+      ∙ omega (arith, before-length, length-runOver starts m starts-length)
 
   in-before : (i : ℕ) → i < statesAt c → getD (withStates file c sets) i 0 ≡ getD (beforeStates file c m) i 0
   unfolding withStates
@@ -140,9 +140,9 @@ module _ (file : List ℕ) (c : Counts) (sets : List ℕ) (long : length file �
   byte-start : (s k : ℕ) → s < m → k < setBytes → getD (withStates file c sets) (stateAt c s + k) 0 ≡ getD (starts s) k 0
   unfolding withStates
   byte-start s k h l =
-      let (more, q) = run-split starts m s h in
+      let (more, q) = run-split starts m h in
       let e : stateAt c s + k ≡ length (beforeStates file c m) + (setBytes * s + k) = omega (arith, before-length) in
-      let f : setBytes * s + k ≡ length (runOver s starts) + k = omega (arith, length-runOver starts setBytes s (λ i g. starts-length i (omega arith))) in
+      let f : setBytes * s + k ≡ length (runOver s starts) + k = omega (arith, length-runOver starts s (λ i g. starts-length i (omega arith))) in
       ap (λ (x : ℕ). getD (withStates file c sets) x 0) e
       ∙ getD-append-add (beforeStates file c m) (runOver m starts) (setBytes * s + k) 0
       ∙ ap₂ (λ (x : List ℕ) (y : ℕ). getD x y 0) q f
@@ -193,11 +193,11 @@ module _ (file : List ℕ) (c : Counts) (sets : List ℕ) (e : fileRule file ≡
     unfolding withCount startOf
     sets-fit i h = ⊎-elim
         (λ b.
-        let l : i < 3 * c .actions = below-at _ _ b in
+        let l : i < 3 * c .actions = below-at b in
         subst (λ (x : ℕ). x < 2 ^ c .props) (sym (set-same _ _ (statesAt c) (byte-action file c sets (taken .long)) (headBytes + setBytes * i) (omega arith)
         (omega arith))) (taken .sets i (omega arith)))
         (λ b.
-        let l : 3 * c .actions ≤ i = below-fails _ _ b in
+        let l : 3 * c .actions ≤ i = below-fails b in
         let at : headBytes + setBytes * i ≡ stateAt c (i - 3 * c .actions) = omega arith in
         let k : i - 3 * c .actions < length sets = omega arith in
         subst (λ (x : ℕ). x < 2 ^ c .props) (sym (ap (setAt (withStates file c sets)) at ∙ with-starts (i - 3 * c .actions) k)) (inside (i - 3 * c .actions) k))
@@ -238,4 +238,4 @@ module _ (file : List ℕ) (c : Counts) (sets : List ℕ) (e : fileRule file ≡
           build-accepts (withStates file c sets) (withCount c (length sets)) depth room with-taken d m
           ∙ ap accepted
           (ap (λ (D : Domain). graphWords D (length sets) (startOf (withStates file c sets) (withCount c (length sets))) depth) (domain-same with-actions)
-          ∙ graph-eq (domainOf file c) depth (length sets) _ _ with-starts)
+          ∙ graph-eq (domainOf file c) depth with-starts)

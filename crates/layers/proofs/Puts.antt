@@ -29,7 +29,7 @@ module _ (n : ℕ) (labels t : List ℕ) {to p at : ℕ} {w₀ w : List ℕ} (s 
       → Runs (rowOf n (apart labels t)) to n w₀ (p + 1) (at + (n - 1 - p)) w'
   unfolding rowOf apart cell
   pairs-more room e = run-more (n - 1 - p) s h (pairs-room room) (length-listOver (n - 1 - p) _)
-      (e ∙ ap (λ (l : List ℕ). putAt at l w) (listOver-eq (n - 1 - p) _ _ (λ k g.
+      (e ∙ ap (λ (l : List ℕ). putAt at l w) (listOver-eq (λ k g.
       let q : p * rowLength + p + 1 + k ≡ p * rowLength + (p + 1 + k) = omega arith in
       ap (λ (x : ℕ). without (common (getD labels p 0) (getD labels (p + 1 + k) 0)) (getD t x 0)) q)))
 
@@ -61,11 +61,11 @@ module _ (n a : ℕ) (live labels mates r : List ℕ) where
         let ys = listOver n (λ q. without (common (getD live i 0) (getD labels q 0)) (getD r (i * rowLength + q) 0)) in
         let lx : length xs ≡ a - 1 - i = length-listOver (a - 1 - i) _ in
         let f₁ : w₁ ≡ putAt at xs w =
-        e₁ ∙ ap (λ (l : List ℕ). putAt at l w) (listOver-eq (a - 1 - i) _ _ (λ k g.
+        e₁ ∙ ap (λ (l : List ℕ). putAt at l w) (listOver-eq (λ k g.
         let q : i * rowLength + i + 1 + k ≡ i * rowLength + (i + 1 + k) = omega arith in
         ap (λ (x : ℕ). without (common (getD live i 0) (getD live (i + 1 + k) 0)) (getD mates x 0)) q)) in
         let f₂ : w' ≡ putAt (at + (a - 1 - i)) ys w₁ =
-        e₂ ∙ ap (λ (l : List ℕ). putAt (at + (a - 1 - i)) l w₁) (listOver-eq n _ _ (λ q g.
+        e₂ ∙ ap (λ (l : List ℕ). putAt (at + (a - 1 - i)) l w₁) (listOver-eq (λ q g.
         ap (λ (x : ℕ). without (common (getD live i 0) (getD labels x 0)) (getD r (i * rowLength + q) 0)) (omega arith))) in
         run-more ((a - 1 - i) + n) s h (rows-room h) (row-length i)
         (f₂ ∙ ap₂ (λ (x : ℕ) (l : List ℕ). putAt (at + x) ys l) (sym lx) f₁ ∙ put-put at xs w (omega (arith, s .long, rows-room h)) ys)
@@ -116,7 +116,7 @@ put-behind at xs ys w₀ w₁ w₂ e room e₁ e₂ =
 pub take-row : (n : ℕ) (row : List ℕ) → n ≤ length row → take n row ≡ listOver n (λ i. getD row i 0)
 take-row n row h =
     ext-getD 0 (take n row) _ (length-take-le n row h ∙ sym (length-listOver n _)) (λ i l.
-    let k : i < n = omega (arith, length-take-le n row h) in getD-take n row i 0 k ∙ sym (getD-listOver n _ i k))
+    let k : i < n = omega (arith, length-take-le n row h) in getD-take n row i 0 k ∙ sym (getD-listOver _ k))
 
 -- ---- the proposition layer
 
@@ -127,7 +127,7 @@ props-put n labels t w₀ w₁ w₂ few room diag e₁ e₂ =
     put-behind n (take n labels) (runOver n (rowOf n (apart labels t))) w₀ w₁ w₂ (length-take-le n labels few)
     (omega (arith, length-rows n (apart labels t) n (omega arith), size-pairs n)) e₁ e₂
     ∙ ap (λ (l : List ℕ). putAt 0 (l ++ runOver n (rowOf n (apart labels t))) w₀) (take-row n labels few)
-    ∙ ap (λ (l : List ℕ). putAt 0 l w₀) (layer-eq n _ _ _ _ diag (λ p q h k. word p q (omega arith) k))
+    ∙ ap (λ (l : List ℕ). putAt 0 l w₀) (layer-eq diag (λ p q h k. word p q (omega arith) k))
   where
     word : (p q : ℕ) → p < n → q < n → apart labels t p q ≡ without (common (cell t p p) (cell t q q)) (cell t p q)
     word p q h k = unfold apart in ap₂ (λ (x y : ℕ). without (common x y) (cell t p q)) (diag p h) (diag q k)

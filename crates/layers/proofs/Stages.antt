@@ -52,18 +52,18 @@ module _ (A : Actions) (all : ℕ) (sets : Sets rowLength A) (labels t : List �
   -- the label of an action, as the layer has it
   pub label-is : (i : ℕ) → i < A .count → labelIn (overOf A all t) i ≡ vertexLabel (domain A .props) all (layerBy (domain A .props) (cell t)) (A .pre i)
   unfolding domain
-  label-is i h = vertex-label (domain A) all (cell t) (is .consistent) i (action-below A i h)
-      ∙ ap (vertexLabel (A .props) all (layerBy (A .props) (cell t))) (needs-action A i h)
+  label-is i h = vertex-label (domain A) all (cell t) (is .consistent) (action-below A h)
+      ∙ ap (vertexLabel (A .props) all (layerBy (A .props) (cell t))) (needs-action A h)
 
-  with-is : (i q : ℕ) → q < A .props → needsWith all labels t (A .pre i) q ≡ S.needsWith rowLength all A sets (cell t) (is .consistent) i q
+  with-is : (i q : ℕ) → q < A .props → needsWith all labels t (A .pre i) q ≡ S.needsWith rowLength all A sets (is .consistent) i q
   unfolding needsWith
   with-is i q h = ap (λ (x : ℕ). meetOf rowLength (A .pre i) (λ p. cell t p q) (common x all)) (is .diagonal q h)
 
   label-code : (i : ℕ) → i < A .count → labelFor all labels t (A .pre i) ≡ vertexLabel (domain A .props) all (layerBy (domain A .props) (cell t)) (A .pre i)
   unfolding labelFor
   label-code i h =
-      meet-only rowLength (A .pre i) all _ _ (λ q l m. with-is i q (bit-below q (A .pre i) (A .props) (sets .pre i h) m))
-      ∙ S.admitted rowLength all A sets (cell t) (is .consistent) i h
+      meet-only (A .pre i) all (λ q l m. with-is i q (bit-below (sets .pre i h) m))
+      ∙ S.admitted rowLength all A sets (is .consistent) h
 
   pub label-told : (i : ℕ) → i < A .count → labelFor all labels t (A .pre i) ≡ labelIn (overOf A all t) i
   label-told i h = label-code i h ∙ sym (label-is i h)
@@ -72,7 +72,7 @@ module _ (A : Actions) (all : ℕ) (sets : Sets rowLength A) (labels t : List �
   unfolding withProp
   prop-told i q h k =
       ap₂ (λ (x y : ℕ). choose (bit q (A .del i)) 0 (common x y)) (with-is i q k) (label-code i h)
-      ∙ S.with-prop rowLength all A sets (cell t) (is .consistent) i q h k
+      ∙ S.with-prop rowLength all A sets (is .consistent) h k
 
   -- ---- two actions
 
@@ -81,20 +81,20 @@ module _ (A : Actions) (all : ℕ) (sets : Sets rowLength A) (labels t : List �
     lives i h = adm .label i h ∙ label-is i h
 
     need-lt : (i p : ℕ) → i < A .count → So (bit p (getD needs i 0)) → p < A .props
-    need-lt i p h m = bit-below p (A .pre i) (A .props) (sets .pre i h) (ap (bit p) (sym (told .pre i h)) ∙ m)
+    need-lt i p h m = bit-below (sets .pre i h) (ap (bit p) (sym (told .pre i h)) ∙ m)
 
     -- by rows
     pub pair-told : (turned : List ℕ) → ((j p : ℕ) → j < A .count → p < A .props → cell turned p j ≡ cell r j p) → (i j : ℕ) → i < A .count → j < A .count
         → withAction needs interferers live turned i j ≡ free i j
     unfolding withAction
     pair-told turned turns i j h k = ⊎-elim
-        (λ e. choose-held _ _ _ e ∙ adm .label i h ∙ sym (free-own (domain A .vertices) (overOf A all t) i) ∙ ap (free i) (same-at i j e))
-        (λ d. choose-failed _ _ _ d
+        (λ e. choose-held _ e ∙ adm .label i h ∙ sym (free-own (domain A .vertices) (overOf A all t) i) ∙ ap (free i) (same-at e))
+        (λ d. choose-failed _ _ d
         ∙ ap (λ (x : ℕ). choose (bit j (getD interferers i 0)) 0 x)
-        (meet-only rowLength (getD needs i 0) _ _ _ (λ p l m.
+        (meet-only (getD needs i 0) _ (λ p l m.
         let hp : p < A .props = need-lt i p h m in turns j p k hp ∙ adm .with-props j p k hp)
         ∙ ap₂ (λ (set w : ℕ). meetOf rowLength set (λ p. free j (persistence A p)) w) (told .pre i h) (ap₂ common (lives j k) (lives i h)))
-        ∙ S.with-action rowLength all A sets (cell t) (is .consistent) i j (bit j (getD interferers i 0)) h k (λ q. fails-at _ d (same-of i j q)) (told .interfere i j h k))
+        ∙ S.with-action rowLength all A sets (is .consistent) h k (λ q. fails-at d (same-of q)) (told .interfere i j h k))
         (holds-or (same i j))
 
     -- one by one
@@ -105,56 +105,55 @@ module _ (A : Actions) (all : ℕ) (sets : Sets rowLength A) (labels t : List �
 
     pub independent-lt : (i : ℕ) → independentOf needs interferers i < 2 ^ length needs
     unfolding independentOf
-    independent-lt i = without-lt (length needs) (first (length needs)) _ (first-lt (length needs))
+    independent-lt i = without-lt (length needs) _ (first-lt (length needs))
 
     independent-is : (i j : ℕ) → i < A .count → So (bit j (independentOf needs interferers i)) → (j < A .count) × So (fails (bit j (getD interferers i 0))) × (i ≡ j → ⊥)
     independent-is i j h m =
         let u = sym (independent-bits i j) ∙ m in (
-          subst (λ (x : ℕ). j < x) (sym (told .count)) (bit-below j (independentOf needs interferers i) (length needs) (independent-lt i) m),
-          fails-of _ (λ x. fails-at _ (and-right _ _ u) (or-left _ _ x)),
-          λ e. fails-at _ (and-right _ _ u) (or-right _ _ (same-of j i (sym e))),
+          subst (λ (x : ℕ). j < x) (sym (told .count)) (bit-below (independent-lt i) m),
+          fails-of (λ x. fails-at (and-right _ u) (or-left _ x)),
+          λ e. fails-at (and-right _ u) (or-right _ (same-of (sym e))),
         )
 
     interferers-is : (i j : ℕ) → i < A .count → j < A .count → (i ≡ j → ⊥) → So (fails (bit j (independentOf needs interferers i))) → So (bit j (getD interferers i 0))
     interferers-is i j h k ne m = ⊎-elim
         (λ x. x)
-        (λ x. absurd (fails-at _ m (independent-bits i j ∙ and-of _ _
-        (bit-first j (length needs) ∙ below-of j (length needs) (subst (λ (y : ℕ). j < y) (told .count) k))
-        (fails-of _ (λ o. ⊎-elim (fails-at _ x) (λ e. ne (sym (same-at j i e))) (or-at _ _ o))))))
+        (λ x. absurd (fails-at m (independent-bits i j ∙ and-of (bit-first j (length needs) ∙ below-of (subst (λ (y : ℕ). j < y) (told .count) k))
+        (fails-of (λ o. ⊎-elim (fails-at x) (λ e. ne (sym (same-at e))) (or-at o))))))
         (holds-or (bit j (getD interferers i 0)))
 
     turned-interfere : (i j : ℕ) → i < A .count → j < A .count → bit j (getD interferers i 0) ≡ (clobbers A j i or clobbers A i j)
-    turned-interfere i j h k = told .interfere i j h k ∙ test-eq _ _ (swap _ _) (swap _ _)
+    turned-interfere i j h k = told .interfere i j h k ∙ test-eq (swap _ _) (swap _ _)
       where
         swap : (a b : Bool) → So (a or b) → So (b or a)
-        swap a b t = ⊎-elim (λ x. or-right b a x) (λ x. or-left b a x) (or-at a b t)
+        swap a b t = ⊎-elim (λ x. or-right b x) (λ x. or-left a x) (or-at t)
 
     both-ways : (i j : ℕ) → i < A .count → j < A .count → (i ≡ j → ⊥)
         → choose (bit j (getD interferers i 0)) 0 (meetOf rowLength (A .pre j) (λ p. free i (persistence A p))
         (common (vertexLabel (domain A .props) all (layerBy (domain A .props) (cell t)) (A .pre i)) (vertexLabel (domain A .props) all (layerBy (domain A .props) (cell t)) (A .pre j)))) ≡ free i j
     both-ways i j h k ne =
-        S.with-action rowLength all A sets (cell t) (is .consistent) j i (bit j (getD interferers i 0)) k h (λ q. ne (sym q)) (turned-interfere i j h k)
+        S.with-action rowLength all A sets (is .consistent) k h (λ q. ne (sym q)) (turned-interfere i j h k)
         ∙ free-turn (domain A .vertices) (overOf A all t) j i
 
     apart-none : (i j : ℕ) → i < A .count → j < A .count → (i ≡ j → ⊥) → So (fails (bit j (independentOf needs interferers i))) → free i j ≡ 0
-    apart-none i j h k ne m = sym (both-ways i j h k ne) ∙ choose-held (bit j (getD interferers i 0)) 0 _ (interferers-is i j h k ne m)
+    apart-none i j h k ne m = sym (both-ways i j h k ne) ∙ choose-held _ (interferers-is i j h k ne m)
 
     independent-told : (i j : ℕ) → i < A .count → So (bit j (independentOf needs interferers i)) → withIndependent needs live (rowIn r i) i j ≡ free i j
     unfolding withIndependent
     independent-told i j h m =
         let (k, f, ne) = independent-is i j h m in
-        meet-only rowLength (getD needs j 0) _ _ _ (λ q l n.
+        meet-only (getD needs j 0) _ (λ q l n.
         let hq : q < A .props = need-lt j q k n in row-cell r i q l ∙ adm .with-props i q h hq)
         ∙ ap₂ (λ (set w : ℕ). meetOf rowLength set (λ p. free i (persistence A p)) w) (told .pre j k) (ap₂ common (lives i h) (lives j k))
-        ∙ sym (choose-failed (bit j (getD interferers i 0)) 0 _ f) ∙ both-ways i j h k ne
+        ∙ sym (choose-failed (bit j (getD interferers i 0)) 0 f) ∙ both-ways i j h k ne
 
     pub mate-told : (i j : ℕ) → i < A .count → j < A .count → mateOf needs interferers live r i j ≡ free i j
     unfolding mateOf
     mate-told i j h k = ⊎-elim
-        (λ e. choose-held _ _ _ e ∙ adm .label i h ∙ sym (free-own (domain A .vertices) (overOf A all t) i) ∙ ap (free i) (sym (same-at j i e)))
-        (λ d. let ne : i ≡ j → ⊥ = (λ q. fails-at _ d (same-of j i (sym q))) in choose-failed _ _ _ d ∙ ⊎-elim
-        (λ m. choose-held _ _ _ m ∙ independent-told i j h m)
-        (λ m. choose-failed _ _ _ m ∙ sym (apart-none i j h k ne m))
+        (λ e. choose-held _ e ∙ adm .label i h ∙ sym (free-own (domain A .vertices) (overOf A all t) i) ∙ ap (free i) (sym (same-at e)))
+        (λ d. let ne : i ≡ j → ⊥ = (λ q. fails-at d (same-of (sym q))) in choose-failed _ _ d ∙ ⊎-elim
+        (λ m. choose-held _ m ∙ independent-told i j h m)
+        (λ m. choose-failed _ _ m ∙ sym (apart-none i j h k ne m))
         (holds-or (bit j (independentOf needs interferers i))))
         (holds-or (same j i))
 
@@ -162,24 +161,24 @@ module _ (A : Actions) (all : ℕ) (sets : Sets rowLength A) (labels t : List �
     unfolding besideFor
     beside-told i p h k =
         ap₂ union
-        (ap₂ union (adm .with-props i p h k) (join-only rowLength (independentOf needs interferers i) _ _ (λ j l m.
+        (ap₂ union (adm .with-props i p h k) (join-only (independentOf needs interferers i) (λ j l m.
         let (g, f, ne) = independent-is i j h m in ap₂ (λ (x y : ℕ). keep (bit p x) y) (told .add j g) (independent-told i j h m))))
         (ap₂ (λ (x y : ℕ). keep (bit p x) y) (told .add i h) (adm .label i h ∙ sym (free-own (domain A .vertices) (overOf A all t) i)))
-        ∙ S.beside-few rowLength all A sets (cell t) (is .consistent) i p (independentOf needs interferers i) h k
+        ∙ S.beside-few rowLength all A sets (is .consistent) h k
         (subst (λ (x : ℕ). independentOf needs interferers i < 2 ^ x) (sym (told .count)) (independent-lt i))
         (λ j g ne m. apart-none i j h g (λ q. ne (sym q)) m)
 
     -- rows joined over the adders of a proposition
     adder-lt : (p j : ℕ) → p < A .props → So (bit j (getD adders p 0)) → j < A .count
-    adder-lt p j k m = bit-below j (startLabel (A .count) (A .add) p) (A .count) (startLabel-lt (A .count) (A .add) p) (ap (bit j) (sym (told .by p k)) ∙ m)
+    adder-lt p j k m = bit-below (startLabel-lt (A .count) (A .add) p) (ap (bit j) (sym (told .by p k)) ∙ m)
 
     pub rows-told : (turned mates : List ℕ) → ((j p : ℕ) → j < A .count → p < A .props → cell turned p j ≡ cell r j p)
         → ((i j : ℕ) → i < A .count → j < A .count → cell mates i j ≡ free i j) → (i p : ℕ) → i < A .count → p < A .props
         → union (cell turned p i) (joinOf rowLength (getD adders p 0) (λ j. cell mates j i)) ≡ beside (domain A) (overOf A all t) i p
     rows-told turned mates turns pair i p h k =
         ap₂ union (turns i p h k ∙ adm .with-props i p h k)
-        (join-only rowLength (getD adders p 0) _ _ (λ j l m. pair j i (adder-lt p j k m) h) ∙ ap (λ (x : ℕ). joinOf rowLength x (λ j. free j i)) (told .by p k))
-        ∙ S.beside-rows rowLength all A sets (cell t) (is .consistent) i p k
+        (join-only (getD adders p 0) (λ j l m. pair j i (adder-lt p j k m) h) ∙ ap (λ (x : ℕ). joinOf rowLength x (λ j. free j i)) (told .by p k))
+        ∙ S.beside-rows rowLength all A sets (is .consistent) i k
 
   -- ---- the next table
 
@@ -192,37 +191,37 @@ module _ (A : Actions) (all : ℕ) (sets : Sets rowLength A) (labels t : List �
         → cell spare p q ≡ union (cell t p q) (joinOf rowLength (startLabel (A .count) (A .add) p) (λ i. beside (domain A) (overOf A all t) i q))
     half-told p q h k =
         halves p q h k ∙ ap (union (cell t p q))
-        (join-only rowLength (getD adders p 0) _ _ (λ i l m. with-adders i q
-        (bit-below i (startLabel (A .count) (A .add) p) (A .count) (startLabel-lt (A .count) (A .add) p) (ap (bit i) (sym (told .by p h)) ∙ m)) k)
+        (join-only (getD adders p 0) (λ i l m. with-adders i q
+        (bit-below (startLabel-lt (A .count) (A .add) p) (ap (bit i) (sym (told .by p h)) ∙ m)) k)
         ∙ ap (λ (x : ℕ). joinOf rowLength x (λ i. beside (domain A) (overOf A all t) i q)) (told .by p h))
 
     pub cell-told : (p q : ℕ) → p < A .props → q < A .props → cell t' p q ≡ nextTogether (domain A) (overOf A all t) p q
     cell-told p q h k =
         joined p q h k ∙ ap₂ union (half-told p q h k) (turns q p k h ∙ half-told q p k h)
-        ∙ S.next-cells rowLength all A sets (cell t) (is .consistent) p q h k
+        ∙ S.next-cells rowLength all A sets (is .consistent) h k
 
     inside : (s v : ℕ) → v < domain A .vertices → So (bit s (labelIn (overOf A all t) v)) → So (bit s all)
     inside s v h b =
-        label-at (domain A .props) all (cell t) (is .consistent) s (domain A .needs v)
-        (ap (bit s) (sym (vertex-label (domain A) all (cell t) (is .consistent) v h)) ∙ b) .inside
+        label-at (domain A .props) all (cell t) (is .consistent)
+        (ap (bit s) (sym (vertex-label (domain A) all (cell t) (is .consistent) h)) ∙ b) .inside
 
     pub next-told : (labels' : List ℕ) (still : Bool) → ((p : ℕ) → p < A .props → getD labels' p 0 ≡ cell t' p p)
         → (still ≡ true → (p q : ℕ) → p < A .props → q < A .props → cell t' p q ≡ cell t p q) → Next A all t labels' t' still
     unfolding domain
     next-told labels' still diag same = record {
       tells = record {
-        consistent = consistent-eq (A .props) all (nextTogether (domain A) (overOf A all t)) (cell t') (λ p q h k. sym (cell-told p q h k))
-            (next-together (domain A) (overOf A all t) all inside);
+        consistent = consistent-eq (λ p q h k. sym (cell-told p q h k))
+            (next-together (domain A) (overOf A all t) inside);
         diagonal = diag;
       };
-      layer = layerBy-eq (A .props) (cell t') (nextTogether (domain A) (overOf A all t)) cell-told ∙ sym (next-by (domain A) (overOf A all t));
-      rests = λ e. layerBy-eq (A .props) (cell t') (cell t) (same e);
+      layer = layerBy-eq cell-told ∙ sym (next-by (domain A) (overOf A all t));
+      rests = λ e. layerBy-eq (same e);
     }
 
 -- a table that did not change
 pub unchanged : (n : ℕ) (f g : ℕ → ℕ) → joinOver n (λ i. bitXor (f i) (g i)) ≡ 0 → (i : ℕ) → i < n → f i ≡ g i
-unchanged n f g e i h = same-words (f i) (g i) (ext-all _ _ (λ s. test-eq _ _
-    (λ b. absurd (no-bit-zero s (ap (bit s) (sym e) ∙ (bit-joinOver s _ (λ i. bit s (bitXor (f i) (g i))) n (λ i l. refl) ∙ any-of n _ i h b))))
+unchanged n f g e i h = same-words (f i) (g i) (ext-all (λ s. test-eq
+    (λ b. absurd (no-bit-zero s (ap (bit s) (sym e) ∙ (bit-joinOver s _ (λ i l. refl) ∙ any-of _ h b))))
     (λ b. absurd (no-bit-zero s b))))
   where
     same-words : (a b : ℕ) → bitXor a b ≡ 0 → a ≡ b
@@ -239,7 +238,7 @@ module _ (a n : ℕ) (f : ℕ → ℕ → ℕ) where
   row-split i h =
       let e : a + n - 1 - i ≡ (a - 1 - i) + n = omega arith in
       ap (λ (x : ℕ). listOver x (λ k. word i (i + 1 + k))) e ∙ list-append (a - 1 - i) n (λ k. word i (i + 1 + k))
-      ∙ ap (λ (l : List ℕ). listOver (a - 1 - i) (λ k. word i (i + 1 + k)) ++ l) (listOver-eq n _ _ (λ q l.
+      ∙ ap (λ (l : List ℕ). listOver (a - 1 - i) (λ k. word i (i + 1 + k)) ++ l) (listOver-eq (λ q l.
       let g : i + 1 + (a - 1 - i + q) ≡ a + q = omega arith in ap (word i) g))
 
   row-last : (p : ℕ) → rowOf (a + n) word (a + p) ≡ rowOf n (λ p q. word (a + p) (a + q)) p
@@ -247,7 +246,7 @@ module _ (a n : ℕ) (f : ℕ → ℕ → ℕ) where
   row-last p =
       let e : a + n - 1 - (a + p) ≡ n - 1 - p = omega arith in
       ap (λ (x : ℕ). listOver x (λ k. word (a + p) (a + p + 1 + k))) e
-      ∙ listOver-eq (n - 1 - p) _ _ (λ k l. let g : a + p + 1 + k ≡ a + (p + 1 + k) = omega arith in ap (word (a + p)) g)
+      ∙ listOver-eq (λ k l. let g : a + p + 1 + k ≡ a + (p + 1 + k) = omega arith in ap (word (a + p)) g)
 
   pub layer-split : layerBy (a + n) f
       ≡ (listOver a (λ i. f i i) ++ listOver n (λ p. f (a + p) (a + p)))
@@ -256,21 +255,21 @@ module _ (a n : ℕ) (f : ℕ → ℕ → ℕ) where
   layer-split =
       ap₂ (λ (x y : List ℕ). x ++ y) (list-append a n (λ v. f v v))
       (run-append a n (rowOf (a + n) word)
-      ∙ ap₂ (λ (x y : List ℕ). x ++ y) (runOver-eq a _ _ row-split) (runOver-eq n _ _ (λ p h. row-last p)))
+      ∙ ap₂ (λ (x y : List ℕ). x ++ y) (runOver-eq a row-split) (runOver-eq n (λ p h. row-last p)))
 
 pub actions-told : (A : Actions) (all : ℕ) (sets : Sets rowLength A) (labels t live r mates besides : List ℕ) → Tells A all labels t → Admitted A all t live r → Mated A all t mates besides
     → actionWords (A .props) (A .count) live labels t mates r ≡ overOf A all t
 unfolding actionWords actionRow apart domain persistence
 actions-told A all sets labels t live r mates besides is adm mat =
     sym (action-by (domain A) all (layerBy (A .props) (cell t)) ∙ layer-split a n free ∙ ap₂ (λ (x y : List ℕ). x ++ y)
-    (ap₂ (λ (x y : List ℕ). x ++ y) (listOver-eq a _ _ own) (listOver-eq n _ _ kept))
+    (ap₂ (λ (x y : List ℕ). x ++ y) (listOver-eq own) (listOver-eq kept))
     (ap₂ (λ (x y : List ℕ). x ++ y)
-    (runOver-eq a _ _ (λ i h. ap₂ (λ (x y : List ℕ). x ++ y)
-    (listOver-eq (a - 1 - i) _ _ (λ k l.
+    (runOver-eq a (λ i h. ap₂ (λ (x y : List ℕ). x ++ y)
+    (listOver-eq (λ k l.
     let hk : i + 1 + k < a = omega arith in
     ap₂ without (ap₂ common (own i h) (own (i + 1 + k) hk)) (sym (mat .pair i (i + 1 + k) h hk))))
-    (listOver-eq n _ _ (λ q l. ap₂ without (ap₂ common (own i h) (kept q l)) (sym (adm .with-props i q h l))))))
-    (runOver-eq n _ _ (λ p h. rows p h))))
+    (listOver-eq (λ q l. ap₂ without (ap₂ common (own i h) (kept q l)) (sym (adm .with-props i q h l))))))
+    (runOver-eq n (λ p h. rows p h))))
   where
     a : ℕ
     a = A .count
@@ -285,13 +284,13 @@ actions-told A all sets labels t live r mates besides is adm mat =
     own i h = free-own (A .count + A .props) (overOf A all t) i ∙ sym (adm .label i h)
 
     kept : (p : ℕ) → p < A .props → free (A .count + p) (A .count + p) ≡ getD labels p 0
-    kept p h = S.both-kept rowLength all A sets (cell t) (is .consistent) p p h h ∙ sym (is .diagonal p h)
+    kept p h = S.both-kept rowLength all A sets (is .consistent) h h ∙ sym (is .diagonal p h)
 
     rows : (p : ℕ) → p < A .props → rowOf (A .props) (λ p q. without (common (free (A .count + p) (A .count + p)) (free (A .count + q) (A .count + q))) (free (A .count + p) (A .count + q))) p
         ≡ rowOf (A .props) (λ p q. without (common (getD labels p 0) (getD labels q 0)) (cell t p q)) p
-    rows p h = unfold rowOf in listOver-eq (A .props - 1 - p) _ _ (λ k l.
+    rows p h = unfold rowOf in listOver-eq (λ k l.
         let hk : p + 1 + k < A .props = omega arith in
-        ap₂ without (ap₂ common (kept p h) (kept (p + 1 + k) hk)) (S.both-kept rowLength all A sets (cell t) (is .consistent) p (p + 1 + k) h hk))
+        ap₂ without (ap₂ common (kept p h) (kept (p + 1 + k) hk)) (S.both-kept rowLength all A sets (is .consistent) h hk))
 
 -- ---- on what the functions leave
 
@@ -299,7 +298,7 @@ actions-told A all sets labels t live r mates besides is adm mat =
 front-word : (m i : ℕ) (f : ℕ → ℕ) (w : List ℕ) → m ≤ length w → i < m → getD (putAt 0 (listOver m f) w) i 0 ≡ f i
 front-word m i f w room h =
     ap (λ (x : ℕ). getD (putAt 0 (listOver m f) w) x 0) (sym (zero-add i))
-    ∙ put-word 0 (listOver m f) w (omega (arith, length-listOver m f)) i (omega (arith, length-listOver m f)) ∙ getD-listOver m f i h
+    ∙ put-word 0 (listOver m f) w (omega (arith, length-listOver m f)) i (omega (arith, length-listOver m f)) ∙ getD-listOver f h
 
 pub diagonal-told : (n : ℕ) (labels labels' t' : List ℕ) → labels' ≡ putAt 0 (listOver n (λ p. cell t' p p)) labels → n ≤ length labels → Diagonal n labels' t'
 diagonal-told n labels labels' t' e room p h = ap (λ (l : List ℕ). getD l p 0) e ∙ front-word n p _ labels room h

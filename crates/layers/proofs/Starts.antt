@@ -18,11 +18,11 @@ use Rattle.words.specs.Rows.{cell}
 use Rattle.layers.specs.Step.{Tells}
 
 none-less : (x : ℕ) → without x x ≡ 0
-none-less x = ext-all _ _ (λ s. test-eq _ _ (λ b. let u = sym (bit-without s x x) ∙ b in absurd (fails-at _ (and-right _ _ u) (and-left _ _ u)))
+none-less x = ext-all (λ s. test-eq (λ b. let u = sym (bit-without s x x) ∙ b in absurd (fails-at (and-right _ u) (and-left _ u)))
     (λ b. absurd (no-bit-zero s b)))
 
 common-self : (x : ℕ) → common x x ≡ x
-common-self x = ext-all _ _ (λ s. bit-common s x x ∙ test-eq _ _ (λ b. and-left _ _ b) (λ b. and-of _ _ b b))
+common-self x = ext-all (λ s. bit-common s x x ∙ test-eq (λ b. and-left _ b) (λ b. and-of b b))
 
 module _ (n width : ℕ) (labels t : List ℕ) (few : n ≤ width)
     (is : (p q : ℕ) → p < n → q < width → cell t p q ≡ common (getD labels q 0) (getD labels p 0)) where
@@ -34,7 +34,7 @@ module _ (n width : ℕ) (labels t : List ℕ) (few : n ≤ width)
 
   pub start-layer : layerBy n (cell t) ≡ layerOf n (λ p. getD labels p 0) (λ p q. 0)
   unfolding layerBy
-  start-layer = layer-eq n _ _ _ _ (λ p h. sym (start-diagonal p h)) (λ p q h k.
+  start-layer = layer-eq (λ p h. sym (start-diagonal p h)) (λ p q h k.
       let hp : p < n = omega arith in
       ap₂ without (ap₂ common (sym (start-diagonal p hp)) (sym (start-diagonal q k))) (at p q hp k ∙ common-turn (getD labels q 0) (getD labels p 0))
       ∙ none-less (common (getD labels p 0) (getD labels q 0)))
@@ -44,7 +44,7 @@ module _ (n width : ℕ) (labels t : List ℕ) (few : n ≤ width)
   start-tells A all e inside = record {
     consistent = subst (λ (x : ℕ). Consistent x all (cell t)) (sym e) (record {
       turn = λ p q h k. at p q h k ∙ common-turn (getD labels q 0) (getD labels p 0) ∙ sym (at q p k h);
-      part = λ s p q h k b. ap (bit s) (sym (start-diagonal p h)) ∙ and-right _ _ (sym (bit-common s (getD labels q 0) (getD labels p 0)) ∙ (ap (bit s) (sym (at p q h k)) ∙ b));
+      part = λ s p q h k b. ap (bit s) (sym (start-diagonal p h)) ∙ and-right _ (sym (bit-common s (getD labels q 0) (getD labels p 0)) ∙ (ap (bit s) (sym (at p q h k)) ∙ b));
       inside = λ s p h b. inside s p h (ap (bit s) (start-diagonal p h) ∙ b);
     });
     diagonal = λ p h. start-diagonal p (subst (λ (x : ℕ). p < x) e h);

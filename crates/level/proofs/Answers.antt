@@ -20,25 +20,25 @@ use Rattle.graph.proofs.Ladder.{graph-means, small-of}
 module _ (S : Shape) (k set goal : ℕ) (words : List ℕ) (t : ℕ) (met : t ≡ firstMet S k set goal words) where
   pub level-at : t ≤ k → accepted (level t) ≡ accepted (levelOf S k set goal words)
   unfolding levelOf choose
-  level-at h = simp (sym met, below-of t (suc k) (omega arith))
+  level-at h = simp (sym met, below-of {i = t} {j = suc k} (omega arith))
 
   module _ (above : k < t) where
     pub level-never : below (firstRest S k words) k ≡ true → accepted never ≡ accepted (levelOf S k set goal words)
     unfolding levelOf choose
-    level-never h = simp (sym met, below-not t (suc k) (omega arith), h)
+    level-never h = simp (sym met, below-not {i = t} {j = suc k} (omega arith), h)
 
     pub level-not-by-depth : below (firstRest S k words) k ≡ false → accepted notByDepth ≡ accepted (levelOf S k set goal words)
     unfolding levelOf choose
-    level-not-by-depth h = simp (sym met, below-not t (suc k) (omega arith), h)
+    level-not-by-depth h = simp (sym met, below-not {i = t} {j = suc k} (omega arith), h)
 
 module _ (S : Shape) (k : ℕ) (words : List ℕ) (t : ℕ) (rest : t ≡ firstRest S k words) where
   pub rest-at : t < k → accepted (restsAt t) ≡ accepted (restOf S k words)
   unfolding restOf choose
-  rest-at h = simp (sym rest, below-of t k h)
+  rest-at h = simp (sym rest, below-of h)
 
   pub rest-none : k ≤ t → accepted none ≡ accepted (restOf S k words)
   unfolding restOf choose
-  rest-none h = simp (sym rest, below-not t k h)
+  rest-none h = simp (sym rest, below-not h)
 
 -- ---- causes 6 to 9 being passed
 

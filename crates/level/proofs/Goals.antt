@@ -35,18 +35,18 @@ use Rattle.level.proofs.Searches.{not-so, xor-same}
 module _ (n set : ℕ) (f : ℕ → Bool) where
   members-of : ((i : ℕ) → i < n → So (bit i set) → So (f i)) → So (allOf n set f)
   unfolding allOf
-  members-of h = all-of _ _ (λ i l. implies-of _ _ (h i l))
+  members-of h = all-of (λ i l. implies-of (h i l))
 
   members-at : So (allOf n set f) → (i : ℕ) → i < n → So (bit i set) → So (f i)
   unfolding allOf
-  members-at t i l m = implies-at _ _ (all-at _ _ t i l) m
+  members-at t i l m = implies-at (all-at _ t l) m
 
 -- the set without q, and q
 part-in : (set q i : ℕ) → So (bit i (without set (single q))) → So (bit i set)
-part-in set q i t = and-left _ _ (sym (bit-without i set (single q)) ∙ t)
+part-in set q i t = and-left _ (sym (bit-without i set (single q)) ∙ t)
 
 part-of : (set q i : ℕ) → So (bit i set) → So (fails (same i q)) → So (bit i (without set (single q)))
-part-of set q i t e = bit-without i set (single q) ∙ and-of _ _ t (ap fails (bit-single i q) ∙ e)
+part-of set q i t e = bit-without i set (single q) ∙ and-of t (ap fails (bit-single i q) ∙ e)
 
 -- ---- one member after the other
 
@@ -54,11 +54,11 @@ none-left : (n : ℕ) (f : ℕ → Bool) → allOf n 0 f ≡ true
 none-left n f = members-of n 0 f (λ i l m. absurd (no-bit-zero i m))
 
 pick : (n set q : ℕ) (f : ℕ → Bool) → q < n → So (bit q set) → allOf n set f ≡ (f q and allOf n (without set (single q)) f)
-pick n set q f l t = test-eq _ _
-    (λ u. and-of _ _ (members-at n set f u q l t) (members-of n (without set (single q)) f (λ i h m. members-at n set f u i h (part-in set q i m))))
+pick n set q f l t = test-eq
+    (λ u. and-of (members-at n set f u q l t) (members-of n (without set (single q)) f (λ i h m. members-at n set f u i h (part-in set q i m))))
     (λ u. members-of n set f (λ i h m. ⊎-elim
-    (λ e. subst (λ (j : ℕ). So (f j)) (sym (same-at i q e)) (and-left _ _ u))
-    (λ e. members-at n (without set (single q)) f (and-right _ _ u) i h (part-of set q i m e))
+    (λ e. subst (λ (j : ℕ). So (f j)) (sym (same-at e)) (and-left _ u))
+    (λ e. members-at n (without set (single q)) f (and-right _ u) i h (part-of set q i m e))
     (holds-or (same i q))))
 
 -- the test of those that are left is that of all
@@ -82,7 +82,7 @@ module _ {f : ℕ → Bool} {n set₀ left : ℕ} (m : Left f n set₀ left) (fe
       → Left f n set₀ left'
   unfolding _and_
   left-less {left'} l e t = record {
-    inside = subst (λ (x : ℕ). x < 2 ^ n) (sym l) (without-lt n left _ (m .inside));
+    inside = subst (λ (x : ℕ). x < 2 ^ n) (sym l) (without-lt n _ (m .inside));
     part = λ i u. m .part i (part-in left (trailingZeros wordWidth left) i (sym (ap (bit i) l) ∙ u));
     is = ap (λ (x : ℕ). allOf n x f) l
         ∙ sym (next ∙ ap (λ (b : Bool). b and allOf n (without left (single (trailingZeros wordWidth left))) f) (ap f (sym e) ∙ t));
@@ -123,12 +123,11 @@ module _ (n set : ℕ) (f : ℕ → ℕ → Bool) where
 -- one member with the others, and the others by themselves
 pick-two : (n set q : ℕ) (f : ℕ → ℕ → Bool) → Mutual f → q < n → So (bit q set)
     → pairsOf n set f ≡ (allOf n (without set (single q)) (f q) and pairsOf n (without set (single q)) f)
-pick-two n set q f both l t = test-eq _ _ to from
+pick-two n set q f both l t = test-eq to from
   where
     to : So (pairsOf n set f) → So (allOf n (without set (single q)) (f q) and pairsOf n (without set (single q)) f)
     to u =
-        and-of _ _
-        (members-of n (without set (single q)) (f q) (λ i h m. two-at n set f u q i l h t (part-in set q i m)))
+        and-of (members-of n (without set (single q)) (f q) (λ i h m. two-at n set f u q i l h t (part-in set q i m)))
         (two-of n (without set (single q)) f (λ i j h k m r. two-at n set f u i j h k (part-in set q i m) (part-in set q j r)))
 
     from : So (allOf n (without set (single q)) (f q) and pairsOf n (without set (single q)) f) → So (pairsOf n set f)
@@ -136,16 +135,16 @@ pick-two n set q f both l t = test-eq _ _ to from
       where
         row : (j : ℕ) → j < n → So (bit j set) → So (f q j)
         row j k r = ⊎-elim
-            (λ e. subst (λ (x : ℕ). So (f q x)) (sym (same-at j q e)) (both .own q))
-            (λ e. members-at n (without set (single q)) (f q) (and-left _ _ u) j k (part-of set q j r e))
+            (λ e. subst (λ (x : ℕ). So (f q x)) (sym (same-at e)) (both .own q))
+            (λ e. members-at n (without set (single q)) (f q) (and-left _ u) j k (part-of set q j r e))
             (holds-or (same j q))
 
         go : (i j : ℕ) → i < n → j < n → So (bit i set) → So (bit j set) → So (f i j)
         go i j h k m r = ⊎-elim
-            (λ e. subst (λ (x : ℕ). So (f x j)) (sym (same-at i q e)) (row j k r))
+            (λ e. subst (λ (x : ℕ). So (f x j)) (sym (same-at e)) (row j k r))
             (λ e. ⊎-elim
-            (λ g. both .turn i j ∙ subst (λ (x : ℕ). So (f x i)) (sym (same-at j q g)) (row i h m))
-            (λ g. two-at n (without set (single q)) f (and-right _ _ u) i j h k (part-of set q i m e) (part-of set q j r g))
+            (λ g. both .turn i j ∙ subst (λ (x : ℕ). So (f x i)) (sym (same-at g)) (row i h m))
+            (λ g. two-at n (without set (single q)) f (and-right _ u) i j h k (part-of set q i m e) (part-of set q j r g))
             (holds-or (same j q)))
             (holds-or (same i q))
 
@@ -160,7 +159,7 @@ two-all h = record { inside = h; part = λ i t. t; is = refl }
 module _ {f : ℕ → ℕ → Bool} {n set₀ left left' : ℕ} (both : Mutual f) (m : LeftTwo f n set₀ left) (few : n ≤ wordWidth) (some : 0 < left)
     (l : left' ≡ without left (single (trailingZeros wordWidth left))) where
   pub two-inside : left' < 2 ^ n
-  two-inside = subst (λ (x : ℕ). x < 2 ^ n) (sym l) (without-lt n left _ (m .inside))
+  two-inside = subst (λ (x : ℕ). x < 2 ^ n) (sym l) (without-lt n _ (m .inside))
 
   pub two-part : (i : ℕ) → So (bit i left') → So (bit i set₀)
   two-part i t = m .part i (part-in left (trailingZeros wordWidth left) i (sym (ap (bit i) l) ∙ t))
@@ -194,24 +193,23 @@ two-none {f} {n} {set₀} {left} m h =
 module _ (n : ℕ) (l : List ℕ) (set : ℕ) where
   own-meets : (p : ℕ) → So (meets set (mutexIn n l p p)) → ⊥
   unfolding meets
-  own-meets p t = fails-at _ t (same-of _ _ (ap (common set) (sym (mutex-own n l p p refl)) ∙ and-zero-r set))
+  own-meets p t = fails-at t (same-of (ap (common set) (sym (mutex-own n l p p refl)) ∙ and-zero-r set))
 
   pub pairs-mutual : Mutual (pairMeets n l set)
   unfolding pairMeets
-  pairs-mutual = record { turn = λ p q. ap (λ (x : ℕ). fails (meets set x)) (mutex-turn n l p q); own = λ p. fails-of _ (own-meets p) }
+  pairs-mutual = record { turn = λ p q. ap (λ (x : ℕ). fails (meets set x)) (mutex-turn n l p q); own = λ p. fails-of (own-meets p) }
 
   -- the test of the rule, which goes over all propositions, is that of the goal's members
   pairs-members : (goal : ℕ) → pairsOf n goal (pairMeets n l set)
       ≡ allBelow n (λ q. allBelow q (λ p. (bit p goal and bit q goal) implies fails (meets set (mutexIn n l p q))))
   unfolding pairMeets
-  pairs-members goal = test-eq _ _
-      (λ u. all-of _ _ (λ q h. all-of _ _ (λ p g. implies-of _ _ (λ m.
-      two-at n goal (pairMeets n l set) u p q (omega arith) h (and-left _ _ m) (and-right _ _ m)))))
+  pairs-members goal = test-eq (λ u. all-of (λ q h. all-of (λ p g. implies-of (λ m.
+      two-at n goal (pairMeets n l set) u p q (omega arith) h (and-left _ m) (and-right _ m)))))
       (λ u. two-of n goal (pairMeets n l set) (λ p q h k m r. go u p q h k m r))
     where
       rising : So (allBelow n (λ q. allBelow q (λ p. (bit p goal and bit q goal) implies fails (meets set (mutexIn n l p q)))))
           → (p q : ℕ) → p < q → q < n → So (bit p goal) → So (bit q goal) → So (pairMeets n l set p q)
-      rising u p q h k m r = implies-at _ _ (all-at _ _ (all-at _ _ u q k) p h) (and-of _ _ m r)
+      rising u p q h k m r = implies-at (all-at _ (all-at _ u k) h) (and-of m r)
 
       go : So (allBelow n (λ q. allBelow q (λ p. (bit p goal and bit q goal) implies fails (meets set (mutexIn n l p q)))))
           → (p q : ℕ) → p < n → q < n → So (bit p goal) → So (bit q goal) → So (pairMeets n l set p q)
@@ -228,19 +226,19 @@ module _ (n : ℕ) (l : List ℕ) (set : ℕ) where
 -- a layer that meets the goal has each label and each pair of it right
 module _ (n set goal : ℕ) (l : List ℕ) (met : So (goalMet n l set goal)) where
   label-met : (p : ℕ) → p < n → So (bit p goal) → So (labelMeets l set p)
-  label-met p h m = members-at n goal (labelMeets l set) (and-left _ _ (goal-members n l set goal ∙ met)) p h m
+  label-met p h m = members-at n goal (labelMeets l set) (and-left _ (goal-members n l set goal ∙ met)) p h m
 
   pair-met : (p q : ℕ) → p < n → q < n → So (bit p goal) → So (bit q goal) → So (pairMeets n l set p q)
-  pair-met p q h k m r = two-at n goal (pairMeets n l set) (and-right _ _ (goal-members n l set goal ∙ met)) p q h k m r
+  pair-met p q h k m r = two-at n goal (pairMeets n l set) (and-right _ (goal-members n l set goal ∙ met)) p q h k m r
 
 -- what a label and a mutex word show there
 within-all : (set w : ℕ) → So (within set w) → common w set ≡ set
 unfolding within
-within-all set w t = and-comm w set ∙ sym (xor-same set (common set w) (same-at _ _ t))
+within-all set w t = and-comm w set ∙ sym (xor-same set (common set w) (same-at t))
 
 apart-none : (set w : ℕ) → So (fails (meets set w)) → common w set ≡ 0
 unfolding meets
-apart-none set w t = and-comm w set ∙ ⊎-elim (same-at _ _) (λ e. absurd (fails-at _ t e)) (holds-or (same (common set w) 0))
+apart-none set w t = and-comm w set ∙ ⊎-elim same-at (λ e. absurd (fails-at t e)) (holds-or (same (common set w) 0))
 
 pair-behind : (n p q : ℕ) → n ≤ pairAt n p q
 unfolding pairAt
@@ -253,7 +251,7 @@ module _ {n set goal : ℕ} {l : List ℕ} where
   label-judged {p} h f = record {
     met = λ g. absurd (omega (arith, labels-in n));
     not = λ g m. not-so _ (f .not h) (label-met n set goal l m p h (f .one h));
-    shows = λ g other m. within-all set _ (label-met n set goal other m p h (f .one h)) ∙ simp (below-of p n h);
+    shows = λ g other m. within-all set _ (label-met n set goal other m p h (f .one h)) ∙ simp (below-of h);
   }
 
   -- two goals that are mutex
@@ -266,13 +264,13 @@ module _ {n set goal : ℕ} {l : List ℕ} where
     shows = λ g other t.
         ap (λ (x : ℕ). common x set) (mutex-up n other p q at h e)
         ∙ apart-none set _ (pair-met n set goal other t p q (omega arith) k m r)
-        ∙ simp (below-not at n (omega (arith, pair-behind n p q)));
+        ∙ simp (below-not {i = at} {j = n} (omega (arith, pair-behind n p q)));
   }
 
   -- all labels and all pairs right: the goal is met, and no place is found
   pub all-judged : So (allOf n goal (labelMeets l set)) → true ≡ pairsOf n goal (pairMeets n l set) → {at : ℕ} → at ≡ size n → Judged n l set goal at
   all-judged a b {at} e = record {
-    met = λ g. sym (goal-members n l set goal) ∙ and-of _ _ a (sym b);
+    met = λ g. sym (goal-members n l set goal) ∙ and-of a (sym b);
     not = λ g. absurd (omega arith);
     shows = λ g. absurd (omega arith);
   }
@@ -281,17 +279,17 @@ module _ {n set goal : ℕ} {l : List ℕ} where
 module _ (n goal : ℕ) where
   held-bit : (p : ℕ) → p < n → bit p (common goal (first n)) ≡ bit p goal
   held-bit p h =
-      bit-common p goal (first n) ∙ ap (λ (b : Bool). bit p goal and b) (bit-first p n ∙ below-of p n h) ∙ and-true (bit p goal)
+      bit-common p goal (first n) ∙ ap (λ (b : Bool). bit p goal and b) (bit-first p n ∙ below-of h) ∙ and-true
 
   met-held : (l : List ℕ) (set : ℕ) → goalMet n l set (common goal (first n)) ≡ goalMet n l set goal
   unfolding goalMet
   met-held l set =
       ap₂ _and_
-      (all-eq n _ _ (λ p h. ap (λ (b : Bool). b implies within set (labelIn l p)) (held-bit p h)))
-      (all-eq n _ _ (λ q h. all-eq q _ _ (λ p g. ap₂ (λ (a b : Bool). (a and b) implies fails (meets set (mutexIn n l p q)))
+      (all-eq (λ p h. ap (λ (b : Bool). b implies within set (labelIn l p)) (held-bit p h)))
+      (all-eq (λ q h. all-eq (λ p g. ap₂ (λ (a b : Bool). (a and b) implies fails (meets set (mutexIn n l p q)))
       (held-bit p (omega arith)) (held-bit q h))))
 
 pub first-held : (S : Shape) (depth set goal : ℕ) (words : List ℕ)
     → firstMet S depth set (common goal (first (S .props))) words ≡ firstMet S depth set goal words
 unfolding firstMet
-first-held S depth set goal words = first-eq (suc depth) _ _ (λ t h. met-held (S .props) goal (propsIn S words t) set)
+first-held S depth set goal words = first-eq (suc depth) (λ t h. met-held (S .props) goal (propsIn S words t) set)

@@ -74,7 +74,7 @@ rests-from w step count t e f = ap (λ (x : ℕ). allBelow count (sameAt w x (x 
 
 rests-by : (S : Shape) (w : List ℕ) (t : ℕ) → restsBy w (stride S) (size (S .props)) t ≡ layerRests S w t
 unfolding restsBy layerRests
-rests-by S w t = all-eq (size (S .props)) _ _ (λ i h. ap₂ same
+rests-by S w t = all-eq (λ i h. ap₂ same
     (sym (word-at S w t i h))
     (ap (λ (x : ℕ). getD w (x + i) 0) (sym (suc-mul t (stride S))) ∙ sym (word-at S w (suc t) i h)))
 
@@ -82,7 +82,7 @@ pub rest-by : (S : Shape) (w : List ℕ) (k : ℕ) {step count : ℕ} → step �
     → firstBelow k (restsBy w step count) ≡ firstRest S k w
 unfolding firstRest
 rest-by S w k e f =
-    ap₂ (λ (a b : ℕ). firstBelow k (restsBy w a b)) e f ∙ first-eq k _ _ (λ t h. rests-by S w t)
+    ap₂ (λ (a b : ℕ). firstBelow k (restsBy w a b)) e f ∙ first-eq k (λ t h. rests-by S w t)
 
 -- a product of a layer's number and a step is small
 pub steps-small : (t step : ℕ) → t ≤ maxDepth + 1 → step ≤ 2 * maxLayer → t * step ≤ 1064960

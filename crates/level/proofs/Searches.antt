@@ -39,14 +39,14 @@ held-more {f} {n} {i} h l t = record { within = omega arith; each = below-more _
 
 -- so it holds at all n of them
 pub held-done : {f : ℕ → Bool} {n i : ℕ} → Held f n i → n ≤ i → true ≡ allBelow n f
-held-done {f} {n} {i} h l = sym (all-of n f (λ k m. h .each k (omega arith)))
+held-done {f} {n} {i} h l = sym (all-of (λ k m. h .each k (omega arith)))
 
 -- one index at which it fails
 pub held-not : {f : ℕ → Bool} {n i : ℕ} → Held f n i → i < n → f i ≡ false → false ≡ allBelow n f
 held-not {f} {n} {i} h l e = go (allBelow n f) refl
   where
     go : (b : Bool) → allBelow n f ≡ b → false ≡ b
-    go true q = absurd (not-so (f i) e (all-at n f q i l))
+    go true q = absurd (not-so (f i) e (all-at f q l))
     go false q = refl
 
 -- a block of k at once
@@ -54,7 +54,7 @@ pub held-block : {f : ℕ → Bool} {n i : ℕ} (k : ℕ) → Held f n i → i +
 held-block {f} {n} {i} k h l t = record {
   within = l;
   each = λ j m. by-cases (decLe i j)
-      (λ g. let e : i + (j - i) ≡ j = omega arith in subst (λ (x : ℕ). So (f x)) e (all-at k (λ j. f (i + j)) t (j - i) (omega arith)))
+      (λ g. let e : i + (j - i) ≡ j = omega arith in subst (λ (x : ℕ). So (f x)) e (all-at (λ j. f (i + j)) t (omega arith)))
       (λ g. h .each j (omega arith));
 }
 
@@ -62,15 +62,15 @@ pub held-blocked : {f : ℕ → Bool} {n i : ℕ} (k : ℕ) → Held f n i → i
 held-blocked {f} {n} {i} k h l e = go (allBelow n f) refl
   where
     go : (b : Bool) → allBelow n f ≡ b → false ≡ b
-    go true q = absurd (not-so _ e (all-of k (λ j. f (i + j)) (λ j m. all-at n f q (i + j) (omega arith))))
+    go true q = absurd (not-so _ e (all-of (λ j m. all-at f q (omega arith))))
     go false q = refl
 
 -- what holds of the first i, as one test
 pub held-so : {f : ℕ → Bool} {n i : ℕ} → Held f n i → So (allBelow i f)
-held-so {f} {n} {i} h = all-of i f (h .each)
+held-so {f} {n} {i} h = all-of (h .each)
 
 pub held-from : (f : ℕ → Bool) (n i : ℕ) → i ≤ n → So (allBelow i f) → Held f n i
-held-from f n i l t = record { within = l; each = all-at i f t }
+held-from f n i l t = record { within = l; each = (λ i. all-at f t) }
 
 -- ---- words whose differences are joined
 
@@ -78,17 +78,15 @@ pub xor-same : (a b : ℕ) → bitXor a b ≡ 0 → a ≡ b
 xor-same a b e = omega (arith, xor-add-and a b, and-le-l a b, and-le-r a b)
 
 differ-same : (a b : ℕ) → same (bitXor a b) 0 ≡ same a b
-differ-same a b = test-eq _ _
-    (λ t. same-of _ _ (xor-same a b (same-at _ _ t)))
-    (λ t. same-of _ _ (ap (bitXor a) (sym (same-at _ _ t)) ∙ xor-self a))
+differ-same a b = test-eq (λ t. same-of (xor-same a b (same-at t)))
+    (λ t. same-of (ap (bitXor a) (sym (same-at t)) ∙ xor-self a))
 
 join-same : (a b : ℕ) → same (bitOr a b) 0 ≡ (same a 0 and same b 0)
-join-same a b = test-eq _ _
-    (λ t.
-    let e = same-at (bitOr a b) 0 t in
+join-same a b = test-eq (λ t.
+    let e = same-at t in
     let f = or-add-and a b in
-    and-of _ _ (same-of _ _ (omega (arith, and-le-l a b, and-le-r a b))) (same-of _ _ (omega (arith, and-le-l a b, and-le-r a b))))
-    (λ t. same-of _ _ (ap₂ bitOr (same-at _ _ (and-left _ _ t)) (same-at _ _ (and-right _ _ t))))
+    and-of (same-of (omega (arith, and-le-l a b, and-le-r a b))) (same-of (omega (arith, and-le-l a b, and-le-r a b))))
+    (λ t. same-of (ap₂ bitOr (same-at (and-left _ t)) (same-at (and-right _ t))))
 
 -- of n words, no difference among the first i: each is the same as the other
 pub record Compared (one other : ℕ → ℕ) (n i differ : ℕ) : Type 0 where
@@ -97,7 +95,7 @@ pub record Compared (one other : ℕ → ℕ) (n i differ : ℕ) : Type 0 where
 
 pub compared-none : {one other : ℕ → ℕ} {n : ℕ} → Compared one other n 0 0
 unfolding allBelow
-compared-none = record { within = omega arith; is = same-of 0 0 refl }
+compared-none = record { within = omega arith; is = same-of refl }
 
 pub compared-more : {one other : ℕ → ℕ} {n i differ : ℕ} → Compared one other n i differ → i < n
     → Compared one other n (i + 1) (bitOr differ (bitXor (one i) (other i)))
@@ -124,11 +122,11 @@ sought-more {f} {n} {i} s l e = record { within = omega arith; before = below-mo
 
 -- where it holds, that is the first index
 pub sought-found : {f : ℕ → Bool} {n i : ℕ} → Sought f n i → i < n → So (f i) → i ≡ firstBelow n f
-sought-found {f} {n} {i} s l t = first-unique n f i (s .within) (s .before) (λ h. t)
+sought-found {f} {n} {i} s l t = first-unique (s .within) (s .before) (λ h. t)
 
 -- after all n of them there is none
 pub sought-done : {f : ℕ → Bool} {n i : ℕ} → Sought f n i → n ≤ i → i ≡ firstBelow n f
-sought-done {f} {n} {i} s l = first-unique n f i (s .within) (s .before) (λ h. absurd (omega arith))
+sought-done {f} {n} {i} s l = first-unique (s .within) (s .before) (λ h. absurd (omega arith))
 
 -- none up to i, none at i, and none from there on: the search goes on further up
 pub sought-over : {f : ℕ → Bool} {n i j : ℕ} → Sought f n i → (So (f i) → ⊥) → i + 1 ≤ j → j ≤ n → ((k : ℕ) → i + 1 ≤ k → k < j → So (f k) → ⊥) → Sought f n j
@@ -154,10 +152,10 @@ cleared-more {f} {n} {i} s l e = record {
 
 -- where it holds, there is a first index
 pub cleared-found : {f : ℕ → Bool} {n i : ℕ} → Cleared f n i → 0 < i → So (f (i - 1)) → true ≡ below (firstBelow n f) n
-cleared-found {f} {n} {i} s l t = sym (below-of _ _ (omega (arith, s .within, first-to n f (i - 1) t)))
+cleared-found {f} {n} {i} s l t = sym (below-of (omega (arith, s .within, first-to n f t)))
 
 -- after all n of them there is none
 pub cleared-done : {f : ℕ → Bool} {n i : ℕ} → Cleared f n i → i ≤ 0 → false ≡ below (firstBelow n f) n
 cleared-done {f} {n} {i} s l =
     let no : firstBelow n f < n → ⊥ = λ h. s .from (firstBelow n f) (omega arith) h (first-at n f h) in
-    sym (below-not _ _ (omega arith))
+    sym (below-not (omega arith))

@@ -71,12 +71,12 @@ module _ (A : Actions) (depth set goal : ℕ) (words : List ℕ) (t : ℕ) (met 
   pub no-level : depth < t → plannedVerdict depth (planOf A depth set goal words) ≡ refused 13 depth
   unfolding planOf choose
   no-level h =
-      ap (λ (l : Level). plannedVerdict depth (planAt A set goal words l)) (level-by false (below-not t (suc depth) (omega arith)))
+      ap (λ (l : Level). plannedVerdict depth (planAt A set goal words l)) (level-by false (below-not (omega arith)))
       ∙ none (below (firstRest (shapeOf (domain A)) depth words) depth)
 
   pub at-level : t ≤ depth → descend A words t (listOver (A .props) (λ p. keep (bit p goal) set)) [] ≡ planOf A depth set goal words
   unfolding planOf planAt choose
-  at-level h = sym (ap (planAt A set goal words) (level-by true (below-of t (suc depth) (omega arith))))
+  at-level h = sym (ap (planAt A set goal words) (level-by true (below-of (omega arith))))
 
 -- the room of a list as long as the depth
 pub room-deep : {S : Shape} {d : ℕ} {w : List ℕ} (k : ℕ) → k ≡ d → Room S d w → Room S k w

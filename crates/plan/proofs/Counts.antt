@@ -19,16 +19,15 @@ use Rattle.rules.proofs.Tests.{test-eq, same-of, same-at, and-of, and-left, and
 
 -- a union is empty just when both words are
 both-empty : (a b : ℕ) → same (union a b) 0 ≡ (same a 0 and same b 0)
-both-empty a b = test-eq _ _
-    (λ t.
-    let e = same-at (bitOr a b) 0 t in
+both-empty a b = test-eq (λ t.
+    let e = same-at t in
     let f = or-add-and a b in
-    and-of _ _ (same-of _ _ (omega (arith, and-le-l a b, and-le-r a b))) (same-of _ _ (omega (arith, and-le-l a b, and-le-r a b))))
-    (λ t. same-of _ _ (ap₂ bitOr (same-at _ _ (and-left _ _ t)) (same-at _ _ (and-right _ _ t))))
+    and-of (same-of (omega (arith, and-le-l a b, and-le-r a b))) (same-of (omega (arith, and-le-l a b, and-le-r a b))))
+    (λ t. same-of (ap₂ bitOr (same-at (and-left _ t)) (same-at (and-right _ t))))
 
 pub all-empty : (n : ℕ) (f : ℕ → ℕ) → same (joinOver n f) 0 ≡ allBelow n (λ i. same (f i) 0)
 unfolding joinOver allBelow
-all-empty zero f = same-of 0 0 refl
+all-empty zero f = same-of refl
 all-empty (suc n) f = both-empty (joinOver n f) (f n) ∙ ap (λ (b : Bool). b and same (f n) 0) (all-empty n f)
 
 -- a word stored before those that are there

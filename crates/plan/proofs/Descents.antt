@@ -49,7 +49,7 @@ unfolding propsIn domain listedActions labelIn
 ground-reads needs adders w wanted =
     let n = length adders in
     let z : 0 * stride (listedShape needs adders) ≡ 0 = omega arith in
-    all-eq n _ _ (λ p h. ap (within (getD wanted p 0))
+    all-eq (λ p h. ap (within (getD wanted p 0))
     (sym (getD-take (size n) w p 0 (omega (arith, labels-in n))) ∙ ap (λ (x : ℕ). getD (take (size n) (drop x w)) p 0) (sym z)))
 
 -- at layer t the rest of the descent, with the words of the plan from t on, is the whole one

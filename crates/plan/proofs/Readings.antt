@@ -60,8 +60,8 @@ module _ {file : List ℕ} {c : Counts} {needs₀ : List ℕ} where
         taken = r .taken;
         needed = list-more (r .needed) h (sym (zero-add i)) p;
         adding = k ∙ ap (λ (m : ℕ). listOver m (λ j. union (getD adders j 0) (keep (bit j x) y))) (ap length (r .adding) ∙ length-listOver n _)
-            ∙ listOver-eq n _ _ (λ j l.
-            ap (λ (z : ℕ). union z (keep (bit j x) y)) (ap (λ (w : List ℕ). getD w j 0) (r .adding) ∙ getD-listOver n _ j l)
+            ∙ listOver-eq (λ j l.
+            ap (λ (z : ℕ). union z (keep (bit j x) y)) (ap (λ (w : List ℕ). getD w j 0) (r .adding) ∙ getD-listOver _ l)
             ∙ ap₂ (λ (u w : ℕ). union (startLabel i f j) (keep (bit j u) w)) q e ∙ adds-next i f j);
       }
 
@@ -86,8 +86,8 @@ vertex-same : (a b : ℕ) (f g : ℕ → ℕ) → a ≡ b → ((v : ℕ) → v <
 vertex-same a b f g e h v =
     ap (λ (x : ℕ). choose (below v x) (f v) (single (v - x))) e
     ∙ ⊎-elim
-    (λ t. choose-held (below v b) _ _ t ∙ h v (below-at v b t) ∙ sym (choose-held (below v b) _ _ t))
-    (λ t. choose-failed (below v b) _ _ t ∙ sym (choose-failed (below v b) _ _ t))
+    (λ t. choose-held _ t ∙ h v (below-at t) ∙ sym (choose-held _ t))
+    (λ t. choose-failed (below v b) _ t ∙ sym (choose-failed (below v b) _ t))
     (holds-or (below v b))
 
 module _ (file : List ℕ) (c : Counts) (taken : Taken file c) (needs adders : List ℕ) (e : needs ≡ listOver (c .actions) (actionsOf file c .pre))
@@ -99,18 +99,18 @@ module _ (file : List ℕ) (c : Counts) (taken : Taken file c) (needs adders : L
   adders-long = ap length f ∙ length-listOver (c .props) _
 
   need-at : (a : ℕ) → a < c .actions → getD needs a 0 ≡ actionsOf file c .pre a
-  need-at a h = ap (λ (l : List ℕ). getD l a 0) e ∙ getD-listOver (c .actions) _ a h
+  need-at a h = ap (λ (l : List ℕ). getD l a 0) e ∙ getD-listOver _ h
 
   adders-at : (p : ℕ) → p < c .props → getD adders p 0 ≡ startLabel (c .actions) (actionsOf file c .add) p
-  adders-at p h = ap (λ (l : List ℕ). getD l p 0) f ∙ getD-listOver (c .props) _ p h
+  adders-at p h = ap (λ (l : List ℕ). getD l p 0) f ∙ getD-listOver _ h
 
   add-at : (a : ℕ) → a < c .actions → startLabel (length adders) (λ p. getD adders p 0) a ≡ actionsOf file c .add a
-  add-at a h = ext (c .props) _ _
+  add-at a h = ext
       (subst (λ (n : ℕ). startLabel (length adders) (λ p. getD adders p 0) a < 2 ^ n) adders-long (startLabel-lt (length adders) (λ p. getD adders p 0) a))
       (add-small file c a taken h)
       (λ p l.
-      bit-startLabel (length adders) (λ p. getD adders p 0) a p (omega (arith, adders-long)) ∙ ap (bit a) (adders-at p l)
-      ∙ bit-startLabel (c .actions) (actionsOf file c .add) p a h)
+      bit-startLabel (λ p. getD adders p 0) a (omega (arith, adders-long)) ∙ ap (bit a) (adders-at p l)
+      ∙ bit-startLabel (actionsOf file c .add) p h)
 
   pub read-tables : Tables needs adders
   unfolding actionsOf
@@ -148,7 +148,7 @@ module _ (file : List ℕ) (c : Counts) (taken : Taken file c) (needs adders : L
   read-descend words t set goal needed g =
       ap (λ (l : List ℕ). descend (listedActions needs adders) words t l [])
       (g ∙ ap (λ (n : ℕ). listOver n (λ p. keep (bit p goal) set)) (sym adders-long))
-      ∙ descend-same (listedActions needs adders) (actionsOf file c) same-needs set t words words
+      ∙ descend-same same-needs set words words
       (λ p h i b. ap (λ (S : Shape). bit i (labelIn (propsIn S words 0) p)) shape-same)
       (λ u l v h i b. ap (λ (S : Shape). bit i (labelIn (actionsIn S words u) v)) shape-same)
       t (le-refl t) _ [] (goals-inside (listedActions needs adders) set goal)
@@ -160,7 +160,7 @@ pub goals-spread : (n set goal : ℕ) (row row' : List ℕ) → row ≡ listOver
 unfolding labelIn
 goals-spread n set goal row row' e f =
     f ∙ ap (λ (m : ℕ). listOver m (λ q. union (getD row q 0) (keep (bit q goal) set))) (ap length e ∙ length-listOver n _)
-    ∙ listOver-eq n _ _ (λ q l. ap (λ (x : ℕ). union x (keep (bit q goal) set)) (ap (λ (w : List ℕ). getD w q 0) e ∙ getD-listOver n _ q l))
+    ∙ listOver-eq (λ q l. ap (λ (x : ℕ). union x (keep (bit q goal) set)) (ap (λ (w : List ℕ). getD w q 0) e ∙ getD-listOver _ l))
 
 pub goals-live : (n set goal : ℕ) (row : List ℕ) → goal < 2 ^ n → row ≡ listOver n (λ p. keep (bit p goal) set) → Live goal row
 unfolding keep choose
@@ -168,7 +168,7 @@ goals-live n set goal row h e =
     let long : length row ≡ n = ap length e ∙ length-listOver n _ in
     record {
       inside = subst (λ (m : ℕ). goal < 2 ^ m) (sym long) h;
-      rest = λ p l b. ap (λ (w : List ℕ). getD w p 0) e ∙ getD-listOver n _ p (omega arith) ∙ ap (λ (x : Bool). choose x set 0) b;
+      rest = λ p l b. ap (λ (w : List ℕ). getD w p 0) e ∙ getD-listOver _ (omega arith) ∙ ap (λ (x : Bool). choose x set 0) b;
     }
 
 -- with what is lent, the lists that were read and the goals are what the descent asks

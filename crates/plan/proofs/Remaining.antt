@@ -29,15 +29,15 @@ module _ {set w w' : ℕ} (l : Left set w) (some : 0 < w) (e : w' ≡ without w 
   unfolding fails
   other q h =
       ap (bit q) e ∙ bit-without q w _
-      ∙ ap (λ (b : Bool). bit q w and fails b) (bit-single q (trailingZeros wordWidth w) ∙ same-not q _ (λ i. omega arith)) ∙ and-true (bit q w)
+      ∙ ap (λ (b : Bool). bit q w and fails b) (bit-single q (trailingZeros wordWidth w) ∙ same-not (λ i. omega arith)) ∙ and-true
 
   fits : w' < 2 ^ wordWidth
-  fits = subst (λ (x : ℕ). x < 2 ^ wordWidth) (sym e) (without-lt wordWidth w _ (l .word))
+  fits = subst (λ (x : ℕ). x < 2 ^ wordWidth) (sym e) (without-lt wordWidth _ (l .word))
 
   -- the next one lies above it
   pub left-above : trailingZeros wordWidth w < trailingZeros wordWidth w'
   left-above = by-cases (decLt 0 w')
-      (λ h. others-above wordWidth w _ (l .word) (sym (ap (bit (trailingZeros wordWidth w')) e) ∙ lowest-has wordWidth w' fits (λ z. omega arith)))
+      (λ h. others-above wordWidth w _ (l .word) (sym (ap (bit (trailingZeros wordWidth w')) e) ∙ lowest-has wordWidth fits (λ z. omega arith)))
       (λ h.
       let z : w' ≡ 0 = omega arith in
       omega (arith, lowest-lt wordWidth w (omega arith) (l .word) some, ap (trailingZeros wordWidth) z, trailing-of-zero wordWidth))
@@ -51,4 +51,4 @@ module _ {set w w' : ℕ} (l : Left set w) (some : 0 < w) (e : w' ≡ without w 
 
 -- the lowest is a member, and below it there is none
 pub left-lowest : {set w : ℕ} → Left set w → 0 < w → So (bit (trailingZeros wordWidth w) set)
-left-lowest {set} {w} l some = sym (l .from _ (omega arith)) ∙ lowest-has wordWidth w (l .word) (λ z. omega arith)
+left-lowest {set} {w} l some = sym (l .from _ (omega arith)) ∙ lowest-has wordWidth (l .word) (λ z. omega arith)

@@ -53,14 +53,14 @@ module _ (A : Actions) (labels wanted : List ℕ) where
   stays : (p : ℕ) (vs : List ℕ) (s : Support) → s .left ≡ 0 → support A labels p vs s ≡ s
   unfolding support choose
   stays p [] s e = refl
-  stays p (v ∷ vs) s e = simp (same-of (s .left) 0 e)
+  stays p (v ∷ vs) s e = simp (same-of e)
 
   -- left from inside, where no state is left uncovered
   pub search-clear : (p k : ℕ) (s : Support) → s .left ≡ 0
       → searching A labels wanted p k s ≡ resting A labels wanted (p + 1) (s .marks) (s .needed)
   unfolding searching after resting choose
   search-clear p k s e =
-      ap (after A labels wanted (A .props - suc p) p) (stays p (drop k (order A p)) s e) ∙ simp (same-of (s .left) 0 e, add-one)
+      ap (after A labels wanted (A .props - suc p) p) (stays p (drop k (order A p)) s e) ∙ simp (same-of e, add-one)
 
   -- past all vertices, with states left
   pub search-end : (p k : ℕ) (s : Support) → A .count < k → (s .left ≡ 0 → ⊥) → searching A labels wanted p k s ≡ uncovered
@@ -68,7 +68,7 @@ module _ (A : Actions) (labels wanted : List ℕ) where
   search-end p k s l e =
       let long : length (order A p) ≤ k = omega (arith, order-length A p) in
       ap (λ (vs : List ℕ). after A labels wanted (A .props - suc p) p (support A labels p vs s)) (drop-of-length-le (order A p) long)
-      ∙ simp (same-not (s .left) 0 e)
+      ∙ simp (same-not e)
 
   -- one vertex on
   search-on : (p k v : ℕ) (s t : Support) → getD (order A p) k 0 ≡ v → k ≤ A .count → (s .left ≡ 0 → ⊥)
@@ -76,7 +76,7 @@ module _ (A : Actions) (labels wanted : List ℕ) where
   unfolding searching support choose
   search-on p k v s t h l e q =
       ap (λ (vs : List ℕ). after A labels wanted (A .props - suc p) p (support A labels p vs s)) (drop-cons (order A p) k 0 (omega (arith, order-length A p)))
-      ∙ ap (λ (x : Support). after A labels wanted (A .props - suc p) p x) (skip (same-not (s .left) 0 e))
+      ∙ ap (λ (x : Support). after A labels wanted (A .props - suc p) p x) (skip (same-not e))
       ∙ ap₂ (λ (x : Support) (j : ℕ). after A labels wanted (A .props - suc p) p (support A labels p (drop j (order A p)) x))
       (ap (λ (x : ℕ). choose (bit p (addsOf A x)) (takes A labels x s) s) h ∙ sym q) (sym (add-one k))
     where
@@ -95,30 +95,30 @@ module _ (A : Actions) (labels wanted : List ℕ) where
   -- 'Then actions .. in rising number'
   order-then : (p a : ℕ) → a < A .count → getD (order A p) (a + 1) 0 ≡ a
   unfolding order
-  order-then p a h = rw add-one (getD-listOver (A .count) (λ a. a) a h)
+  order-then p a h = rw add-one (getD-listOver (λ a. a) h)
 
   kept-adds : (p : ℕ) → So (bit p (addsOf A (A .count + p)))
   unfolding addsOf
   kept-adds p =
       let e : A .count + p - A .count ≡ p = omega arith in
-      ap (bit p) (choose-failed _ _ _ (is-fails _ (below-not (A .count + p) (A .count) (omega arith))) ∙ ap single e) ∙ single-has p _ refl
+      ap (bit p) (choose-failed _ _ (is-fails (below-not (omega arith))) ∙ ap single e) ∙ single-has p refl
 
   -- the persistence of p takes what it can
   pub search-kept : (p : ℕ) (s : Support) → length (s .needed) ≡ A .props
       → searching A labels wanted p 0 s ≡ searching A labels wanted p 1 (took (labelIn labels (A .count + p)) (single p) 0 s)
   search-kept p s long = ⊎-elim
       (λ e.
-      search-clear p 0 s (same-at _ _ e) ∙ sym (search-clear p 1 s (same-at _ _ e))
-      ∙ ap (searching A labels wanted p 1) (sym (took-none _ _ _ s (ap (λ (x : ℕ). common x (labelIn labels (A .count + p))) (same-at _ _ e)))))
-      (λ e. search-on p 0 (A .count + p) s _ (order-first p) (omega arith) (λ q. fails-at _ e (same-of _ _ q))
-      (sym (choose-held _ _ _ (kept-adds p) ∙ takes-kept A labels s long p)))
+      search-clear p 0 s (same-at e) ∙ sym (search-clear p 1 s (same-at e))
+      ∙ ap (searching A labels wanted p 1) (sym (took-none _ _ _ s (ap (λ (x : ℕ). common x (labelIn labels (A .count + p))) (same-at e)))))
+      (λ e. search-on p 0 (A .count + p) s _ (order-first p) (omega arith) (λ q. fails-at e (same-of q))
+      (sym (choose-held _ (kept-adds p) ∙ takes-kept A labels s long p)))
       (holds-or (same (s .left) 0))
 
   -- an action that adds p takes what it can
   pub search-action : (p a : ℕ) (s : Support) → length (s .needed) ≡ A .props → a < A .count → (s .left ≡ 0 → ⊥) → So (bit p (addsOf A a))
       → searching A labels wanted p (a + 1) s ≡ searching A labels wanted p (a + 1 + 1) (took (labelIn labels a) (A .pre a) (single a) s)
   search-action p a s long h e t =
-      search-on p (a + 1) a s _ (order-then p a h) (omega arith) e (sym (choose-held _ _ _ t ∙ takes-action A labels s long a h))
+      search-on p (a + 1) a s _ (order-then p a h) (omega arith) e (sym (choose-held _ t ∙ takes-action A labels s long a h))
 
   -- one that does not is passed over
   pass-one : (p a : ℕ) (s : Support) → (a < A .count → bit p (addsOf A a) ≡ false)
@@ -126,8 +126,8 @@ module _ (A : Actions) (labels wanted : List ℕ) where
   unfolding searching choose
   pass-one p a s h = by-cases (decLt a (A .count))
       (λ l. ⊎-elim
-      (λ e. search-clear p (a + 1) s (same-at _ _ e) ∙ sym (search-clear p (a + 1 + 1) s (same-at _ _ e)))
-      (λ e. search-on p (a + 1) a s s (order-then p a l) (omega arith) (λ q. fails-at _ e (same-of _ _ q))
+      (λ e. search-clear p (a + 1) s (same-at e) ∙ sym (search-clear p (a + 1 + 1) s (same-at e)))
+      (λ e. search-on p (a + 1) a s s (order-then p a l) (omega arith) (λ q. fails-at e (same-of q))
       (sym (ap (λ (b : Bool). choose b (takes A labels a s) s) (h l))))
       (holds-or (same (s .left) 0)))
       (λ l.

@@ -31,7 +31,7 @@ adder-bit : (needs adders : List ℕ) (p a : ℕ) → p < length adders → a < 
     → bit p (addsOf (listedActions needs adders) a) ≡ bit a (getD adders p 0)
 unfolding addsOf listedActions
 adder-bit needs adders p a h l =
-    ap (bit p) (choose-held _ _ _ (below-of a (length needs) l)) ∙ bit-startLabel (length adders) (λ q. getD adders q 0) a p h
+    ap (bit p) (choose-held _ (below-of l)) ∙ bit-startLabel (λ q. getD adders q 0) a h
 
 -- a row as long as before
 turned-long : {label needs mark : ℕ} {s r : Took} {under under' : List ℕ} → Turned label needs mark s under r under' → length under' ≡ length under
@@ -77,7 +77,7 @@ module _ {wanted : List ℕ} {among : ℕ} {labels needs adders : List ℕ} wher
         left = subst (Left among) (sym q) (left-all word);
         live = record {
           inside = subst (λ (x : ℕ). x < 2 ^ length under) (sym n) (pow-pos (length under));
-          rest = λ p h b. ap (λ (x : List ℕ). getD x p 0) e ∙ getD-listOver (length adders) _ p (omega arith);
+          rest = λ p h b. ap (λ (x : List ℕ). getD x p 0) e ∙ getD-listOver _ (omega arith);
         };
         long = long;
         is = rest-all (listedActions needs adders) labels wanted under e
@@ -89,7 +89,7 @@ module _ {wanted : List ℕ} {among : ℕ} {labels needs adders : List ℕ} wher
   -- the lowest is a proposition
   pub lay-lt : {under : List ℕ} {s : Took} {props : ℕ} → Laying wanted among labels needs adders under s props → 0 < props
       → trailingZeros wordWidth props < length adders
-  lay-lt {under} {s} {props} l h = omega (arith, bit-below _ among (length wanted) (l .lists .live .inside) (left-lowest (l .left) h), l .lists .wide)
+  lay-lt {under} {s} {props} l h = omega (arith, bit-below (l .lists .live .inside) (left-lowest (l .left) h), l .lists .wide)
 
   -- it is opened: its persistence takes what it can, and the actions that add it are left
   pub lay-open : {under under' : List ℕ} {s r : Took} {props p by label : ℕ} → Laying wanted among labels needs adders under s props → 0 < props
@@ -119,7 +119,7 @@ module _ {wanted : List ℕ} {among : ℕ} {labels needs adders : List ℕ} wher
   -- the lowest of them is an action
   pub seek-lt : {p : ℕ} {under : List ℕ} {s : Took} {by : ℕ} → Seeking wanted among labels needs adders p under s by → 0 < by
       → trailingZeros wordWidth by < length needs
-  seek-lt {p} {under} {s} {by} l h = bit-below _ (getD adders p 0) (length needs) (l .lists .tables .add p (l .inside)) (left-lowest (l .left) h)
+  seek-lt {p} {under} {s} {by} l h = bit-below (l .lists .tables .add p (l .inside)) (left-lowest (l .left) h)
 
   -- it takes what it can
   pub seek-on : {p : ℕ} {under under' : List ℕ} {s r : Took} {by by' a label set : ℕ} → Seeking wanted among labels needs adders p under s by → 0 < by

@@ -36,13 +36,13 @@ one-spread row p t x h e =
     let m : q < length row = omega (arith, length-set row p x) in
     ⊎-elim
     (λ s.
-    ap (λ (i : ℕ). getD (set row p x) i 0) (same-at q p s) ∙ getD-set-same row p x 0 h ∙ e ∙ ap (λ (i : ℕ). union (getD row i 0) t) (sym (same-at q p s))
+    ap (λ (i : ℕ). getD (set row p x) i 0) (same-at s) ∙ getD-set-same row p x 0 h ∙ e ∙ ap (λ (i : ℕ). union (getD row i 0) t) (sym (same-at s))
     ∙ ap (λ (b : Bool). union (getD row q 0) (choose b t 0)) (sym (bit-single q p ∙ s)))
     (λ s.
-    getD-set-other row p q x 0 (λ i. fails-at _ s (same-of q p i)) ∙ sym (or-zero-r (getD row q 0))
-    ∙ ap (λ (b : Bool). union (getD row q 0) (choose b t 0)) (sym (bit-single q p ∙ same-not q p (λ i. fails-at _ s (same-of q p i)))))
+    getD-set-other row p q x 0 (λ i. fails-at s (same-of i)) ∙ sym (or-zero-r (getD row q 0))
+    ∙ ap (λ (b : Bool). union (getD row q 0) (choose b t 0)) (sym (bit-single q p ∙ same-not (λ i. fails-at s (same-of i)))))
     (holds-or (same q p))
-    ∙ sym (getD-listOver (length row) _ q m))
+    ∙ sym (getD-listOver _ m))
 
 -- what is needed of no proposition of the set, nor before, is not needed
 neither : (a b : Bool) → (a or b) ≡ false → (a ≡ false) × (b ≡ false)
@@ -56,11 +56,11 @@ unfolding keep choose labelIn
 live-more {live} {live'} {needs} {row} {row'} t l h e f =
     let long : length row' ≡ length row = ap length f ∙ length-listOver (length row) _ in
     record {
-      inside = subst (λ (x : ℕ). live' < 2 ^ x) (sym long) (subst (λ (x : ℕ). x < 2 ^ length row) (sym e) (union-lt (length row) live needs (l .inside) h));
+      inside = subst (λ (x : ℕ). live' < 2 ^ x) (sym long) (subst (λ (x : ℕ). x < 2 ^ length row) (sym e) (union-lt (length row) (l .inside) h));
       rest = λ q m b.
           let k : q < length row = omega arith in
           let (c, d) = neither (bit q live) (bit q needs) (sym (ap (bit q) e ∙ bit-union q live needs) ∙ b) in
-          ap (λ (x : List ℕ). getD x q 0) f ∙ getD-listOver (length row) _ q k
+          ap (λ (x : List ℕ). getD x q 0) f ∙ getD-listOver _ k
           ∙ ap₂ (λ (x : ℕ) (y : Bool). union x (choose y t 0)) (l .rest q k c) d;
     }
 
@@ -71,7 +71,7 @@ without-none a b e = sym (ap (without a) e ∙ ap (λ (x : ℕ). bitXor a x) (an
 pub took-none : (label needs mark : ℕ) (s : Support) → common (s .left) label ≡ 0 → took label needs mark s ≡ s
 unfolding took choose
 took-none label needs mark s e = sym (support-path (without-none (s .left) _ e)
-    (sym (ap (λ (b : Bool). choose b (s .marks) (union (s .marks) mark)) (same-of _ _ e)))
+    (sym (ap (λ (b : Bool). choose b (s .marks) (union (s .marks) mark)) (same-of e)))
     (spread-nothing (common (s .left) label) needs (s .needed) e))
 
 pub turned-none : {label needs mark : ℕ} {s : Took} {row : List ℕ} → Live (s .live) row → common (s .left) label ≡ 0 → Turned label needs mark s row s row
@@ -84,7 +84,7 @@ pub turned-some : {label needs mark : ℕ} {s r : Took} {row row' : List ℕ} �
 unfolding took choose
 turned-some {label} {needs} {mark} {s} {r} {row} {row'} l h e f g k m = record {
   is = support-path f
-      (g ∙ sym (ap (λ (b : Bool). choose b (s .marks) (union (s .marks) mark)) (same-not _ _ e)))
+      (g ∙ sym (ap (λ (b : Bool). choose b (s .marks) (union (s .marks) mark)) (same-not e)))
       m;
   live = live-more _ l h k m;
 }
@@ -113,14 +113,14 @@ module _ (A : Actions) (labels : List ℕ) (s : Support) (long : length (s .need
   -- an action
   pub takes-action : (a : ℕ) → a < A .count → takes A labels a s ≡ took (labelIn labels a) (A .pre a) (single a) s
   unfolding takes took needsOf choose
-  takes-action a h = support-path refl (marked _ (same (common (s .left) (labelIn labels a)) 0) (s .marks) _ (below-of a (A .count) h))
-      (row-is a (A .pre a) (choose-held _ _ _ (below-of a (A .count) h)))
+  takes-action a h = support-path refl (marked _ (same (common (s .left) (labelIn labels a)) 0) (s .marks) _ (below-of h))
+      (row-is a (A .pre a) (choose-held _ (below-of h)))
 
   -- a persistence
   pub takes-kept : (p : ℕ) → takes A labels (A .count + p) s ≡ took (labelIn labels (A .count + p)) (single p) 0 s
   unfolding takes took needsOf choose
   takes-kept p =
       let e : A .count + p - A .count ≡ p = omega arith in
-      let b = below-not (A .count + p) (A .count) (omega arith) in
+      let b = below-not {i = A .count + p} {j = A .count} (omega arith) in
       support-path refl (unmarked _ (same (common (s .left) (labelIn labels (A .count + p))) 0) (s .marks) _ b)
-      (row-is (A .count + p) (single p) (choose-failed _ _ _ (is-fails _ b) ∙ ap single e))
+      (row-is (A .count + p) (single p) (choose-failed _ _ (is-fails b) ∙ ap single e))

@@ -24,9 +24,9 @@ unfolding greatestWith
 greatest-is zero f d h t above = omega arith
 greatest-is (suc n) f d h t above = by-cases (decLe d n)
     (λ q. greatest-is n f d q t (λ e l m. above e l (omega arith))
-    ∙ sym (choose-failed (f (suc n)) (suc n) (greatestWith n f) (is-fails _ (above (suc n) (omega arith) (omega arith)))))
+    ∙ sym (choose-failed (f (suc n)) (suc n) (is-fails (above (suc n) (omega arith) (omega arith)))))
     (λ q. let e : d ≡ suc n = omega arith in
-    e ∙ sym (choose-held (f (suc n)) (suc n) (greatestWith n f) (subst (λ (x : ℕ). So (f x)) e t)))
+    e ∙ sym (choose-held (greatestWith n f) (subst (λ (x : ℕ). So (f x)) e t)))
 
 pub some-stride : (S : Shape) → 1 ≤ S .props → 1 ≤ stride S
 unfolding stride
@@ -49,11 +49,11 @@ module _ (S : Shape) (room most : ℕ) (some : 1 ≤ S .props) (zero-fits : word
 
   fits-upto : (k : ℕ) → k ≤ most → So (fits S room k)
   unfolding fits
-  fits-upto k h = is-fails _ (below-not _ _ (upto k h))
+  fits-upto k h = is-fails (below-not (upto k h))
 
   fits-not : (k : ℕ) → most < k → fits S room k ≡ false
   unfolding fits fails
-  fits-not k h = ap fails (below-of _ _ (above k h))
+  fits-not k h = ap fails (below-of (above k h))
 
   -- the depth, where it is in range and where it would be more
   pub depth-is : most ≤ maxDepth → (most ≡ depthFor S room) × (most ≤ maxDepth) × (wordCount S most ≤ room)

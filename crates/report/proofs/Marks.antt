@@ -21,14 +21,14 @@ use Rattle.report.proofs.Texts.{decimal-length, runs-length}
 
 module _ (u depth : ℕ) where
   pub rest-number : u < depth → decimal u ≡ restText (restFrom u depth)
-  rest-number h = ap restText (sym (choose-held (below u depth) (restsAt u) none (below-of u depth h)))
+  rest-number h = ap restText (sym (choose-held none (below-of h)))
 
   pub rest-unknown : depth ≤ u → 63 ∷ [] ≡ restText (restFrom u depth)
-  rest-unknown h = ap restText (sym (choose-failed (below u depth) (restsAt u) none (is-fails _ (below-not u depth h))))
+  rest-unknown h = ap restText (sym (choose-failed (below u depth) (restsAt u) (is-fails (below-not h))))
 
   pub rest-short : depth < threeDigits → length (restText (restFrom u depth)) ≤ 3
   unfolding choose
-  rest-short h = go (below u depth) (λ e. below-at u depth e)
+  rest-short h = go (below u depth) (λ e. below-at e)
     where
       go : (b : Bool) → (b ≡ true → u < depth) → length (restText (choose b (restsAt u) none)) ≤ 3
       go true l = decimal-length 3 u (omega (arith, l refl)) (omega arith)
@@ -42,17 +42,17 @@ module _ (u depth : ℕ) where
 
 module _ (t u depth : ℕ) where
   pub level-number : t ≤ depth → (32 ∷ []) ++ decimal t ≡ cellText (levelFrom t u depth)
-  level-number h = ap (λ (l : Level). cellText l) (sym (choose-held (below t (suc depth)) (level t) _ (below-of t (suc depth) (omega arith))))
+  level-number h = ap (λ (l : Level). cellText l) (sym (choose-held _ (below-of (omega arith))))
 
   met-at-none : depth < t → levelFrom t u depth ≡ choose (below u depth) never notByDepth
-  met-at-none h = choose-failed (below t (suc depth)) (level t) _ (is-fails _ (below-not t (suc depth) (omega arith)))
+  met-at-none h = choose-failed (below t (suc depth)) (level t) (is-fails (below-not (omega arith)))
 
   pub level-never : depth < t → u < depth → 32 ∷ 45 ∷ [] ≡ cellText (levelFrom t u depth)
-  level-never h l = ap (λ (x : Level). cellText x) (sym (met-at-none h ∙ choose-held (below u depth) never notByDepth (below-of u depth l)))
+  level-never h l = ap (λ (x : Level). cellText x) (sym (met-at-none h ∙ choose-held notByDepth (below-of l)))
 
   pub level-unknown : depth < t → depth ≤ u → 32 ∷ 63 ∷ [] ≡ cellText (levelFrom t u depth)
   level-unknown h l =
-      ap (λ (x : Level). cellText x) (sym (met-at-none h ∙ choose-failed (below u depth) never notByDepth (is-fails _ (below-not u depth l))))
+      ap (λ (x : Level). cellText x) (sym (met-at-none h ∙ choose-failed (below u depth) never (is-fails (below-not l))))
 
   level-short : t < threeDigits → length (levelText (levelFrom t u depth)) ≤ 3
   unfolding choose

@@ -22,21 +22,21 @@ use Rattle.report.specs.Wrote.{Wrote}
 spell-enough : (f g n : ℕ) → n ≤ f → n ≤ g → spell f n ≡ spell g n
 unfolding spell choose
 spell-enough zero zero n h k = refl
-spell-enough zero (suc g) n h k = simp (below-of n 10 (omega arith))
-spell-enough (suc f) zero n h k = simp (below-of n 10 (omega arith))
+spell-enough zero (suc g) n h k = simp (below-of {i = n} {j = 10} (omega arith))
+spell-enough (suc f) zero n h k = simp (below-of {i = n} {j = 10} (omega arith))
 spell-enough (suc f) (suc g) n h k = ap (λ (l : List ℕ). choose (below n 10) (digit n ∷ []) (l ++ (digit n ∷ []))) (spell-enough f g (n / 10) (omega arith)
     (omega arith))
 
 pub decimal-one : (n : ℕ) → n < 10 → decimal n ≡ digit n ∷ []
 unfolding decimal spell choose
 decimal-one zero h = refl
-decimal-one (suc n) h = simp (below-of (suc n) 10 h)
+decimal-one (suc n) h = simp (below-of h)
 
 pub decimal-more : (n : ℕ) → 10 ≤ n → decimal n ≡ decimal (n / 10) ++ (digit n ∷ [])
 unfolding decimal spell
 decimal-more zero h = absurd (omega arith)
 decimal-more (suc n) h =
-    choose-failed (below (suc n) 10) _ _ (is-fails _ (below-not (suc n) 10 h))
+    choose-failed (below (suc n) 10) _ (is-fails (below-not h))
     ∙ ap (λ (l : List ℕ). l ++ (digit (suc n) ∷ [])) (spell-enough n (suc n / 10) (suc n / 10) (omega arith) (omega arith))
 
 one-long : (n m : ℕ) → n < 10 → 1 ≤ m → length (decimal n) ≤ m

@@ -34,91 +34,91 @@ bit-after A a x p =
 abbrev Picked : Actions → ℕ → ℕ → ℕ → ℕ → Type 0
 Picked A a x p v = (So (bit p x) × (v ≡ persistence A p)) ⊎ (So (fails (bit p x)) × (v ≡ a))
 
-module _ (A : Actions) (a x : ℕ) (is-action : a < A .count) (can : So (within (A .pre a) x)) where
+module _ (A : Actions) {a : ℕ} (x : ℕ) (is-action : a < A .count) (can : So (within (A .pre a) x)) where
   -- what is there after the step was not deleted
   stays : (p : ℕ) → So (bit p (after A a x)) → So (bit p (deletesOf A a)) → ⊥
   stays p t d =
       let s = sym (bit-after A a x p) ∙ t in
-      fails-at _ (search parts) (rw (deletes-action A a is-action) at d)
+      fails-at (search parts) (rw (deletes-action A is-action) at d)
 
   picked : (p : ℕ) → Picked A a x p (choose (bit p x) (persistence A p) a)
-  picked p = ⊎-elim (λ h. inl (h, choose-held _ _ _ h)) (λ h. inr (h, choose-failed _ _ _ h)) (holds-or (bit p x))
+  picked p = ⊎-elim (λ h. inl (h, choose-held _ h)) (λ h. inr (h, choose-failed _ _ h)) (holds-or (bit p x))
 
-  picked-below : (p v : ℕ) → p < A .props → Picked A a x p v → v < domain A .vertices
-  picked-below p v h =
-      ⊎-elim (λ (c, e). rw e (persistence-below A p h)) (λ (c, e). rw e (action-below A a is-action))
+  picked-below : {p v : ℕ} → p < A .props → Picked A a x p v → v < domain A .vertices
+  picked-below h =
+      ⊎-elim (λ (c, e). rw e (persistence-below A h)) (λ (c, e). rw e (action-below A is-action))
 
-  picked-adds : (p v : ℕ) → So (bit p (after A a x)) → Picked A a x p v → So (bit p (addsOf A v))
-  picked-adds p v t =
+  picked-adds : (p : ℕ) {v : ℕ} → So (bit p (after A a x)) → Picked A a x p v → So (bit p (addsOf A v))
+  picked-adds p t =
       let s = sym (bit-after A a x p) ∙ t in
-      ⊎-elim (λ (c, e). rw e (single-has p _ (adds-persistence A p)))
-      (λ (c, e). rw (e, adds-action A a is-action) (⊎-elim (λ d. absurd (fails-at _ c d)) (λ d. d) (or-at _ _ (search parts))))
+      ⊎-elim (λ (c, e). rw e (single-has p (adds-persistence A p)))
+      (λ (c, e). rw (e, adds-action A is-action) (⊎-elim (λ d. absurd (fails-at c d)) (λ d. d) (or-at (search parts))))
 
-  picked-needs : (p q v : ℕ) → So (bit q (needsOf A v)) → Picked A a x p v → So (bit q x)
-  picked-needs p q v n =
-      ⊎-elim (λ (c, e). rw (single-only p _ q (ap (needsOf A) e ∙ needs-persistence A p) n) c)
-      (λ (c, e). within-at (A .pre a) x q can (rw (e, needs-action A a is-action) at n))
+  picked-needs : (p q : ℕ) {v : ℕ} → So (bit q (needsOf A v)) → Picked A a x p v → So (bit q x)
+  picked-needs p q n =
+      ⊎-elim (λ (c, e). rw (single-only (ap (needsOf A) e ∙ needs-persistence A p) n) c)
+      (λ (c, e). within-at (A .pre a) x q can (rw (e, needs-action A is-action) at n))
 
-  picked-apart : (p q v w : ℕ) → So (bit p (after A a x)) → So (bit q (after A a x)) → Picked A a x p v → Picked A a x q w → Apart (domain A) v w
-  picked-apart p q v w s t k l c =
+  picked-apart : (p q : ℕ) {v w : ℕ} → So (bit p (after A a x)) → So (bit q (after A a x)) → Picked A a x p v → Picked A a x q w → Apart (domain A) v w
+  picked-apart p q {v} {w} s t k l c =
       ⊎-elim (λ (i, e).
       ⊎-elim (λ (j, f). clobbers-apart A (persistence A p) (persistence A q) (persistence-clobbers A p _) (persistence-clobbers A q _) (rw (e, f) at c))
       (λ (j, f). clobbers-apart A (persistence A p) a (persistence-clobbers A p _) (clobbers-persistence A a p (stays p s)) (rw (e, f) at c)) l)
       (λ (i, e).
       ⊎-elim (λ (j, f). clobbers-apart A a (persistence A q) (clobbers-persistence A a q (stays q t)) (persistence-clobbers A q _) (rw (e, f) at c))
-      (λ (j, f). fails-at _ (paired-differ _ v w c) (same-of _ _ (e ∙ sym f))) l) k
+      (λ (j, f). fails-at (paired-differ _ v w c) (same-of (e ∙ sym f))) l) k
 
   pub step-explains : Explains (domain A) x (after A a x)
   unfolding domain
   step-explains = record {
     pick = λ p. choose (bit p x) (persistence A p) a;
-    below = λ p h t. picked-below p _ h (picked p);
-    adds = λ p h t. picked-adds p _ t (picked p);
-    needs = λ p q h t l n. picked-needs p q _ n (picked p);
-    apart = λ p q h l s t. picked-apart p q _ _ s t (picked p) (picked q);
+    below = λ p h t. picked-below h (picked p);
+    adds = λ p h t. picked-adds p t (picked p);
+    needs = λ p q h t l n. picked-needs p q n (picked p);
+    apart = λ p q h l s t. picked-apart p q s t (picked p) (picked q);
   }
 
 -- ---- a run
 
 module _ (A : Actions) (n set : ℕ) where
   -- one state after one step
-  stepped-inside : (a : ℕ) (xs : List ℕ) (s : ℕ) → s < n → So (bit s set) → getD (stepped A n set a xs) s 0 ≡ after A a (getD xs s 0)
+  stepped-inside : (a : ℕ) (xs : List ℕ) {s : ℕ} → s < n → So (bit s set) → getD (stepped A n set a xs) s 0 ≡ after A a (getD xs s 0)
   unfolding stepped
-  stepped-inside a xs s h t = getD-listOver n _ s h ∙ choose-held _ _ _ t
+  stepped-inside a xs h t = getD-listOver _ h ∙ choose-held _ t
 
   -- what holds at the start, and from each step that is ready to the next, holds where the run ends
-  pub run-ind : (P : ℕ → List ℕ → Type 0) (i : ℕ) (xs list ends : List ℕ)
+  pub run-ind : (P : ℕ → List ℕ → Type 0) (i : ℕ) {xs : List ℕ} (list : List ℕ) {ends : List ℕ}
       → ((t : ℕ) (ys : List ℕ) → t < length list → So (ready A n set (getD list t 0) ys) → P t ys → P (suc t) (stepped A n set (getD list t 0) ys))
       → P 0 xs → runFrom A n set i xs list ≡ ended ends → P (length list) ends
   unfolding runFrom
-  run-ind P i xs [] ends step here e = let q : xs ≡ ends = cc in subst (P 0) q here
-  run-ind P i xs (a ∷ list) ends step here e =
+  run-ind P i {xs} [] {ends} step here e = let q : xs ≡ ends = cc in subst (P 0) q here
+  run-ind P i {xs} (a ∷ list) step here e =
       ⊎-elim
       (λ r.
-      run-ind (λ t. P (suc t)) (suc i) (stepped A n set a xs) list ends (λ t ys l. step (suc t) ys (omega arith)) (step 0 xs (omega arith) r here)
-      (sym (choose-held _ _ _ r) ∙ e))
-      (λ f. let z : _≡_ {A = ℕ} 0 1 = cc (choose-failed _ _ _ f, e) in absurd (omega arith))
+      run-ind (λ t. P (suc t)) (suc i) list (λ t ys l. step (suc t) ys (omega arith)) (step 0 xs (omega arith) r here)
+      (sym (choose-held _ r) ∙ e))
+      (λ f. let z : _≡_ {A = ℕ} 0 1 = cc (choose-failed _ _ f, e) in absurd (omega arith))
       (holds-or (ready A n set a xs))
 
-module _ (A : Actions) (n : ℕ) (start : ℕ → ℕ) (set : ℕ) (list ends : List ℕ) where
+module _ (A : Actions) {n : ℕ} (start : ℕ → ℕ) (set : ℕ) (list : List ℕ) {ends : List ℕ} where
   module _ (known : (i : ℕ) → i < length list → getD list i 0 < A .count) (ran : runOf A n start set list ≡ ended ends) where
     -- where the list ends, the own graph of a state of S admits what the state has become, as many layers on as the list is long
-    pub run-admits : (s : ℕ) → s < n → So (bit s set) → Admits (A .props) (ownProps (domain A) (start s) (length list)) (getD ends s 0)
+    pub run-admits : {s : ℕ} → s < n → So (bit s set) → Admits (A .props) (ownProps (domain A) (start s) (length list)) (getD ends s 0)
     unfolding runOf ownProps ownFrom domain ready
-    run-admits s h t =
-        run-ind A n set (λ i xs. Admits (A .props) (ownFrom (domain A) (ownStart (start s)) i) (getD xs s 0)) 0 (listOver n start) list ends
-        (λ i ys l r k. rw (stepped-inside A n set (getD list i 0) ys s h t)
-        (explained (domain A) (ownFrom (domain A) (ownStart (start s)) i) (getD ys s 0) (after A (getD list i 0) (getD ys s 0))
-        (step-explains A (getD list i 0) (getD ys s 0) (known i l) (implies-at _ _ (all-at _ _ r s h) t)) k))
-        (rw (getD-listOver n start s h) (start-admits (A .props) (start s))) ran
+    run-admits {s} h t =
+        run-ind A n set (λ i xs. Admits (A .props) (ownFrom (domain A) (ownStart (start s)) i) (getD xs s 0)) 0 list
+        (λ i ys l r k. rw (stepped-inside A n set (getD list i 0) ys h t)
+        (explained (domain A)
+        (step-explains A (getD ys s 0) (known i l) (implies-at (all-at _ r h) t)) k))
+        (rw (getD-listOver start h) (start-admits (start s))) ran
 
     -- so it admits a goal that holds there
-    pub goal-admitted : (s : ℕ) → s < n → So (bit s set) → (goal : ℕ) → So (within goal (getD ends s 0))
+    pub goal-admitted : {s : ℕ} → s < n → So (bit s set) → (goal : ℕ) → So (within goal (getD ends s 0))
         → So (admits (A .props) (ownProps (domain A) (start s) (length list)) goal)
-    goal-admitted s h t goal w =
-        admits-of _ _ _ (λ p q hp hq a b. run-admits s h t p q hp hq (within-at goal (getD ends s 0) p w a) (within-at goal (getD ends s 0) q w b))
+    goal-admitted {s} h t goal w =
+        admits-of _ (λ p q hp hq a b. run-admits h t p q hp hq (within-at goal (getD ends s 0) p w a) (within-at goal (getD ends s 0) q w b))
 
     -- and the list is at least as long as the level of the states of S, where the goal holds at the end of each, whatever the depth
     pub set-bound : (goal : ℕ) → ((s : ℕ) → s < n → So (bit s set) → So (within goal (getD ends s 0)))
         → (k : ℕ) → firstBelow (suc k) (λ t. allBelow n (λ s. bit s set implies admits (A .props) (ownProps (domain A) (start s) t) goal)) ≤ length list
-    set-bound goal w k = first-to (suc k) _ (length list) (all-of _ _ (λ s h. implies-of _ _ (λ t. goal-admitted s h t goal (w s h t))))
+    set-bound goal w k = first-to (suc k) _ (all-of (λ s h. implies-of (λ t. goal-admitted h t goal (w s h t))))

@@ -39,28 +39,28 @@ AllAdmit D n start set goal t = (s : ℕ) → s < n → So (bit s set) → So (a
 abbrev pub greatestLevel : Domain → ℕ → (ℕ → ℕ) → ℕ → ℕ → ℕ → ℕ
 greatestLevel D n start k set goal = greatest n (λ s. keep (bit s set) (ownLevel D k goal (start s)))
 
-module _ (D : Domain) (n : ℕ) (start : ℕ → ℕ) (k : ℕ) (words : List ℕ) (built : Built D n start k words) (set goal : ℕ) (small : set < 2 ^ n) where
+module _ (D : Domain) (n : ℕ) (start : ℕ → ℕ) (k : ℕ) (words : List ℕ) (built : Built D n start k words) {set : ℕ} (goal : ℕ) (small : set < 2 ^ n) where
   -- ---- the level
 
   first-met : firstMet (shapeOf D) k set goal words
       ≡ firstBelow (suc k) (λ t. allBelow n (λ s. bit s set implies admits (D .props) (ownProps D (start s) t) goal))
   unfolding firstMet
-  first-met = first-eq (suc k) _ _ (λ t h. met-agrees D n start k words built set goal small t (omega arith))
+  first-met = first-eq (suc k) (λ t h. met-agrees D n start words built goal small (omega arith))
 
   -- the level of a set is the greatest of the levels that its states have by themselves
   pub set-level : Keeps D → firstMet (shapeOf D) k set goal words ≡ greatestLevel D n start k set goal
-  set-level K = first-met ∙ own-levels D K k goal n set start
+  set-level K = first-met ∙ own-levels K k goal n set start
 
   -- a set has a level exactly when each of its states has one by itself, and it is the greatest of these
   pub level-exists : Keeps D → ((s : ℕ) → s < n → So (bit s set) → ownLevel D k goal (start s) ≤ k)
       → levelOf (shapeOf D) k set goal words ≡ level (greatestLevel D n start k set goal)
   level-exists K each =
-      level-of D k set goal words (subst (λ (t : ℕ). t ≤ k) (sym (set-level K)) (greatest-le n _ k (λ s h. keep-le _ _ _ (each s h))))
+      level-of D k set goal words (subst (λ (t : ℕ). t ≤ k) (sym (set-level K)) (greatest-le n (λ s h. keep-le (each s h))))
       ∙ ap level (set-level K)
 
-  pub level-only : Keeps D → (t : ℕ) → levelOf (shapeOf D) k set goal words ≡ level t
+  pub level-only : Keeps D → {t : ℕ} → levelOf (shapeOf D) k set goal words ≡ level t
       → (t ≤ k) × (t ≡ greatestLevel D n start k set goal) × ((s : ℕ) → s < n → So (bit s set) → ownLevel D k goal (start s) ≤ t)
-  level-only K t e =
+  level-only K e =
       let (l, q) = answer-says D k set goal words e in (
         l,
         q ∙ set-level K,
@@ -68,45 +68,45 @@ module _ (D : Domain) (n : ℕ) (start : ℕ → ℕ) (k : ℕ) (words : List �
           arith,
           q,
           set-level K,
-          keep-held (bit s set) (ownLevel D k goal (start s)) b,
-          greatest-at n (λ s. keep (bit s set) (ownLevel D k goal (start s))) s h,
+          keep-held (ownLevel D k goal (start s)) b,
+          greatest-at n (λ s. keep (bit s set) (ownLevel D k goal (start s))) h,
         ),
       )
 
   -- at the level each state of S has the goal
-  pub level-admits : (t : ℕ) → levelOf (shapeOf D) k set goal words ≡ level t → (t ≤ k) × AllAdmit D n start set goal t
+  pub level-admits : {t : ℕ} → levelOf (shapeOf D) k set goal words ≡ level t → (t ≤ k) × AllAdmit D n start set goal t
   unfolding firstMet
-  level-admits t e =
+  level-admits {t} e =
       let (l, q) = answer-says D k set goal words e in
       let met : So (goalMet (D .props) (propsIn (shapeOf D) words t) set goal) =
       rw q (first-at (suc k) (λ t. goalMet (D .props) (propsIn (shapeOf D) words t) set goal) (omega arith)) in
-      (l, λ s h. implies-at _ _ (all-at _ _ (sym (met-agrees D n start k words built set goal small t l) ∙ met) s h))
+      (l, λ s h. implies-at (all-at _ (sym (met-agrees D n start words built goal small l) ∙ met) h))
 
   -- ---- no level
 
   layer-met : (u : ℕ) → AllAdmit D n start set goal u → So (goalMet (D .props) (propLayer D n start u) set goal)
   layer-met u all =
-      met-layer (D .props) n (propLayer D n start u) (λ s. ownProps D (start s) u) (λ s h. props-agree D n start s h u) set goal small
-      ∙ all-of _ _ (λ s h. implies-of _ _ (all s h))
+      met-layer (λ s h. props-agree D start h u) goal small
+      ∙ all-of (λ s h. implies-of (all s h))
 
   -- where no layer up to the depth meets the goal
-  unmet : k < firstMet (shapeOf D) k set goal words → (u : ℕ) → u ≤ k → So (goalMet (D .props) (propLayer D n start u) set goal) → ⊥
+  unmet : k < firstMet (shapeOf D) k set goal words → {u : ℕ} → u ≤ k → So (goalMet (D .props) (propLayer D n start u) set goal) → ⊥
   unfolding firstMet
-  unmet l u h t =
-      first-before (suc k) (λ t. goalMet (D .props) (propsIn (shapeOf D) words t) set goal) u (omega arith) (rw (props-in D n start k words built u h) t)
+  unmet l {u} h t =
+      first-before (suc k) (λ t. goalMet (D .props) (propsIn (shapeOf D) words t) set goal) u (omega arith) (rw (props-in D n start k words built h) t)
 
   -- 'never': at no depth do all states of S have the goal
   pub never-is-never : levelOf (shapeOf D) k set goal words ≡ never → (u : ℕ) → AllAdmit D n start set goal u → ⊥
   never-is-never e u all =
       let (l, r) = answer-says D k set goal words e in
-      ⊎-elim (λ h. unmet l u h (layer-met u all))
-      (λ h. unmet l (firstRest (shapeOf D) k words) (omega arith)
-      (subst (λ (x : List ℕ). So (goalMet (D .props) x set goal)) (first-rests D n start k words built r u (omega arith)) (layer-met u all)))
+      ⊎-elim (λ h. unmet l h (layer-met u all))
+      (λ h. unmet l (omega arith)
+      (subst (λ (x : List ℕ). So (goalMet (D .props) x set goal)) (first-rests D n start words built r (omega arith)) (layer-met u all)))
       (which u k)
 
   -- 'not by depth': not up to the depth
-  pub not-by-depth : levelOf (shapeOf D) k set goal words ≡ notByDepth → (u : ℕ) → u ≤ k → AllAdmit D n start set goal u → ⊥
-  not-by-depth e u h all = unmet (answer-says D k set goal words e .0) u h (layer-met u all)
+  pub not-by-depth : levelOf (shapeOf D) k set goal words ≡ notByDepth → {u : ℕ} → u ≤ k → AllAdmit D n start set goal u → ⊥
+  not-by-depth e {u} h all = unmet (answer-says D k set goal words e .0) h (layer-met u all)
 
 -- ---- the rest
 
@@ -121,10 +121,10 @@ module _ (D : Domain) (n : ℕ) (start : ℕ → ℕ) (k : ℕ) (words : List �
   unfolding restOf
   says = ⊎-elim
       (λ h.
-      let l = below-at _ _ h in
-      subst (RestSays D n start k) (sym (choose-held _ _ _ h))
-      (l, (λ u g. before-rest D n start k words built u (omega arith) g), first-rests D n start k words built l))
-      (λ f. subst (RestSays D n start k) (sym (choose-failed _ _ _ f)) (λ u g. before-rest D n start k words built u g (omega (arith, below-fails _ _ f))))
+      let l = below-at h in
+      subst (RestSays D n start k) (sym (choose-held _ h))
+      (l, (λ u g. before-rest D n start words built (omega arith) g), (λ u. first-rests D n start words built l)))
+      (λ f. subst (RestSays D n start k) (sym (choose-failed _ _ f)) (λ u g. before-rest D n start words built g (omega (arith, below-fails f))))
       (holds-or (below (firstRest (shapeOf D) k words) k))
 
   -- 'The graph rests at the first t below k'
@@ -133,28 +133,28 @@ module _ (D : Domain) (n : ℕ) (start : ℕ → ℕ) (k : ℕ) (words : List �
 
 -- ---- lists of actions
 
-module _ (A : Actions) (n : ℕ) (start : ℕ → ℕ) (k : ℕ) (words : List ℕ) (built : Built (domain A) n start k words) (set goal : ℕ) (small : set < 2 ^ n)
-    (list ends : List ℕ) (known : (i : ℕ) → i < length list → getD list i 0 < A .count) (ran : runOf A n start set list ≡ ended ends)
+module _ (A : Actions) {n : ℕ} (start : ℕ → ℕ) (k : ℕ) (words : List ℕ) (built : Built (domain A) n start k words) {set : ℕ} (goal : ℕ) (small : set < 2 ^ n)
+    (list : List ℕ) {ends : List ℕ} (known : (i : ℕ) → i < length list → getD list i 0 < A .count) (ran : runOf A n start set list ≡ ended ends)
     (reach : (s : ℕ) → s < n → So (bit s set) → So (within goal (getD ends s 0))) where
   all-admit : AllAdmit (domain A) n start set goal (length list)
   unfolding domain
-  all-admit s h t = goal-admitted A n start set list ends known ran s h t goal (reach s h t)
+  all-admit s h t = goal-admitted A start set list known ran h t goal (reach s h t)
 
   -- no list of actions that ends with the goal is shorter than the level
-  pub level-bound : (t : ℕ) → levelOf (shapeOf (domain A)) k set goal words ≡ level t → t ≤ length list
+  pub level-bound : {t : ℕ} → levelOf (shapeOf (domain A)) k set goal words ≡ level t → t ≤ length list
   unfolding domain
-  level-bound t e =
+  level-bound e =
       let (l, q) = answer-says (domain A) k set goal words e in
-      subst (λ (x : ℕ). x ≤ length list) (sym (q ∙ first-met (domain A) n start k words built set goal small))
-      (set-bound A n start set list ends known ran goal reach k)
+      subst (λ (x : ℕ). x ≤ length list) (sym (q ∙ first-met (domain A) n start k words built goal small))
+      (set-bound A start set list known ran goal reach k)
 
   -- there is none where the answer is 'never'
   pub never-bound : levelOf (shapeOf (domain A)) k set goal words ≡ never → ⊥
-  never-bound e = never-is-never (domain A) n start k words built set goal small e (length list) all-admit
+  never-bound e = never-is-never (domain A) n start k words built goal small e (length list) all-admit
 
   -- and one is longer than the depth where it is 'not by depth'
   pub depth-bound : levelOf (shapeOf (domain A)) k set goal words ≡ notByDepth → k < length list
-  depth-bound e = lt-of-not-le (λ h. not-by-depth (domain A) n start k words built set goal small e (length list) h all-admit)
+  depth-bound e = lt-of-not-le (λ h. not-by-depth (domain A) n start k words built goal small e h all-admit)
 
 -- ---- the relaxed plan
 
@@ -167,37 +167,37 @@ WithPlan A k set goal words =
 abbrev WithoutPlan : Actions → ℕ → ℕ → ℕ → List ℕ → Type 0
 WithoutPlan A k set goal words = ((t : ℕ) → levelOf (shapeOf (domain A)) k set goal words ≡ level t → ⊥) × (planOf A k set goal words ≡ noLevel)
 
-module _ (A : Actions) (n : ℕ) (start : ℕ → ℕ) (k : ℕ) (words : List ℕ) (built : Built (domain A) n start k words) (set goal : ℕ) (small : set < 2 ^ n)
+module _ (A : Actions) (n : ℕ) (start : ℕ → ℕ) (k : ℕ) (words : List ℕ) (built : Built (domain A) n start k words) {set goal : ℕ} (small : set < 2 ^ n)
     (pre-lt : PreLt A) (goal-lt : goal < 2 ^ A .props) where
   -- where there is a level, a plan of as many words is answered, and it leads each state of S to the goal, deletes left out
-  pub plan-of : (t : ℕ) → levelOf (shapeOf (domain A)) k set goal words ≡ level t
+  pub plan-of : {t : ℕ} → levelOf (shapeOf (domain A)) k set goal words ≡ level t
       → (plan : List ℕ) × (planOf A k set goal words ≡ planned plan) × RelaxedPlan A start n t set goal plan
   unfolding domain ownProps ownFrom ownStart admits
-  plan-of t e =
-      let (l, all) = level-admits (domain A) n start k words built set goal small t e in
-      let (plan, d, r) = plan-made A start words n t pre-lt
-      (λ s p h i. props-in-agree (domain A) n start k words built s h 0 (omega arith) .label p i)
-      (λ u s v h i j. actions-in-agree (domain A) n start k words built s i u (omega arith) .label v j) set goal small goal-lt
-      (λ s h b p i g. admits-has _ _ goal (all s h b) p i g) in
-      (plan, planOf-at A k set goal words t e ∙ d, r)
+  plan-of {t} e =
+      let (l, all) = level-admits (domain A) n start k words built goal small e in
+      let (plan, d, r) = plan-made A start words t pre-lt
+      (λ s p h i. props-in-agree (domain A) n start k words built h (omega arith) .label p i)
+      (λ u s v h i j. actions-in-agree (domain A) n start k words built i (omega arith) .label v j) small goal-lt
+      (λ s h b p i g. admits-has _ goal (all s h b) i g) in
+      (plan, planOf-at A k set goal words e ∙ d, r)
 
   by-level : WithPlan A k set goal words ⊎ WithoutPlan A k set goal words
   unfolding planOf planAt
   by-level = go (levelOf (shapeOf (domain A)) k set goal words) refl
     where
       go : (a : Level) → levelOf (shapeOf (domain A)) k set goal words ≡ a → WithPlan A k set goal words ⊎ WithoutPlan A k set goal words
-      go (level t) e = let (plan, d, r) = plan-of t e in inl (plan, e ∙ ap level (sym (r .sized)), d)
+      go (level t) e = let (plan, d, r) = plan-of e in inl (plan, e ∙ ap level (sym (r .sized)), d)
       go never e = inr ((λ t d. let z : _≡_ {A = ℕ} 0 1 = cc in omega arith), ap (planAt A set goal words) e)
       go notByDepth e = inr ((λ t d. let z : _≡_ {A = ℕ} 0 1 = cc in omega arith), ap (planAt A set goal words) e)
 
   -- so no state is ever left uncovered, nor a need outside its label
-  pub never-stuck : (t : ℕ) → planOf A k set goal words ≡ stuck t → ⊥
-  never-stuck t e =
+  pub never-stuck : {t : ℕ} → planOf A k set goal words ≡ stuck t → ⊥
+  never-stuck e =
       ⊎-elim (λ (plan, l, p). let z : _≡_ {A = ℕ} 0 1 = cc in omega arith) (λ (f, p). let z : _≡_ {A = ℕ} 0 1 = cc in omega arith) by-level
 
   -- 'the level, which is the number of words written'
-  pub plan-level : (plan : List ℕ) → planOf A k set goal words ≡ planned plan → levelOf (shapeOf (domain A)) k set goal words ≡ level (length plan)
-  plan-level plan e =
+  pub plan-level : {plan : List ℕ} → planOf A k set goal words ≡ planned plan → levelOf (shapeOf (domain A)) k set goal words ≡ level (length plan)
+  plan-level {plan} e =
       ⊎-elim (λ (plan', l, p). let d : plan' ≡ plan = cc in l ∙ ap (λ (x : List ℕ). level (length x)) d)
       (λ (f, p). let z : _≡_ {A = ℕ} 0 1 = cc in absurd (omega arith)) by-level
 
@@ -205,5 +205,5 @@ module _ (A : Actions) (n : ℕ) (start : ℕ → ℕ) (k : ℕ) (words : List �
   pub no-level-of : ((t : ℕ) → levelOf (shapeOf (domain A)) k set goal words ≡ level t → ⊥) → planOf A k set goal words ≡ noLevel
   no-level-of f = ⊎-elim (λ (plan, l, p). absurd (f (length plan) l)) (λ (g, p). p) by-level
 
-  pub no-level-at : planOf A k set goal words ≡ noLevel → (t : ℕ) → levelOf (shapeOf (domain A)) k set goal words ≡ level t → ⊥
-  no-level-at e = ⊎-elim (λ (plan, l, p). let z : _≡_ {A = ℕ} 0 1 = cc in absurd (omega arith)) (λ (f, p). f) by-level
+  pub no-level-at : planOf A k set goal words ≡ noLevel → {t : ℕ} → levelOf (shapeOf (domain A)) k set goal words ≡ level t → ⊥
+  no-level-at e {t} = ⊎-elim (λ (plan, l, p). let z : _≡_ {A = ℕ} 0 1 = cc in absurd (omega arith)) (λ (f, p). f) by-level t

@@ -27,46 +27,46 @@ module _ (k : ℕ) (l : List ℕ) (small : Small k l) where
 abbrev Fits : ℕ → List ℕ → Type 0
 Fits k l = Matches (λ x y. x < 2 ^ k) l l
 
-fits-small : (k : ℕ) (l : List ℕ) → Fits k l → Small k l
-fits-small k l f i = match-at (pow-pos k) f i
+fits-small : (k : ℕ) {l : List ℕ} → Fits k l → Small k l
+fits-small k f i = match-at (pow-pos k) f i
 
 module _ (D : Domain) (n : ℕ) (start : ℕ → ℕ) where
   start-fits : Fits n (startLayer D n start)
   unfolding startLayer startLabel
   start-fits =
-      match-layer (D .props) _ _ _ _
-      (λ p l. joinOver-lt n _ n (λ s h. keep-lt n (bit p (start s)) (single s) (λ t. single-lt n s h))) (λ p q l r. pow-pos n)
+      match-layer _ _ _ _
+      (λ p l. joinOver-lt n _ (λ s h. keep-lt n (λ t. single-lt h))) (λ p q l r. pow-pos n)
 
   vertex-small : (l : List ℕ) (needs : ℕ) → vertexLabel (D .props) (first n) l needs < 2 ^ n
   unfolding vertexLabel needsLabel
-  vertex-small l needs = without-lt n _ (needsApart (D .props) l needs) (meetOver-lt n _ (D .props) (first n) (first-lt n))
+  vertex-small l needs = without-lt n (needsApart (D .props) l needs) (meetOver-lt n _ (D .props) (first-lt n))
 
   actions-fits : (l : List ℕ) → Fits n (actionLayer D (first n) l)
   unfolding actionLayer vertexMutex
   actions-fits l =
-      match-layer (D .vertices) _ _ _ _ (λ v _. vertex-small l (D .needs v))
-      (λ v w _ _. let both = common-lt n _ _ (vertex-small l (D .needs v)) in choose-lt (2 ^ n) (D .interfere v w) _ _ (λ t. both) (common-lt n _ _ both))
+      match-layer _ _ _ _ (λ v _. vertex-small l (D .needs v))
+      (λ v w _ _. let both = common-lt n _ (vertex-small l (D .needs v)) in choose-lt (λ t. both) (common-lt n _ both))
 
   next-small : (a : List ℕ) → Small n a → (p : ℕ) → nextLabel (D .vertices) (D .adds) a p < 2 ^ n
   unfolding nextLabel
-  next-small a h p = joinOver-lt n _ (D .vertices) (λ v l. keep-lt n (bit p (D .adds v)) (labelIn a v) (λ t. small-label n a h v))
+  next-small a h p = joinOver-lt n _ (λ v l. keep-lt n (λ t. small-label n a h v))
 
   next-fits : (a : List ℕ) → Small n a → Fits n (nextLayer D a)
   unfolding nextLayer nextMutex
   next-fits a h =
-      match-layer (D .props) _ _ _ _ (λ p _. next-small a h p)
-      (λ p q _ _. removeOver-lt n _ (D .vertices) _ (removeOver-lt n _ (D .vertices) _ (common-lt n _ _ (next-small a h p))))
+      match-layer _ _ _ _ (λ p _. next-small a h p)
+      (λ p q _ _. removeOver-lt n _ (D .vertices) (removeOver-lt n _ (D .vertices) (common-lt n _ (next-small a h p))))
 
   props-fits : (t : ℕ) → Fits n (propLayer D n start t)
   unfolding propFrom
   props-fits zero = start-fits
-  props-fits (suc t) = next-fits _ (fits-small n _ (actions-fits (propLayer D n start t)))
+  props-fits (suc t) = next-fits _ (fits-small n (actions-fits (propLayer D n start t)))
 
   vertices-fits : (t : ℕ) → Fits n (vertexLayer D n start t)
   unfolding vertexLayer
   vertices-fits t = actions-fits (propLayer D n start t)
 
   pub graph-small : (k : ℕ) → Small n (graphWords D n start k)
-  graph-small k = fits-small n _ (match-graph D n start n start props-fits vertices-fits k)
+  graph-small k = fits-small n (match-graph D n start n start props-fits vertices-fits k)
 
 -- ---- parts of a list of such words

@@ -10,25 +10,25 @@ use Rattle.rules.proofs.Tests.{choose-failed, holds-or, below-at}
 use Rattle.rules.proofs.SamePlans.{SameNeeds}
 
 -- what is read of an action below the count; a persistence has it of itself
-field-same : (v n n' x x' : ℕ) (y : ℕ → ℕ) → n ≡ n' → (v < n → x ≡ x') → choose (below v n) x (y n) ≡ choose (below v n') x' (y n')
-field-same v n n' x x' y e h =
-    ⊎-elim (λ b. ap (λ (z : ℕ). choose (below v n) z (y n)) (h (below-at _ _ b)))
-    (λ b. choose-failed _ _ _ b ∙ sym (choose-failed _ _ _ b)) (holds-or (below v n))
+field-same : {v n n' x x' : ℕ} (y : ℕ → ℕ) → n ≡ n' → (v < n → x ≡ x') → choose (below v n) x (y n) ≡ choose (below v n') x' (y n')
+field-same {v} {n} {x'} y e h =
+    ⊎-elim (λ b. ap (λ (z : ℕ). choose (below v n) z (y n)) (h (below-at b)))
+    (λ b. choose-failed _ _ b ∙ sym (choose-failed _ _ b)) (holds-or (below v n))
     ∙ ap (λ (k : ℕ). choose (below v k) x' (y k)) e
 
 -- the vertices are the same, and with them every graph: graphWords, own graphs and levels are made from the domain
 module _ {A A' : Actions} (same : SameActions A A') where
   pub needs-same : (v : ℕ) → needsOf A v ≡ needsOf A' v
   unfolding needsOf
-  needs-same v = field-same v _ _ _ _ (λ n. single (v - n)) (same .count) (same .pre v)
+  needs-same v = field-same (λ n. single (v - n)) (same .count) (same .pre v)
 
   pub adds-same : (v : ℕ) → addsOf A v ≡ addsOf A' v
   unfolding addsOf
-  adds-same v = field-same v _ _ _ _ (λ n. single (v - n)) (same .count) (same .add v)
+  adds-same v = field-same (λ n. single (v - n)) (same .count) (same .add v)
 
   pub deletes-same : (v : ℕ) → deletesOf A v ≡ deletesOf A' v
   unfolding deletesOf
-  deletes-same v = field-same v _ _ _ _ (λ n. 0) (same .count) (same .del v)
+  deletes-same v = field-same (λ n. 0) (same .count) (same .del v)
 
   clobbers-same : (v w : ℕ) → clobbers A v w ≡ clobbers A' v w
   unfolding clobbers

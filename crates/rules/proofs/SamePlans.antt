@@ -42,17 +42,15 @@ Inside set w = (i : ℕ) → So (bit i w) → So (bit i set)
 module _ (set a w w' : ℕ) (h : Inside set a) (e : AgreeIn set w w') where
   common-same : common a w ≡ common a w'
   common-same =
-      ext a _ _ (common-lt a a w (width a)) (common-lt a a w' (width a))
+      ext (common-lt a w width) (common-lt a w' width)
       (λ i _. bit-common i a w
-      ∙ test-eq (bit i a and bit i w) (bit i a and bit i w')
-      (λ t. and-of _ _ (and-left _ _ t) (sym (e i (h i (and-left _ _ t))) ∙ and-right _ _ t))
-      (λ t. and-of _ _ (and-left _ _ t) (e i (h i (and-left _ _ t)) ∙ and-right _ _ t))
+      ∙ test-eq (λ t. and-of (and-left _ t) (sym (e i (h i (and-left _ t))) ∙ and-right _ t))
+      (λ t. and-of (and-left _ t) (e i (h i (and-left _ t)) ∙ and-right _ t))
       ∙ sym (bit-common i a w'))
 
   within-same : within a w ≡ within a w'
-  within-same = test-eq _ _
-      (λ t. within-of a a w' (width a) (λ i l b. sym (e i (h i b)) ∙ within-at a w i t b))
-      (λ t. within-of a a w (width a) (λ i l b. e i (h i b) ∙ within-at a w' i t b))
+  within-same = test-eq (λ t. within-of w' width (λ i l b. sym (e i (h i b)) ∙ within-at a w i t b))
+      (λ t. within-of w width (λ i l b. e i (h i b) ∙ within-at a w' i t b))
 
 -- what is wanted, for states of the set only
 abbrev pub WantedIn : Actions → ℕ → List ℕ → Type 0
@@ -60,11 +58,11 @@ WantedIn A set wanted = (q : ℕ) → q < A .props → Inside set (labelIn wante
 
 -- ---- one layer
 
-module _ (A A' : Actions) (same-needs : SameNeeds A A') (set : ℕ) (labels labels' : List ℕ)
+module _ (A : Actions) {A' : Actions} (same-needs : SameNeeds A A') (set : ℕ) (labels labels' : List ℕ)
     (agree : (v : ℕ) → v < A .count + A .props → AgreeIn set (labelIn labels v) (labelIn labels' v)) where
-  takes-same : (v : ℕ) → v < A .count + A .props → (s : Support) → Inside set (s .left) → takes A labels v s ≡ takes A' labels' v s
+  takes-same : {v : ℕ} → v < A .count + A .props → (s : Support) → Inside set (s .left) → takes A labels v s ≡ takes A' labels' v s
   unfolding takes
-  takes-same v l s h j =
+  takes-same {v} l s h j =
       let took : ℕ = common-same set (s .left) (labelIn labels v) (labelIn labels' v) h (agree v l) j in
       record {
         left = without (s .left) took;
@@ -74,8 +72,8 @@ module _ (A A' : Actions) (same-needs : SameNeeds A A') (set : ℕ) (labels labe
 
   still-inside : (p v : ℕ) (s : Support) → Inside set (s .left) → Inside set (choose (bit p (addsOf A' v)) (takes A' labels' v s) s .left)
   still-inside p v s h i b = ⊎-elim
-      (λ t. h i (and-left _ _ (sym (takes-left A' labels' v s i) ∙ subst (λ (x : Support). So (bit i (x .left))) (choose-held _ _ _ t) b)))
-      (λ t. h i (subst (λ (x : Support). So (bit i (x .left))) (choose-failed _ _ _ t) b))
+      (λ t. h i (and-left _ (sym (takes-left A' labels' v s i) ∙ subst (λ (x : Support). So (bit i (x .left))) (choose-held _ t) b)))
+      (λ t. h i (subst (λ (x : Support). So (bit i (x .left))) (choose-failed _ _ t) b))
       (holds-or (bit p (addsOf A' v)))
 
   support-same : (p : ℕ) (vs : List ℕ) (s : Support) → Inside set (s .left) → ((v : ℕ) → List·Memᴰ v vs → v < A .count + A .props)
@@ -84,7 +82,7 @@ module _ (A A' : Actions) (same-needs : SameNeeds A A') (set : ℕ) (labels labe
   support-same p [] s h m = refl
   support-same p (v ∷ vs) s h m =
       let e : choose (bit p (addsOf A v)) (takes A labels v s) s ≡ choose (bit p (addsOf A' v)) (takes A' labels' v s) s =
-      λ j. choose (bit p (same-needs .adds v j)) (takes-same v (m v (List·Memᴰ·head refl)) s h j) s in
+      λ j. choose (bit p (same-needs .adds v j)) (takes-same (m v (List·Memᴰ·head refl)) s h j) s in
       ap (λ (x : Support). choose (same (s .left) 0) s (support A labels p vs x)) e
       ∙ ap (λ (x : Support). choose (same (s .left) 0) s x) (support-same p vs _ (still-inside p v s h) (λ w k. m w (List·Memᴰ·tail k)))
 
@@ -93,10 +91,10 @@ module _ (A A' : Actions) (same-needs : SameNeeds A A') (set : ℕ) (labels labe
   order-same p j = (same-needs .count j + p) ∷ listOver (same-needs .count j) (λ a. a)
 
   module _ (wanted : List ℕ) (inside : WantedIn A set wanted) where
-    search-same : (p marks : ℕ) (needed : List ℕ) → p < A .props → searchOf A labels wanted p marks needed ≡ searchOf A' labels' wanted p marks needed
-    search-same p marks needed l =
+    search-same : {p : ℕ} (marks : ℕ) (needed : List ℕ) → p < A .props → searchOf A labels wanted p marks needed ≡ searchOf A' labels' wanted p marks needed
+    search-same {p} marks needed l =
         let s : Support = record { left = labelIn wanted p; marks = marks; needed = needed } in
-        support-same p (order A p) s (inside p l) (order-vertices A p l) ∙ ap (λ (vs : List ℕ). support A' labels' p vs s) (order-same p)
+        support-same p (order A p) s (inside p l) (λ v. order-vertices A l) ∙ ap (λ (vs : List ℕ). support A' labels' p vs s) (order-same p)
 
     coverFrom-same : (n p marks : ℕ) (needed : List ℕ) → p + n ≤ A .props
         → coverFrom A labels wanted n p marks needed ≡ coverFrom A' labels' wanted n p marks needed
@@ -104,7 +102,7 @@ module _ (A A' : Actions) (same-needs : SameNeeds A A') (set : ℕ) (labels labe
     coverFrom-same zero p marks needed l = refl
     coverFrom-same (suc n) p marks needed l =
         ap (λ (s : Support). choose (same (s .left) 0) (coverFrom A labels wanted n (suc p) (s .marks) (s .needed)) uncovered)
-        (search-same p marks needed (omega arith))
+        (search-same marks needed (omega arith))
         ∙ ap (λ (x : Covered). choose (same (searchOf A' labels' wanted p marks needed .left) 0) x uncovered) (coverFrom-same n (suc p) _ _ (omega arith))
 
     cover-same : cover A labels wanted ≡ cover A' labels' wanted
@@ -115,7 +113,7 @@ module _ (A A' : Actions) (same-needs : SameNeeds A A') (set : ℕ) (labels labe
 
 -- ---- all layers
 
-module _ (A A' : Actions) (same-needs : SameNeeds A A') (set k : ℕ) (words words' : List ℕ)
+module _ {A A' : Actions} (same-needs : SameNeeds A A') (set : ℕ) {k : ℕ} (words words' : List ℕ)
     (props-agree : (p : ℕ) → p < A .props → AgreeIn set (labelIn (propsIn (shapeOf (domain A)) words 0) p) (labelIn (propsIn (shapeOf (domain A')) words' 0) p))
     (actions-agree : (t : ℕ) → t < k → (v : ℕ) → v < A .count + A .props
     → AgreeIn set (labelIn (actionsIn (shapeOf (domain A)) words t) v) (labelIn (actionsIn (shapeOf (domain A')) words' t) v)) where
@@ -123,40 +121,40 @@ module _ (A A' : Actions) (same-needs : SameNeeds A A') (set k : ℕ) (words wor
   unfolding ground
   ground-same wanted plan inside =
       ap (λ (b : Bool). choose b (planned plan) (stuck 0))
-      (all-eq (A .props) _ _ (λ p h. within-same set (labelIn wanted p) _ _ (inside p h) (props-agree p h))
+      (all-eq (λ p h. within-same set (labelIn wanted p) _ _ (inside p h) (props-agree p h))
       ∙ ap (λ (n : ℕ). allBelow n (λ p. within (labelIn wanted p) (labelIn (propsIn (shapeOf (domain A')) words' 0) p))) (same-needs .props))
 
   -- one layer down, where the layers below go the same way
-  layer-same : (t : ℕ) → t < k → ((wanted plan : List ℕ) → WantedIn A set wanted → descend A words t wanted plan ≡ descend A' words' t wanted plan)
+  layer-same : {t : ℕ} → t < k → ((wanted plan : List ℕ) → WantedIn A set wanted → descend A words t wanted plan ≡ descend A' words' t wanted plan)
       → (wanted plan : List ℕ) → WantedIn A set wanted → descend A words (suc t) wanted plan ≡ descend A' words' (suc t) wanted plan
-  layer-same t l lower wanted plan inside = go (cover A (actionsIn (shapeOf (domain A)) words t) wanted) refl
+  layer-same {t} l lower wanted plan inside = go (cover A (actionsIn (shapeOf (domain A)) words t) wanted) refl
     where
       other : cover A (actionsIn (shapeOf (domain A)) words t) wanted ≡ cover A' (actionsIn (shapeOf (domain A')) words' t) wanted
-      other = cover-same A A' same-needs set _ _ (actions-agree t l) wanted inside
+      other = cover-same A same-needs set _ _ (actions-agree t l) wanted inside
 
       go : (x : Covered) → cover A (actionsIn (shapeOf (domain A)) words t) wanted ≡ x
           → descend A words (suc t) wanted plan ≡ descend A' words' (suc t) wanted plan
       go (covered marks needed) e =
-          descend-next A words t wanted plan marks needed e
+          descend-next A words t wanted plan e
           ∙ lower needed (marks ∷ plan)
-          (λ q h i b. let ((p, m, u), _) = cover-source A (actionsIn (shapeOf (domain A)) words t) wanted marks needed e i q h b in inside p m i u)
-          ∙ sym (descend-next A' words' t wanted plan marks needed (sym other ∙ e))
-      go uncovered e = descend-stuck A words t wanted plan e ∙ sym (descend-stuck A' words' t wanted plan (sym other ∙ e))
+          (λ q h i b. let ((p, m, u), _) = cover-source A (actionsIn (shapeOf (domain A)) words t) wanted marks needed e h b in inside p m i u)
+          ∙ sym (descend-next A' words' t wanted plan (sym other ∙ e))
+      go uncovered e = descend-stuck A words wanted plan e ∙ sym (descend-stuck A' words' wanted plan (sym other ∙ e))
 
   pub descend-same : (t : ℕ) → t ≤ k → (wanted plan : List ℕ) → WantedIn A set wanted → descend A words t wanted plan ≡ descend A' words' t wanted plan
   unfolding descend
   descend-same zero l wanted plan inside = ground-same wanted plan inside
-  descend-same (suc t) l wanted plan inside = layer-same t l (descend-same t (omega arith)) wanted plan inside
+  descend-same (suc t) l wanted plan inside = layer-same l (descend-same t (omega arith)) wanted plan inside
 
 -- the goals are wanted for states of the set only
 pub goals-inside : (A : Actions) (set goal : ℕ) → WantedIn A set (goals A set goal)
 unfolding labelIn
 goals-inside A set goal q h i b =
-    and-right _ _ (sym (bit-keep i (bit q goal) set) ∙ sym (ap (bit i) (getD-listOver (A .props) (λ p. keep (bit p goal) set) q h)) ∙ b)
+    and-right _ (sym (bit-keep i (bit q goal) set) ∙ sym (ap (bit i) (getD-listOver (λ p. keep (bit p goal) set) h)) ∙ b)
 
 -- ---- the same words
 
-module _ (A B : Actions) (same-needs : SameNeeds A B) where
+module _ {A B : Actions} (same-needs : SameNeeds A B) where
   shape-same : shapeOf (domain A) ≡ shapeOf (domain B)
   unfolding domain
   shape-same i = record { props = same-needs .props i; vertices = same-needs .count i + same-needs .props i }
@@ -164,7 +162,7 @@ module _ (A B : Actions) (same-needs : SameNeeds A B) where
   at-same : (set goal : ℕ) (words : List ℕ) (l : Level) → planAt A set goal words l ≡ planAt B set goal words l
   unfolding planAt
   at-same set goal words (level t) =
-      descend-same A B same-needs set t words words
+      descend-same same-needs set words words
       (λ p h i b. ap (λ (S : Shape). bit i (labelIn (propsIn S words 0) p)) shape-same)
       (λ u l v h i b. ap (λ (S : Shape). bit i (labelIn (actionsIn S words u) v)) shape-same)
       t (le-refl t) (goals A set goal) [] (goals-inside A set goal)

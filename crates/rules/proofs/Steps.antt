@@ -33,14 +33,14 @@ pub record Sets (m : ℕ) (A : Actions) : Type 0 where
   pub pre : (i : ℕ) → i < A .count → A .pre i < 2 ^ A .props
 
 -- an action of so many, or the persistence of a proposition
-vertex-cases : (A : Actions) (P : ℕ → Type 0) → ((i : ℕ) → i < A .count → P i) → ((p : ℕ) → p < A .props → P (persistence A p)) → (v : ℕ)
+vertex-cases : (A : Actions) (P : ℕ → Type 0) → ((i : ℕ) → i < A .count → P i) → ((p : ℕ) → p < A .props → P (persistence A p)) → {v : ℕ}
     → v < domain A .vertices → P v
 unfolding domain persistence
-vertex-cases A P f g v h = by-cases (decLe (A .count) v)
+vertex-cases A P f g {v} h = by-cases (decLe (A .count) v)
     (λ l. let e : A .count + (v - A .count) ≡ v = omega arith in subst P e (g (v - A .count) (omega arith)))
     (λ l. f v (omega arith))
 
-module _ (m all : ℕ) (A : Actions) (sets : Sets m A) (t : ℕ → ℕ → ℕ) (is : Consistent (domain A .props) all t) where
+module _ (m all : ℕ) (A : Actions) (sets : Sets m A) {t : ℕ → ℕ → ℕ} (is : Consistent (domain A .props) all t) where
   abbrev layer : List ℕ
   layer = actionLayer (domain A) all (layerBy (domain A .props) t)
 
@@ -54,263 +54,259 @@ module _ (m all : ℕ) (A : Actions) (sets : Sets m A) (t : ℕ → ℕ → ℕ)
   abbrev pub needsWith : ℕ → ℕ → ℕ
   needsWith i q = meetOf m (A .pre i) (λ p. t p q) (common (t q q) all)
 
-  member-lt : (i p : ℕ) → i < A .count → So (bit p (A .pre i)) → p < A .props
+  member-lt : {i p : ℕ} → i < A .count → So (bit p (A .pre i)) → p < A .props
   unfolding domain
-  member-lt i p h b = bit-below p (A .pre i) (A .props) (sets .pre i h) b
+  member-lt {i} h b = bit-below (sets .pre i h) b
 
-  with-at : (s i q : ℕ) → i < A .count → So (bit s (needsWith i q)) → So (bit s all) × So (bit s (t q q)) × ((p : ℕ) → So (bit p (A .pre i)) → So (bit s (t p q)))
+  with-at : (s : ℕ) {i : ℕ} (q : ℕ) → i < A .count → So (bit s (needsWith i q)) → So (bit s all) × So (bit s (t q q)) × ((p : ℕ) → So (bit p (A .pre i)) → So (bit s (t p q)))
   unfolding domain
-  with-at s i q h b =
-      let (u, each) = meetOf-at s m (A .pre i) (common (t q q) all) (λ p. t p q) b in
+  with-at s {i} q h b =
+      let (u, each) = meetOf-at s (A .pre i) (common (t q q) all) (λ p. t p q) b in
       let c = sym (bit-common s (t q q) all) ∙ u in
-      (and-right _ _ c, and-left _ _ c, λ p n. each p (omega (arith, member-lt i p h n, sets .props)) n)
+      (and-right _ c, and-left _ c, λ p n. each p (omega (arith, member-lt h n, sets .props)) n)
 
   with-of : (s i q : ℕ) → So (bit s all) → So (bit s (t q q)) → ((p : ℕ) → p < m → So (bit p (A .pre i)) → So (bit s (t p q))) → So (bit s (needsWith i q))
   unfolding domain
-  with-of s i q a b each = meetOf-of s m (A .pre i) (common (t q q) all) (λ p. t p q) (bit-common s (t q q) all ∙ and-of _ _ b a) each
+  with-of s i q a b each = meetOf-of s (A .pre i) (common (t q q) all) (λ p. t p q) (bit-common s (t q q) all ∙ and-of b a) each
 
   -- the label of an action
-  pub admitted : (i : ℕ) → i < A .count → meetOf m (A .pre i) (needsWith i) all ≡ label i
+  pub admitted : {i : ℕ} → i < A .count → meetOf m (A .pre i) (needsWith i) all ≡ label i
   unfolding domain
-  admitted i h = ext-all _ _ (λ s. test-eq _ _
-      (λ b. let (a, each) = meetOf-at s m (A .pre i) all (needsWith i) b in
-      label-of (domain A .props) all t is s (A .pre i) (record {
+  admitted {i} h = ext-all (λ s. test-eq (λ b. let (a, each) = meetOf-at s (A .pre i) all (needsWith i) b in
+      label-of (domain A .props) all t is (record {
         inside = a;
-        both = λ p q hp hq np nq. let (_, _, f) = with-at s i q h (each q (omega (arith, sets .props)) nq) in f p np;
+        both = λ p q hp hq np nq. let (_, _, f) = with-at s q h (each q (omega (arith, sets .props)) nq) in f p np;
       }))
-      (λ b. let l = label-at (domain A .props) all t is s (A .pre i) b in
-      meetOf-of s m (A .pre i) all (needsWith i) (l .inside) (λ q k nq.
-      let hq : q < A .props = member-lt i q h nq in
-      with-of s i q (l .inside) (l .both q q hq hq nq nq) (λ p j np. l .both p q (member-lt i p h np) hq np nq))))
+      (λ b. let l = label-at (domain A .props) all t is b in
+      meetOf-of s (A .pre i) all (needsWith i) (l .inside) (λ q k nq.
+      let hq : q < A .props = member-lt h nq in
+      with-of s i q (l .inside) (l .both q q hq hq nq nq) (λ p j np. l .both p q (member-lt h np) hq np nq))))
 
   -- ---- vertices of the layer
 
-  has : (s i : ℕ) → i < A .count → Has (domain A .props) all t is s (domain A .needs i) → Has (domain A .props) all t is s (A .pre i)
+  has : {s i : ℕ} → i < A .count → Has (domain A .props) all t is s (domain A .needs i) → Has (domain A .props) all t is s (A .pre i)
   unfolding domain
-  has s i h l = subst (Has (domain A .props) all t is s) (needs-action A i h) l
+  has {s} h l = subst (Has (domain A .props) all t is s) (needs-action A h) l
 
-  interfering : (v w : ℕ) → (v ≡ w → ⊥) → So (clobbers A v w) → So (paired false (domain A .interfere) v w)
+  interfering : {v w : ℕ} → (v ≡ w → ⊥) → So (clobbers A v w) → So (paired false (domain A .interfere) v w)
   unfolding domain
-  interfering v w ne c = paired-of _ v w (fails-of _ (λ e. ne (same-at _ _ e))) (ordered (λ a b. So (clobbers A a b or clobbers A b a)) v w (or-left _ _ c) (or-right _ _ c))
+  interfering {v} {w} ne c = paired-of _ v w (fails-of (λ e. ne (same-at e))) (ordered (λ a b. So (clobbers A a b or clobbers A b a)) (or-left _ c) (or-right _ c))
 
-  behind : (i q : ℕ) → i < A .count → i ≡ persistence A q → ⊥
+  behind : {i : ℕ} (q : ℕ) → i < A .count → i ≡ persistence A q → ⊥
   unfolding persistence domain
-  behind i q h e = omega arith
+  behind q h e = omega arith
 
-  persistences : (p q : ℕ) → persistence A p ≡ persistence A q → p ≡ q
+  persistences : {p q : ℕ} → persistence A p ≡ persistence A q → p ≡ q
   unfolding persistence domain
-  persistences p q e = omega arith
+  persistences e = omega arith
 
-  deletes-not : (i q : ℕ) → i < A .count → So (fails (paired false (domain A .interfere) i (persistence A q))) → So (bit q (A .del i)) → ⊥
+  deletes-not : {i : ℕ} (q : ℕ) → i < A .count → So (fails (paired false (domain A .interfere) i (persistence A q))) → So (bit q (A .del i)) → ⊥
   unfolding domain
-  deletes-not i q h f d = fails-at _ f (interfering i (persistence A q) (behind i q h)
-      (clobbers-of A i (persistence A q) q (ap (bit q) (deletes-action A i h) ∙ d) (or-left _ _ (single-has q _ (needs-persistence A q)))))
+  deletes-not {i} q h f d = fails-at f (interfering (behind q h)
+      (clobbers-of A i (persistence A q) q (ap (bit q) (deletes-action A h) ∙ d) (or-left _ (single-has q (needs-persistence A q)))))
 
   -- the persistence of q has what q has
-  has-prop : (s q : ℕ) → q < A .props → So (bit s (t q q)) → Has (domain A .props) all t is s (domain A .needs (persistence A q))
+  has-prop : {s q : ℕ} → q < A .props → So (bit s (t q q)) → Has (domain A .props) all t is s (domain A .needs (persistence A q))
   unfolding domain
-  has-prop s q h b = record {
+  has-prop {s} {q} h b = record {
     inside = is .inside s q h b;
     both = λ p r hp hr np nr.
-        let ep : p ≡ q = single-only q _ p (needs-persistence A q) np in
-        let er : r ≡ q = single-only q _ r (needs-persistence A q) nr in
+        let ep : p ≡ q = single-only (needs-persistence A q) np in
+        let er : r ≡ q = single-only (needs-persistence A q) nr in
         ap₂ (λ (x y : ℕ). bit s (t x y)) ep er ∙ b;
   }
 
-  prop-has : (s q : ℕ) → q < A .props → Has (domain A .props) all t is s (domain A .needs (persistence A q)) → So (bit s (t q q))
+  prop-has : {s q : ℕ} → q < A .props → Has (domain A .props) all t is s (domain A .needs (persistence A q)) → So (bit s (t q q))
   unfolding domain
-  prop-has s q h l = l .both q q h h (single-has q _ (needs-persistence A q)) (single-has q _ (needs-persistence A q))
+  prop-has {q} h l = l .both q q h h (single-has q (needs-persistence A q)) (single-has q (needs-persistence A q))
 
-  acts : (s i : ℕ) → i < A .count → Has (domain A .props) all t is s (A .pre i) → Has (domain A .props) all t is s (domain A .needs i)
+  acts : {s i : ℕ} → i < A .count → Has (domain A .props) all t is s (A .pre i) → Has (domain A .props) all t is s (domain A .needs i)
   unfolding domain
-  acts s i h l = subst (Has (domain A .props) all t is s) (sym (needs-action A i h)) l
+  acts {s} h l = subst (Has (domain A .props) all t is s) (sym (needs-action A h)) l
 
   needs-it : (p : ℕ) → So (bit p (domain A .needs (persistence A p)))
   unfolding domain
-  needs-it p = single-has p _ (needs-persistence A p)
+  needs-it p = single-has p (needs-persistence A p)
 
-  only : (a p : ℕ) → So (bit a (domain A .needs (persistence A p))) → a ≡ p
+  only : {a p : ℕ} → So (bit a (domain A .needs (persistence A p))) → a ≡ p
   unfolding domain
-  only a p n = single-only p _ a (needs-persistence A p) n
+  only {p} n = single-only (needs-persistence A p) n
 
   -- an action and a persistence
-  prop-at : (s i q : ℕ) → i < A .count → q < A .props → So (bit s (free i (persistence A q))) → Goes (domain A) all t is s i (persistence A q)
+  prop-at : {s i q : ℕ} → i < A .count → q < A .props → So (bit s (free i (persistence A q))) → Goes (domain A) all t is s i (persistence A q)
   unfolding domain
-  prop-at s i q h k b = goes-at (domain A) all t is s i (persistence A q) (action-below A i h) (persistence-below A q k) (behind i q h) b
+  prop-at {q} h k b = goes-at (domain A) all t is (action-below A h) (persistence-below A k) (behind q h) b
 
-  prop-of : (s i q : ℕ) → i < A .count → q < A .props → Has (domain A .props) all t is s (A .pre i) → So (bit s (t q q)) → (So (bit q (A .del i)) → ⊥)
+  prop-of : {s i q : ℕ} → i < A .count → q < A .props → Has (domain A .props) all t is s (A .pre i) → So (bit s (t q q)) → (So (bit q (A .del i)) → ⊥)
       → ((p : ℕ) → p < A .props → So (bit p (A .pre i)) → So (bit s (t p q))) → So (bit s (free i (persistence A q)))
   unfolding domain
-  prop-of s i q h k l b d each = goes-of (domain A) all t is s i (persistence A q) (action-below A i h) (persistence-below A q k) (behind i q h) (record {
-    left = acts s i h l;
-    right = has-prop s q k b;
-    apart = fails-of _ (clobbers-apart A i (persistence A q)
-        (clobbers-persistence A i q (λ x. d (ap (bit q) (sym (deletes-action A i h)) ∙ x))) (persistence-clobbers A q i));
+  prop-of {s} {i} {q} h k l b d each = goes-of (domain A) all t is (action-below A h) (persistence-below A k) (behind q h) (record {
+    left = acts h l;
+    right = has-prop k b;
+    apart = fails-of (clobbers-apart A i (persistence A q)
+        (clobbers-persistence A i q (λ x. d (ap (bit q) (sym (deletes-action A h)) ∙ x))) (persistence-clobbers A q i));
     across = λ p r hp hr np nr.
-        ap (λ (x : ℕ). bit s (t p x)) (single-only q _ r (needs-persistence A q) nr) ∙ each p hp (ap (bit p) (sym (needs-action A i h)) ∙ np);
+        ap (λ (x : ℕ). bit s (t p x)) (single-only (needs-persistence A q) nr) ∙ each p hp (ap (bit p) (sym (needs-action A h)) ∙ np);
   })
 
-  pub with-prop : (i q : ℕ) → i < A .count → q < A .props → choose (bit q (A .del i)) 0 (common (needsWith i q) (label i)) ≡ free i (persistence A q)
+  pub with-prop : {i q : ℕ} → i < A .count → q < A .props → choose (bit q (A .del i)) 0 (common (needsWith i q) (label i)) ≡ free i (persistence A q)
   unfolding domain
-  with-prop i q h k = ⊎-elim
-      (λ d. choose-held _ _ _ d ∙ ext-all _ _ (λ s. test-eq _ _ (λ b. absurd (no-bit-zero s b)) (λ b. absurd (deletes-not i q h (prop-at s i q h k b .apart) d))))
-      (λ d. choose-failed _ _ _ d ∙ ext-all _ _ (λ s. test-eq _ _
-      (λ b.
+  with-prop {i} {q} h k = ⊎-elim
+      (λ d. choose-held _ d ∙ ext-all (λ s. test-eq (λ b. absurd (no-bit-zero s b)) (λ b. absurd (deletes-not q h (prop-at h k b .apart) d))))
+      (λ d. choose-failed _ _ d ∙ ext-all (λ s. test-eq (λ b.
       let u = sym (bit-common s (needsWith i q) (label i)) ∙ b in
-      let (_, e, each) = with-at s i q h (and-left _ _ u) in
-      prop-of s i q h k (label-at (domain A .props) all t is s (A .pre i) (and-right _ _ u)) e (fails-at _ d) (λ p hp np. each p np))
+      let (_, e, each) = with-at s q h (and-left _ u) in
+      prop-of h k (label-at (domain A .props) all t is (and-right _ u)) e (fails-at d) (λ p hp np. each p np))
       (λ b.
-      let g = prop-at s i q h k b in
-      let l = has s i h (g .left) in
-      bit-common s (needsWith i q) (label i) ∙ and-of _ _
-      (with-of s i q (l .inside) (prop-has s q k (g .right)) (λ p j np.
-      g .across p q (member-lt i p h np) k (ap (bit p) (needs-action A i h) ∙ np) (single-has q _ (needs-persistence A q))))
-      (label-of (domain A .props) all t is s (A .pre i) l))))
+      let g = prop-at h k b in
+      let l = has h (g .left) in
+      bit-common s (needsWith i q) (label i) ∙ and-of (with-of s i q (l .inside) (prop-has k (g .right)) (λ p j np.
+      g .across p q (member-lt h np) k (ap (bit p) (needs-action A h) ∙ np) (single-has q (needs-persistence A q))))
+      (label-of (domain A .props) all t is l))))
       (holds-or (bit q (A .del i)))
 
   -- two actions
-  pub with-action : (i j : ℕ) (interfere : Bool) → i < A .count → j < A .count → (i ≡ j → ⊥) → interfere ≡ (clobbers A i j or clobbers A j i)
+  pub with-action : {i j : ℕ} {interfere : Bool} → i < A .count → j < A .count → (i ≡ j → ⊥) → interfere ≡ (clobbers A i j or clobbers A j i)
       → choose interfere 0 (meetOf m (A .pre i) (λ p. free j (persistence A p)) (common (label j) (label i))) ≡ free i j
   unfolding domain
-  with-action i j interfere h k ne e = ⊎-elim
-      (λ d. choose-held _ _ _ d ∙ ext-all _ _ (λ s. test-eq _ _ (λ b. absurd (no-bit-zero s b)) (λ b.
-      absurd (fails-at _ (goes s b .apart) (⊎-elim (interfering i j ne) (λ c. paired-turn (domain A .interfere) j i (interfering j i (λ q. ne (sym q)) c)) (or-at _ _ (sym e ∙ d)))))))
-      (λ d. choose-failed _ _ _ d ∙ ext-all _ _ (λ s. test-eq _ _ (to s d) (from s)))
+  with-action {i} {j} {interfere} h k ne e = ⊎-elim
+      (λ d. choose-held _ d ∙ ext-all (λ s. test-eq (λ b. absurd (no-bit-zero s b)) (λ b.
+      absurd (fails-at (goes s b .apart) (⊎-elim (interfering ne) (λ c. paired-turn (domain A .interfere) j i (interfering (λ q. ne (sym q)) c)) (or-at (sym e ∙ d)))))))
+      (λ d. choose-failed _ _ d ∙ ext-all (λ s. test-eq (to s d) (from s)))
       (holds-or interfere)
     where
       goes : (s : ℕ) → So (bit s (free i j)) → Goes (domain A) all t is s i j
-      goes s b = goes-at (domain A) all t is s i j (action-below A i h) (action-below A j k) ne b
+      goes s b = goes-at (domain A) all t is (action-below A h) (action-below A k) ne b
 
       to : (s : ℕ) → So (fails interfere) → So (bit s (meetOf m (A .pre i) (λ p. free j (persistence A p)) (common (label j) (label i)))) → So (bit s (free i j))
       to s d b =
-          let (u, each) = meetOf-at s m (A .pre i) (common (label j) (label i)) (λ p. free j (persistence A p)) b in
+          let (u, each) = meetOf-at s (A .pre i) (common (label j) (label i)) (λ p. free j (persistence A p)) b in
           let c = sym (bit-common s (label j) (label i)) ∙ u in
-          let none : So (clobbers A i j or clobbers A j i) → ⊥ = λ x. fails-at _ d (e ∙ x) in
-          goes-of (domain A) all t is s i j (action-below A i h) (action-below A j k) ne (record {
-            left = acts s i h (label-at (domain A .props) all t is s (A .pre i) (and-right _ _ c));
-            right = acts s j k (label-at (domain A .props) all t is s (A .pre j) (and-left _ _ c));
-            apart = fails-of _ (clobbers-apart A i j (λ x. none (or-left _ _ x)) (λ x. none (or-right _ _ x)));
+          let none : So (clobbers A i j or clobbers A j i) → ⊥ = λ x. fails-at d (e ∙ x) in
+          goes-of (domain A) all t is (action-below A h) (action-below A k) ne (record {
+            left = acts h (label-at (domain A .props) all t is (and-right _ c));
+            right = acts k (label-at (domain A .props) all t is (and-left _ c));
+            apart = fails-of (clobbers-apart A i j (λ x. none (or-left _ x)) (λ x. none (or-right _ x)));
             across = λ p q hp hq np nq.
-                let n : So (bit p (A .pre i)) = ap (bit p) (sym (needs-action A i h)) ∙ np in
+                let n : So (bit p (A .pre i)) = ap (bit p) (sym (needs-action A h)) ∙ np in
                 ap (bit s) (is .turn p q hp hq)
-                ∙ prop-at s j p k hp (each p (omega (arith, sets .props)) n) .across q p hq hp nq (single-has p _ (needs-persistence A p));
+                ∙ prop-at k hp (each p (omega (arith, sets .props)) n) .across q p hq hp nq (single-has p (needs-persistence A p));
           })
 
       from : (s : ℕ) → So (bit s (free i j)) → So (bit s (meetOf m (A .pre i) (λ p. free j (persistence A p)) (common (label j) (label i))))
       from s b =
           let g = goes s b in
-          let l = has s i h (g .left) in
-          let r = has s j k (g .right) in
-          meetOf-of s m (A .pre i) (common (label j) (label i)) (λ p. free j (persistence A p))
-          (bit-common s (label j) (label i) ∙ and-of _ _ (label-of (domain A .props) all t is s (A .pre j) r) (label-of (domain A .props) all t is s (A .pre i) l))
+          let l = has h (g .left) in
+          let r = has k (g .right) in
+          meetOf-of s (A .pre i) (common (label j) (label i)) (λ p. free j (persistence A p))
+          (bit-common s (label j) (label i) ∙ and-of (label-of (domain A .props) all t is r) (label-of (domain A .props) all t is l))
           (λ p _ np.
-          let hp : p < A .props = member-lt i p h np in
-          let n : So (bit p (domain A .needs i)) = ap (bit p) (needs-action A i h) ∙ np in
-          prop-of s j p k hp r (l .both p p hp hp np np)
-          (λ d. fails-at _ (g .apart) (paired-turn (domain A .interfere) j i (interfering j i (λ q. ne (sym q))
-          (clobbers-of A j i p (ap (bit p) (deletes-action A j k) ∙ d) (or-left _ _ n)))))
-          (λ q hq nq. ap (bit s) (is .turn q p hq hp) ∙ g .across p q hp hq n (ap (bit q) (needs-action A j k) ∙ nq)))
+          let hp : p < A .props = member-lt h np in
+          let n : So (bit p (domain A .needs i)) = ap (bit p) (needs-action A h) ∙ np in
+          prop-of k hp r (l .both p p hp hp np np)
+          (λ d. fails-at (g .apart) (paired-turn (domain A .interfere) j i (interfering (λ q. ne (sym q))
+          (clobbers-of A j i p (ap (bit p) (deletes-action A k) ∙ d) (or-left _ n)))))
+          (λ q hq nq. ap (bit s) (is .turn q p hq hp) ∙ g .across p q hp hq n (ap (bit q) (needs-action A k) ∙ nq)))
 
   -- two persistences are together in what their propositions are
-  kept : (s p q : ℕ) → p < A .props → q < A .props → So (bit s (t p q)) → So (bit s (free (persistence A p) (persistence A q)))
+  kept : (s : ℕ) {p q : ℕ} → p < A .props → q < A .props → So (bit s (t p q)) → So (bit s (free (persistence A p) (persistence A q)))
   unfolding domain
-  kept s p q hp hq f =
+  kept s {p} {q} hp hq f =
       let bp : So (bit s (t p p)) = is .part s p q hp hq f in
       let bq : So (bit s (t q q)) = is .part s q p hq hp (ap (bit s) (is .turn q p hq hp) ∙ f) in
       ⊎-elim
-      (λ e. ap (λ (x : ℕ). bit s (free (persistence A p) (persistence A x))) (sym (same-at p q e))
+      (λ e. ap (λ (x : ℕ). bit s (free (persistence A p) (persistence A x))) (sym (same-at e))
       ∙ ap (bit s) (free-own (domain A .vertices) layer (persistence A p))
-      ∙ ap (bit s) (vertex-label (domain A) all t is (persistence A p) (persistence-below A p hp))
-      ∙ label-of (domain A .props) all t is s _ (has-prop s p hp bp))
+      ∙ ap (bit s) (vertex-label (domain A) all t is (persistence-below A hp))
+      ∙ label-of (domain A .props) all t is (has-prop hp bp))
       (λ d.
-      goes-of (domain A) all t is s (persistence A p) (persistence A q) (persistence-below A p hp) (persistence-below A q hq)
-      (λ e. fails-at _ d (same-of p q (persistences p q e))) (record {
-        left = has-prop s p hp bp;
-        right = has-prop s q hq bq;
-        apart = fails-of _ (clobbers-apart A _ _ (persistence-clobbers A p _) (persistence-clobbers A q _));
-        across = λ a b ha hb na nb. ap₂ (λ (x y : ℕ). bit s (t x y)) (only a p na) (only b q nb) ∙ f;
+      goes-of (domain A) all t is (persistence-below A hp) (persistence-below A hq)
+      (λ e. fails-at d (same-of (persistences e))) (record {
+        left = has-prop hp bp;
+        right = has-prop hq bq;
+        apart = fails-of (clobbers-apart A _ _ (persistence-clobbers A p _) (persistence-clobbers A q _));
+        across = λ a b ha hb na nb. ap₂ (λ (x y : ℕ). bit s (t x y)) (only na) (only nb) ∙ f;
       }))
       (holds-or (same p q))
 
-  two : (s a c : ℕ) → a < A .props → c < A .props → So (bit s (free (persistence A a) (persistence A c))) → So (bit s (t a c))
+  two : (s : ℕ) {a c : ℕ} → a < A .props → c < A .props → So (bit s (free (persistence A a) (persistence A c))) → So (bit s (t a c))
   unfolding domain
-  two s a c ha hc f = ⊎-elim
-      (λ e. let q : a ≡ c = same-at a c e in
-      ap (λ (x : ℕ). bit s (t a x)) (sym q) ∙ prop-has s a ha (label-at (domain A .props) all t is s _
-      (ap (bit s) (sym (vertex-label (domain A) all t is (persistence A a) (persistence-below A a ha))) ∙ ap (bit s)
+  two s {a} {c} ha hc f = ⊎-elim
+      (λ e. let q : a ≡ c = same-at e in
+      ap (λ (x : ℕ). bit s (t a x)) (sym q) ∙ prop-has ha (label-at (domain A .props) all t is
+      (ap (bit s) (sym (vertex-label (domain A) all t is (persistence-below A ha))) ∙ ap (bit s)
       (sym (free-own (domain A .vertices) layer (persistence A a))) ∙ ap (λ (x : ℕ). bit s (free (persistence A a) (persistence A x))) q ∙ f)))
-      (λ d. goes-at (domain A) all t is s (persistence A a) (persistence A c) (persistence-below A a ha) (persistence-below A c hc)
-      (λ e. fails-at _ d (same-of a c (persistences a c e))) f .across a c ha hc (needs-it a) (needs-it c))
+      (λ d. goes-at (domain A) all t is (persistence-below A ha) (persistence-below A hc)
+      (λ e. fails-at d (same-of (persistences e))) f .across a c ha hc (needs-it a) (needs-it c))
       (holds-or (same a c))
 
-  pub both-kept : (p q : ℕ) → p < A .props → q < A .props → free (persistence A p) (persistence A q) ≡ t p q
+  pub both-kept : {p q : ℕ} → p < A .props → q < A .props → free (persistence A p) (persistence A q) ≡ t p q
   unfolding domain
-  both-kept p q hp hq = ext-all _ _ (λ s. test-eq _ _ (two s p q hp hq) (kept s p q hp hq))
+  both-kept hp hq = ext-all (λ s. test-eq (two s hp hq) (kept s hp hq))
 
   -- ---- vertices that add p
 
   abbrev pub adders : ℕ → ℕ
   adders p = startLabel (A .count) (A .add) p
 
-  adds-it : (i p : ℕ) → i < A .count → So (bit p (A .add i)) → So (bit p (domain A .adds i))
+  adds-it : {i : ℕ} (p : ℕ) → i < A .count → So (bit p (A .add i)) → So (bit p (domain A .adds i))
   unfolding domain
-  adds-it i p h b = ap (bit p) (adds-action A i h) ∙ b
+  adds-it p h b = ap (bit p) (adds-action A h) ∙ b
 
-  it-adds : (i p : ℕ) → i < A .count → So (bit p (domain A .adds i)) → So (bit p (A .add i))
+  it-adds : {i : ℕ} (p : ℕ) → i < A .count → So (bit p (domain A .adds i)) → So (bit p (A .add i))
   unfolding domain
-  it-adds i p h b = ap (bit p) (sym (adds-action A i h)) ∙ b
+  it-adds p h b = ap (bit p) (sym (adds-action A h)) ∙ b
 
   keeps-it : (p : ℕ) → So (bit p (domain A .adds (persistence A p)))
   unfolding domain
-  keeps-it p = single-has p _ (adds-persistence A p)
+  keeps-it p = single-has p (adds-persistence A p)
 
-  it-keeps : (p q : ℕ) → So (bit q (domain A .adds (persistence A p))) → q ≡ p
+  it-keeps : {p q : ℕ} → So (bit q (domain A .adds (persistence A p))) → q ≡ p
   unfolding domain
-  it-keeps p q b = single-only p _ q (adds-persistence A p) b
+  it-keeps {p} b = single-only (adds-persistence A p) b
 
   -- what v is together with among the adders of p: its persistence, and the actions
-  pub besides : (v p : ℕ) → p < A .props → beside (domain A) layer v p
+  pub besides : (v : ℕ) {p : ℕ} → p < A .props → beside (domain A) layer v p
       ≡ union (free v (persistence A p)) (joinOver (A .count) (λ j. keep (bit p (A .add j)) (free v j)))
   unfolding domain
-  besides v p k = ext-all _ _ (λ s. test-eq _ _
-      (λ b. let (w, h, n, f) = beside-at (domain A) layer s v p b in
+  besides v {p} k = ext-all (λ s. test-eq (λ b. let (w, h, n, f) = beside-at (domain A) layer s v p b in
       bit-union s (free v (persistence A p)) _ ∙ vertex-cases A
       (λ w. So (bit p (domain A .adds w)) → So (bit s (free v w)) → So (bit s (free v (persistence A p)) or bit s (joinOver (A .count) (λ j. keep (bit p (A .add j)) (free v j)))))
-      (λ j l n f. or-right _ _ (bits s ∙ any-of (A .count) _ j l (and-of _ _ (it-adds j p l n) f)))
-      (λ q l n f. or-left _ _ (subst (λ (x : ℕ). So (bit s (free v (persistence A x)))) (sym (it-keeps q p n)) f))
-      w h n f)
+      (λ j l n f. or-right _ (bits s ∙ any-of _ l (and-of (it-adds p l n) f)))
+      (λ q l n f. or-left _ (subst (λ (x : ℕ). So (bit s (free v (persistence A x)))) (sym (it-keeps n)) f))
+      h n f)
       (λ b. ⊎-elim
-      (λ f. beside-of (domain A) layer s v p (persistence A p) (persistence-below A p k) (keeps-it p) f)
-      (λ f. let (j, l, u) = any-at (A .count) (λ j. bit p (A .add j) and bit s (free v j)) (sym (bits s) ∙ f) in
-      beside-of (domain A) layer s v p j (action-below A j l) (adds-it j p l (and-left _ _ u)) (and-right _ _ u))
-      (or-at _ _ (sym (bit-union s (free v (persistence A p)) _) ∙ b))))
+      (λ f. beside-of (domain A) layer s v p (persistence-below A k) (keeps-it p) f)
+      (λ f. let (j, l, u) = any-at (sym (bits s) ∙ f) in
+      beside-of (domain A) layer s v p (action-below A l) (adds-it p l (and-left _ u)) (and-right _ u))
+      (or-at (sym (bit-union s (free v (persistence A p)) _) ∙ b))))
     where
       bits : (s : ℕ) → bit s (joinOver (A .count) (λ j. keep (bit p (A .add j)) (free v j))) ≡ anyBelow (A .count) (λ j. bit p (A .add j) and bit s (free v j))
-      bits s = bit-joinOver s _ _ (A .count) (λ j l. bit-keep s (bit p (A .add j)) _)
+      bits s = bit-joinOver s _ (λ j l. bit-keep s (bit p (A .add j)) _)
 
   -- by the rows of its adders
-  pub beside-rows : (i p : ℕ) → p < A .props → union (free i (persistence A p)) (joinOf m (adders p) (λ j. free j i)) ≡ beside (domain A) layer i p
+  pub beside-rows : (i : ℕ) {p : ℕ} → p < A .props → union (free i (persistence A p)) (joinOf m (adders p) (λ j. free j i)) ≡ beside (domain A) layer i p
   unfolding domain
-  beside-rows i p k = ap (union (free i (persistence A p))) (ext-all _ _ (λ s. test-eq _ _
-      (λ b. let (j, l, u) = any-at m (λ j. bit j (adders p) and bit s (free j i)) (sym (bit-joinOf s m (adders p) (λ j. free j i)) ∙ b) in
-      let h : j < A .count = bit-below j (adders p) (A .count) (startLabel-lt (A .count) (A .add) p) (and-left _ _ u) in
-      added-bits s ∙ any-of (A .count) _ j h (and-of _ _ (sym (bit-startLabel (A .count) (A .add) p j h) ∙ and-left _ _ u)
-      (ap (bit s) (free-turn (domain A .vertices) layer i j) ∙ and-right _ _ u)))
-      (λ b. let (j, h, u) = any-at (A .count) (λ j. bit p (A .add j) and bit s (free i j)) (sym (added-bits s) ∙ b) in
-      bit-joinOf s m (adders p) (λ j. free j i) ∙ any-of m _ j (omega (arith, sets .count)) (and-of _ _
-      (bit-startLabel (A .count) (A .add) p j h ∙ and-left _ _ u) (ap (bit s) (free-turn (domain A .vertices) layer j i) ∙ and-right _ _ u)))))
-      ∙ sym (besides i p k)
+  beside-rows i {p} k = ap (union (free i (persistence A p))) (ext-all (λ s. test-eq
+      (λ b. let (j, l, u) = any-at (sym (bit-joinOf s m (adders p) (λ j. free j i)) ∙ b) in
+      let h : j < A .count = bit-below (startLabel-lt (A .count) (A .add) p) (and-left _ u) in
+      added-bits s ∙ any-of _ h (and-of (sym (bit-startLabel (A .add) p h) ∙ and-left _ u)
+      (ap (bit s) (free-turn (domain A .vertices) layer i j) ∙ and-right _ u)))
+      (λ b. let (j, h, u) = any-at (sym (added-bits s) ∙ b) in
+      bit-joinOf s m (adders p) (λ j. free j i) ∙ any-of _ (omega (arith, sets .count)) (and-of
+      (bit-startLabel (A .add) p h ∙ and-left _ u) (ap (bit s) (free-turn (domain A .vertices) layer j i) ∙ and-right _ u)))))
+      ∙ sym (besides i k)
     where
       added-bits : (s : ℕ) → bit s (joinOver (A .count) (λ j. keep (bit p (A .add j)) (free i j))) ≡ anyBelow (A .count) (λ j. bit p (A .add j) and bit s (free i j))
-      added-bits s = bit-joinOver s _ _ (A .count) (λ j l. bit-keep s (bit p (A .add j)) _)
+      added-bits s = bit-joinOver s _ (λ j l. bit-keep s (bit p (A .add j)) _)
 
   -- one by one: those of a set, itself, and none of the others
-  pub beside-few : (i p set : ℕ) → i < A .count → p < A .props → set < 2 ^ A .count
+  pub beside-few : {i p set : ℕ} → i < A .count → p < A .props → set < 2 ^ A .count
       → ((j : ℕ) → j < A .count → (j ≡ i → ⊥) → So (fails (bit j set)) → free i j ≡ 0)
       → union (union (free i (persistence A p)) (joinOf m set (λ j. keep (bit p (A .add j)) (free i j)))) (keep (bit p (A .add i)) (free i i))
       ≡ beside (domain A) layer i p
   unfolding domain
-  beside-few i p set hi k inside none = ext-all _ _ (λ s. test-eq _ _ (to s) (from s)) ∙ sym (besides i p k)
+  beside-few {i} {p} {set} hi k inside none = ext-all (λ s. test-eq (to s) (from s)) ∙ sym (besides i k)
     where
       few : ℕ
       few = joinOf m set (λ j. keep (bit p (A .add j)) (free i j))
@@ -319,93 +315,92 @@ module _ (m all : ℕ) (A : Actions) (sets : Sets m A) (t : ℕ → ℕ → ℕ)
       every = joinOver (A .count) (λ j. keep (bit p (A .add j)) (free i j))
 
       bits : (s : ℕ) → bit s every ≡ anyBelow (A .count) (λ j. bit p (A .add j) and bit s (free i j))
-      bits s = bit-joinOver s _ _ (A .count) (λ j l. bit-keep s (bit p (A .add j)) _)
+      bits s = bit-joinOver s _ (λ j l. bit-keep s (bit p (A .add j)) _)
 
       to : (s : ℕ) → So (bit s (union (union (free i (persistence A p)) few) (keep (bit p (A .add i)) (free i i))))
           → So (bit s (union (free i (persistence A p)) every))
       to s b = bit-union s _ every ∙ ⊎-elim
           (λ u. ⊎-elim
-          (λ x. or-left _ _ x)
-          (λ x. let (j, l, y) = any-at m (λ j. bit j set and bit s (keep (bit p (A .add j)) (free i j))) (sym (bit-joinOf s m set _) ∙ x) in
-          or-right _ _ (bits s ∙ any-of (A .count) _ j (bit-below j set (A .count) inside (and-left _ _ y)) (sym (bit-keep s (bit p (A .add j)) _) ∙ and-right _ _ y)))
-          (or-at _ _ (sym (bit-union s (free i (persistence A p)) few) ∙ u)))
-          (λ u. or-right _ _ (bits s ∙ any-of (A .count) _ i hi (sym (bit-keep s (bit p (A .add i)) _) ∙ u)))
-          (or-at _ _ (sym (bit-union s (union (free i (persistence A p)) few) _) ∙ b))
+          (λ x. or-left _ x)
+          (λ x. let (j, l, y) = any-at (sym (bit-joinOf s m set _) ∙ x) in
+          or-right _ (bits s ∙ any-of _ (bit-below inside (and-left _ y)) (sym (bit-keep s (bit p (A .add j)) _) ∙ and-right _ y)))
+          (or-at (sym (bit-union s (free i (persistence A p)) few) ∙ u)))
+          (λ u. or-right _ (bits s ∙ any-of _ hi (sym (bit-keep s (bit p (A .add i)) _) ∙ u)))
+          (or-at (sym (bit-union s (union (free i (persistence A p)) few) _) ∙ b))
 
       one : (s j : ℕ) → j < A .count → So (bit p (A .add j)) → So (bit s (free i j)) → So (bit s (union (free i (persistence A p)) few) or bit s (keep (bit p (A .add i)) (free i i)))
       one s j h n f = ⊎-elim
-          (λ e. let q : j ≡ i = same-at j i e in or-right _ _ (bit-keep s (bit p (A .add i)) _ ∙ and-of _ _
+          (λ e. let q : j ≡ i = same-at e in or-right _ (bit-keep s (bit p (A .add i)) _ ∙ and-of
           (ap (λ (x : ℕ). bit p (A .add x)) (sym q) ∙ n) (ap (λ (x : ℕ). bit s (free i x)) (sym q) ∙ f)))
           (λ d. ⊎-elim
-          (λ y. or-left _ _ (bit-union s (free i (persistence A p)) few ∙ or-right _ _ (bit-joinOf s m set _
-          ∙ any-of m _ j (omega (arith, sets .count)) (and-of _ _ y (bit-keep s (bit p (A .add j)) _ ∙ and-of _ _ n f)))))
-          (λ y. absurd (no-bit-zero s (ap (bit s) (sym (none j h (λ q. fails-at _ d (same-of j i q)) y)) ∙ f)))
+          (λ y. or-left _ (bit-union s (free i (persistence A p)) few ∙ or-right _ (bit-joinOf s m set _
+          ∙ any-of _ (omega (arith, sets .count)) (and-of y (bit-keep s (bit p (A .add j)) _ ∙ and-of n f)))))
+          (λ y. absurd (no-bit-zero s (ap (bit s) (sym (none j h (λ q. fails-at d (same-of q)) y)) ∙ f)))
           (holds-or (bit j set)))
           (holds-or (same j i))
 
       from : (s : ℕ) → So (bit s (union (free i (persistence A p)) every))
           → So (bit s (union (union (free i (persistence A p)) few) (keep (bit p (A .add i)) (free i i))))
       from s b = bit-union s (union (free i (persistence A p)) few) _ ∙ ⊎-elim
-          (λ u. or-left _ _ (bit-union s (free i (persistence A p)) few ∙ or-left _ _ u))
-          (λ u. let (j, h, y) = any-at (A .count) (λ j. bit p (A .add j) and bit s (free i j)) (sym (bits s) ∙ u) in one s j h (and-left _ _ y) (and-right _ _ y))
-          (or-at _ _ (sym (bit-union s (free i (persistence A p)) every) ∙ b))
+          (λ u. or-left _ (bit-union s (free i (persistence A p)) few ∙ or-left _ u))
+          (λ u. let (j, h, y) = any-at (sym (bits s) ∙ u) in one s j h (and-left _ y) (and-right _ y))
+          (or-at (sym (bit-union s (free i (persistence A p)) every) ∙ b))
 
   -- ---- the next layer
 
   abbrev halfOf : ℕ → ℕ → ℕ
   halfOf p q = union (t p q) (joinOf m (adders p) (λ i. beside (domain A) layer i q))
 
-  half-at : (s p q : ℕ) → p < A .props → q < A .props → So (bit s (halfOf p q)) → Added (domain A) layer s p q
+  half-at : {s p q : ℕ} → p < A .props → q < A .props → So (bit s (halfOf p q)) → Added (domain A) layer s p q
   unfolding domain
-  half-at s p q hp hq b = ⊎-elim
+  half-at {s} {p} {q} hp hq b = ⊎-elim
       (λ f. record {
         v = persistence A p;
         w = persistence A q;
-        v-lt = persistence-below A p hp;
-        w-lt = persistence-below A q hq;
+        v-lt = persistence-below A hp;
+        w-lt = persistence-below A hq;
         adds-p = keeps-it p;
         adds-q = keeps-it q;
-        free = ap (bit s) (both-kept p q hp hq) ∙ f;
+        free = ap (bit s) (both-kept hp hq) ∙ f;
       })
       (λ f.
-      let (i, l, u) = any-at m (λ i. bit i (adders p) and bit s (beside (domain A) layer i q)) (sym (bit-joinOf s m (adders p) _) ∙ f) in
-      let h : i < A .count = bit-below i (adders p) (A .count) (startLabel-lt (A .count) (A .add) p) (and-left _ _ u) in
-      let (w, k, n, g) = beside-at (domain A) layer s i q (and-right _ _ u) in
+      let (i, l, u) = any-at (sym (bit-joinOf s m (adders p) _) ∙ f) in
+      let h : i < A .count = bit-below (startLabel-lt (A .count) (A .add) p) (and-left _ u) in
+      let (w, k, n, g) = beside-at (domain A) layer s i q (and-right _ u) in
       record {
         v = i;
         w = w;
-        v-lt = action-below A i h;
+        v-lt = action-below A h;
         w-lt = k;
-        adds-p = adds-it i p h (sym (bit-startLabel (A .count) (A .add) p i h) ∙ and-left _ _ u);
+        adds-p = adds-it p h (sym (bit-startLabel (A .add) p h) ∙ and-left _ u);
         adds-q = n;
         free = g;
       })
-      (or-at _ _ (sym (bit-union s (t p q) _) ∙ b))
+      (or-at (sym (bit-union s (t p q) _) ∙ b))
 
-  half-of : (s p q i : ℕ) → i < A .count → So (bit p (A .add i)) → So (bit s (beside (domain A) layer i q)) → So (bit s (halfOf p q))
+  half-of : (s p q : ℕ) {i : ℕ} → i < A .count → So (bit p (A .add i)) → So (bit s (beside (domain A) layer i q)) → So (bit s (halfOf p q))
   unfolding domain
-  half-of s p q i h n b =
-      bit-union s (t p q) _ ∙ or-right _ _ (bit-joinOf s m (adders p) _
-      ∙ any-of m _ i (omega (arith, sets .count)) (and-of _ _ (bit-startLabel (A .count) (A .add) p i h ∙ n) b))
+  half-of s p q h n b =
+      bit-union s (t p q) _ ∙ or-right _ (bit-joinOf s m (adders p) _
+      ∙ any-of _ (omega (arith, sets .count)) (and-of (bit-startLabel (A .add) p h ∙ n) b))
 
-  pub next-cells : (p q : ℕ) → p < A .props → q < A .props → union (halfOf p q) (halfOf q p) ≡ nextTogether (domain A) layer p q
+  pub next-cells : {p q : ℕ} → p < A .props → q < A .props → union (halfOf p q) (halfOf q p) ≡ nextTogether (domain A) layer p q
   unfolding domain
-  next-cells p q hp hq = ext-all _ _ (λ s. test-eq _ _
-      (λ b. added-of (domain A) layer s p q (⊎-elim
-      (λ f. half-at s p q hp hq f)
-      (λ f. added-turn (domain A) layer s q p (half-at s q p hq hp f))
-      (or-at _ _ (sym (bit-union s (halfOf p q) (halfOf q p)) ∙ b))))
-      (λ b. bit-union s (halfOf p q) (halfOf q p) ∙ from s (added-at (domain A) layer s p q b)))
+  next-cells {p} {q} hp hq = ext-all (λ s. test-eq (λ b. added-of (domain A) layer (⊎-elim
+      (λ f. half-at hp hq f)
+      (λ f. added-turn (domain A) layer (half-at hq hp f))
+      (or-at (sym (bit-union s (halfOf p q) (halfOf q p)) ∙ b))))
+      (λ b. bit-union s (halfOf p q) (halfOf q p) ∙ from s (added-at (domain A) layer b)))
     where
       from : (s : ℕ) → Added (domain A) layer s p q → So (bit s (halfOf p q) or bit s (halfOf q p))
       from s r = vertex-cases A
           (λ v. So (bit p (domain A .adds v)) → So (bit s (free v (r .w))) → So (bit s (halfOf p q) or bit s (halfOf q p)))
-          (λ i h n f. or-left _ _ (half-of s p q i h (it-adds i p h n) (beside-of (domain A) layer s i q (r .w) (r .w-lt) (r .adds-q) f)))
+          (λ i h n f. or-left _ (half-of s p q h (it-adds p h n) (beside-of (domain A) layer s i q (r .w-lt) (r .adds-q) f)))
           (λ a ha n f. vertex-cases A
           (λ w. So (bit q (domain A .adds w)) → So (bit s (free (persistence A a) w)) → So (bit s (halfOf p q) or bit s (halfOf q p)))
-          (λ j h n' f'. or-right _ _ (half-of s q p j h (it-adds j q h n') (beside-of (domain A) layer s j p (persistence A a) (persistence-below A a ha) n
+          (λ j h n' f'. or-right _ (half-of s q p h (it-adds q h n') (beside-of (domain A) layer s j p (persistence-below A ha) n
           (ap (bit s) (free-turn (domain A .vertices) layer j (persistence A a)) ∙ f'))))
-          (λ c hc n' f'. or-left _ _ (bit-union s (t p q) _ ∙ or-left _ _
-          (ap₂ (λ (x y : ℕ). bit s (t x y)) (it-keeps a p n) (it-keeps c q n') ∙ (ap (bit s) (sym (both-kept a c ha hc)) ∙ f'))))
-          (r .w) (r .w-lt) (r .adds-q) f)
-          (r .v) (r .v-lt) (r .adds-p) (r .free)
+          (λ c hc n' f'. or-left _ (bit-union s (t p q) _ ∙ or-left _
+          (ap₂ (λ (x y : ℕ). bit s (t x y)) (it-keeps n) (it-keeps n') ∙ (ap (bit s) (sym (both-kept ha hc)) ∙ f'))))
+          (r .w-lt) (r .adds-q) f)
+          (r .v-lt) (r .adds-p) (r .free)

@@ -21,24 +21,24 @@ use Rattle.rules.proofs.Layers.{getD-listOver, listOver-has, listOver-o
 -- ---- the list of candidates
 
 -- what adds p is an action or the persistence of p
-pub adder : (A : Actions) (p v : ℕ) → So (bit p (addsOf A v)) → (v < A .count) ⊎ (v ≡ persistence A p)
+pub adder : (A : Actions) (p : ℕ) {v : ℕ} → So (bit p (addsOf A v)) → (v < A .count) ⊎ (v ≡ persistence A p)
 unfolding addsOf persistence
-adder A p v t = ⊎-elim (λ b. inl (below-at _ _ b)) (λ f. inr (kept f)) (holds-or (below v (A .count)))
+adder A p {v} t = ⊎-elim (λ b. inl (below-at b)) (λ f. inr (kept f)) (holds-or (below v (A .count)))
   where
     kept : So (fails (below v (A .count))) → v ≡ A .count + p
     kept f =
-        let e : p ≡ v - A .count = single-only (v - A .count) _ p (choose-failed _ _ _ f) t in
-        omega (arith, below-fails _ _ f)
+        let e : p ≡ v - A .count = single-only (choose-failed _ _ f) t in
+        omega (arith, below-fails f)
 
 -- so each vertex that adds p is a candidate, and the candidates are vertices
-pub order-has : (A : Actions) (p v : ℕ) → So (bit p (addsOf A v)) → List·Memᴰ v (order A p)
+pub order-has : (A : Actions) (p : ℕ) {v : ℕ} → So (bit p (addsOf A v)) → List·Memᴰ v (order A p)
 unfolding order
-order-has A p v t = ⊎-elim (λ l. List·Memᴰ·tail (listOver-has (A .count) (λ a. a) v l)) (λ e. List·Memᴰ·head e) (adder A p v t)
+order-has A p t = ⊎-elim (λ l. List·Memᴰ·tail (listOver-has (A .count) (λ a. a) l)) (λ e. List·Memᴰ·head e) (adder A p t)
 
-pub order-vertices : (A : Actions) (p : ℕ) → p < A .props → (v : ℕ) → List·Memᴰ v (order A p) → v < A .count + A .props
+pub order-vertices : (A : Actions) {p : ℕ} → p < A .props → {v : ℕ} → List·Memᴰ v (order A p) → v < A .count + A .props
 unfolding order persistence
-order-vertices A p h v m =
-    ⊎-elim (λ e. omega arith) (λ k. let (i, l, e) = listOver-of (A .count) (λ a. a) v k in omega arith) (List·Memᴰ·cases-cons m)
+order-vertices A h m =
+    ⊎-elim (λ e. omega arith) (λ k. let (i, l, e) = listOver-of (A .count) k in omega arith) (List·Memᴰ·cases-cons m)
 
 -- ---- what one vertex takes: the states of its label that are still uncovered
 
@@ -54,12 +54,12 @@ module _ (A : Actions) (labels : List ℕ) (v : ℕ) (s : Support) where
       once true b = refl
       once false b = refl
 
-  pub takes-needed : (i q : ℕ) → q < A .props → bit i (labelIn (takes A labels v s .needed) q)
+  pub takes-needed : (i : ℕ) {q : ℕ} → q < A .props → bit i (labelIn (takes A labels v s .needed) q)
       ≡ (bit i (labelIn (s .needed) q) or (bit q (needsOf A v) and (bit i (s .left) and bit i (labelIn labels v))))
   unfolding takes labelIn
-  takes-needed i q h =
+  takes-needed i {q} h =
       let took = common (s .left) (labelIn labels v) in
-      ap (bit i) (getD-listOver (A .props) (λ q. union (labelIn (s .needed) q) (keep (bit q (needsOf A v)) took)) q h)
+      ap (bit i) (getD-listOver (λ q. union (labelIn (s .needed) q) (keep (bit q (needsOf A v)) took)) h)
       ∙ bit-union i (labelIn (s .needed) q) (keep (bit q (needsOf A v)) took)
       ∙ ap (λ (b : Bool). bit i (labelIn (s .needed) q) or b)
       (bit-keep i (bit q (needsOf A v)) took ∙ ap (λ (b : Bool). bit q (needsOf A v) and b) (bit-common i (s .left) (labelIn labels v)))
@@ -67,22 +67,22 @@ module _ (A : Actions) (labels : List ℕ) (v : ℕ) (s : Support) where
   pub takes-kept : (a : ℕ) → So (bit a (s .marks)) → So (bit a (takes A labels v s .marks))
   unfolding takes
   takes-kept a t = ⊎-elim
-      (λ h. ap (bit a) (choose-held _ _ _ h) ∙ bit-union a (s .marks) (single v) ∙ or-left _ _ t)
-      (λ f. ap (bit a) (choose-failed _ _ _ f) ∙ t)
+      (λ h. ap (bit a) (choose-held _ h) ∙ bit-union a (s .marks) (single v) ∙ or-left _ t)
+      (λ f. ap (bit a) (choose-failed _ _ f) ∙ t)
       (holds-or (below v (A .count) and fails (same (common (s .left) (labelIn labels v)) 0)))
 
   -- an action that takes a state is marked
   pub takes-marked : (i : ℕ) → v < A .count → So (bit i (s .left)) → So (bit i (labelIn labels v)) → So (bit v (takes A labels v s .marks))
   unfolding takes
   takes-marked i h l t =
-      ap (bit v) (choose-held _ _ _ (and-of _ _ (below-of _ _ h) (fails-of _ (λ e.
-      no-bit-zero i (ap (bit i) (sym (same-at _ _ e)) ∙ bit-common i (s .left) (labelIn labels v) ∙ and-of _ _ l t)))))
-      ∙ bit-union v (s .marks) (single v) ∙ or-right _ _ (single-has v (single v) refl)
+      ap (bit v) (choose-held _ (and-of (below-of h) (fails-of (λ e.
+      no-bit-zero i (ap (bit i) (sym (same-at e)) ∙ bit-common i (s .left) (labelIn labels v) ∙ and-of l t)))))
+      ∙ bit-union v (s .marks) (single v) ∙ or-right _ (single-has v refl)
 
   pub takes-bounded : s .marks < 2 ^ A .count → takes A labels v s .marks < 2 ^ A .count
   unfolding takes
   takes-bounded h =
-      choose-lt _ _ _ _ (λ c. union-lt (A .count) (s .marks) (single v) h (single-lt (A .count) v (below-at _ _ (and-left _ _ c)))) h
+      choose-lt (λ c. union-lt (A .count) h (single-lt (below-at (and-left _ c)))) h
 
 -- ---- what a search does to the states left, the marks and the needs
 
@@ -114,9 +114,9 @@ pub record Searched (A : Actions) (labels : List ℕ) (p : ℕ) (s s' : Support)
   pub grown : Grown A labels (λ i. So (bit i (s .left))) (s .marks) (s .needed) (s' .marks) (s' .needed)
   pub gone : (i : ℕ) → So (bit i (s .left)) → (So (bit i (s' .left)) → ⊥) → Supported A labels p i (s' .marks) (s' .needed)
 
-module _ (A : Actions) (labels : List ℕ) where
-  pub grown-none : (from : ℕ → Type 0) (marks : ℕ) (needed : List ℕ) → Grown A labels from marks needed marks needed
-  grown-none from marks needed = record {
+module _ {A : Actions} {labels : List ℕ} where
+  pub grown-none : {from : ℕ → Type 0} {marks : ℕ} {needed : List ℕ} → Grown A labels from marks needed marks needed
+  grown-none = record {
     marked = λ a t. t;
     kept = λ i q h t. t;
     source = λ i q h t. inl t;
@@ -146,10 +146,10 @@ module _ (A : Actions) (labels : List ℕ) where
     needs = λ q h t. g .kept i q h (s .needs q h t);
   }
 
-  searched-none : (p : ℕ) (s : Support) → Searched A labels p s s
-  searched-none p s = record {
+  searched-none : {p : ℕ} {s : Support} → Searched A labels p s s
+  searched-none = record {
     fewer = λ i t. t;
-    grown = grown-none _ (s .marks) (s .needed);
+    grown = grown-none;
     gone = λ i t f. absurd (f t);
   }
 
@@ -158,21 +158,21 @@ module _ (A : Actions) (labels : List ℕ) where
     fewer = λ i t. f .fewer i (g .fewer i t);
     grown = grown-both (λ i t. t) (f .fewer) (f .grown) (g .grown);
     gone = λ i t h.
-        ⊎-elim (λ u. g .gone i u h) (λ n. supported-kept (g .grown) (f .gone i t (fails-at _ n))) (holds-or (bit i (s' .left)));
+        ⊎-elim (λ u. g .gone i u h) (λ n. supported-kept (g .grown) (f .gone i t (fails-at n))) (holds-or (bit i (s' .left)));
   }
 
-  takes-searched : (p v : ℕ) (s : Support) → v < A .count + A .props → So (bit p (addsOf A v)) → Searched A labels p s (takes A labels v s)
-  takes-searched p v s l e = record {
-    fewer = λ i t. and-left _ _ (sym (takes-left A labels v s i) ∙ t);
+  takes-searched : {p v : ℕ} {s : Support} → v < A .count + A .props → So (bit p (addsOf A v)) → Searched A labels p s (takes A labels v s)
+  takes-searched {p} {v} {s} l e = record {
+    fewer = λ i t. and-left _ (sym (takes-left A labels v s i) ∙ t);
     grown = record {
       marked = takes-kept A labels v s;
-      kept = λ i q h t. takes-needed A labels v s i q h ∙ or-left _ _ t;
+      kept = λ i q h t. takes-needed A labels v s i h ∙ or-left _ t;
       source = λ i q h t. ⊎-elim inl
-          (λ u. inr (and-left _ _ (and-right _ _ u), record { vertex = v; known = l; needs = and-left _ _ u; labelled = and-right _ _ (and-right _ _ u) }))
-          (or-at _ _ (sym (takes-needed A labels v s i q h) ∙ t));
+          (λ u. inr (and-left _ (and-right _ u), record { vertex = v; known = l; needs = and-left _ u; labelled = and-right _ (and-right _ u) }))
+          (or-at (sym (takes-needed A labels v s i h) ∙ t));
       bounded = takes-bounded A labels v s;
     };
-    gone = λ i t f. taken i t (⊎-elim (λ u. u) (λ n. absurd (f (takes-left A labels v s i ∙ and-of _ _ t n))) (holds-or (bit i (labelIn labels v))));
+    gone = λ i t f. taken i t (⊎-elim (λ u. u) (λ n. absurd (f (takes-left A labels v s i ∙ and-of t n))) (holds-or (bit i (labelIn labels v))));
   }
     where
       taken : (i : ℕ) → So (bit i (s .left)) → So (bit i (labelIn labels v)) → Supported A labels p i (takes A labels v s .marks) (takes A labels v s .needed)
@@ -181,63 +181,63 @@ module _ (A : Actions) (labels : List ℕ) where
         adds = e;
         labelled = u;
         marked = λ h. takes-marked A labels v s i h t u;
-        needs = λ q h n. takes-needed A labels v s i q h ∙ or-right _ _ (and-of _ _ n (and-of _ _ t u));
+        needs = λ q h n. takes-needed A labels v s i h ∙ or-right _ (and-of n (and-of t u));
       }
 
 -- ---- the search, candidate by candidate
 
 module _ (A : Actions) (labels : List ℕ) (p : ℕ) where
   -- once no state is uncovered, nothing changes any more
-  pub support-ended : (vs : List ℕ) (s : Support) → s .left ≡ 0 → support A labels p vs s ≡ s
+  pub support-ended : (vs : List ℕ) {s : Support} → s .left ≡ 0 → support A labels p vs s ≡ s
   unfolding support
-  support-ended [] s e = refl
-  support-ended (v ∷ vs) s e = choose-held _ _ _ (same-of _ _ e)
+  support-ended [] e = refl
+  support-ended (v ∷ vs) e = choose-held _ (same-of e)
 
   pub support-takes : (v : ℕ) (vs : List ℕ) (s : Support) → So (fails (same (s .left) 0)) → So (bit p (addsOf A v))
       → support A labels p (v ∷ vs) s ≡ support A labels p vs (takes A labels v s)
   unfolding support
-  support-takes v vs s f t = choose-failed _ _ _ f ∙ ap (support A labels p vs) (choose-held _ _ _ t)
+  support-takes v vs s f t = choose-failed _ _ f ∙ ap (support A labels p vs) (choose-held _ t)
 
   pub support-skips : (v : ℕ) (vs : List ℕ) (s : Support) → So (fails (bit p (addsOf A v))) → support A labels p (v ∷ vs) s ≡ support A labels p vs s
   unfolding support
   support-skips v vs s f = ⊎-elim
-      (λ h. support-ended (v ∷ vs) s (same-at _ _ h) ∙ sym (support-ended vs s (same-at _ _ h)))
-      (λ g. choose-failed _ _ _ g ∙ ap (support A labels p vs) (choose-failed _ _ _ f))
+      (λ h. support-ended (v ∷ vs) (same-at h) ∙ sym (support-ended vs (same-at h)))
+      (λ g. choose-failed _ _ g ∙ ap (support A labels p vs) (choose-failed _ _ f))
       (holds-or (same (s .left) 0))
 
   -- so a search ends at once, takes by its first candidate, or passes it over
-  by-step : (P : Support → Type 0) (v : ℕ) (vs : List ℕ) (s : Support) → (s .left ≡ 0 → P s)
+  by-step : (P : Support → Type 0) (v : ℕ) (vs : List ℕ) {s : Support} → (s .left ≡ 0 → P s)
       → (So (bit p (addsOf A v)) → P (support A labels p vs (takes A labels v s)))
       → (So (fails (bit p (addsOf A v))) → P (support A labels p vs s)) → P (support A labels p (v ∷ vs) s)
-  by-step P v vs s ended taken skips = ⊎-elim
-      (λ h. subst P (sym (support-ended (v ∷ vs) s (same-at _ _ h))) (ended (same-at _ _ h)))
+  by-step P v vs {s} ended taken skips = ⊎-elim
+      (λ h. subst P (sym (support-ended (v ∷ vs) (same-at h))) (ended (same-at h)))
       (λ g. ⊎-elim (λ t. subst P (sym (support-takes v vs s g t)) (taken t)) (λ f. subst P (sym (support-skips v vs s f)) (skips f))
       (holds-or (bit p (addsOf A v))))
       (holds-or (same (s .left) 0))
 
-  pub support-searched : (vs : List ℕ) (s : Support) → ((v : ℕ) → List·Memᴰ v vs → v < A .count + A .props)
+  pub support-searched : (vs : List ℕ) {s : Support} → ((v : ℕ) → List·Memᴰ v vs → v < A .count + A .props)
       → Searched A labels p s (support A labels p vs s)
   unfolding support
-  support-searched [] s h = searched-none A labels p s
-  support-searched (v ∷ vs) s h =
-      by-step (Searched A labels p s) v vs s (λ e. searched-none A labels p s)
-      (λ t. searched-both A labels (takes-searched A labels p v s (h v (List·Memᴰ·head refl)) t)
-      (support-searched vs (takes A labels v s) (λ w m. h w (List·Memᴰ·tail m))))
-      (λ f. support-searched vs s (λ w m. h w (List·Memᴰ·tail m)))
+  support-searched [] h = searched-none
+  support-searched (v ∷ vs) {s} h =
+      by-step (Searched A labels p s) v vs (λ e. searched-none)
+      (λ t. searched-both (takes-searched (h v (List·Memᴰ·head refl)) t)
+      (support-searched vs (λ w m. h w (List·Memᴰ·tail m))))
+      (λ f. support-searched vs (λ w m. h w (List·Memᴰ·tail m)))
 
   -- a state that a candidate covers is not left
-  pub support-covers : (vs : List ℕ) (s : Support) (v i : ℕ) → ((w : ℕ) → List·Memᴰ w vs → w < A .count + A .props)
+  pub support-covers : (vs : List ℕ) (s : Support) {v : ℕ} (i : ℕ) → ((w : ℕ) → List·Memᴰ w vs → w < A .count + A .props)
       → List·Memᴰ v vs → So (bit p (addsOf A v)) → So (bit i (labelIn labels v)) → So (bit i (support A labels p vs s .left)) → ⊥
-  support-covers [] s v i h m a l t = List·Memᴰ·not-nil m
-  support-covers (w ∷ vs) s v i h m a l t = by-step (λ (r : Support). So (bit i (r .left)) → ⊥) w vs s
+  support-covers [] s i h m a l t = List·Memᴰ·not-nil m
+  support-covers (w ∷ vs) s i h m a l t = by-step (λ (r : Support). So (bit i (r .left)) → ⊥) w vs
       (λ e t. no-bit-zero i (ap (bit i) (sym e) ∙ t))
       (λ b t. ⊎-elim
-      (λ e. fails-at _ (and-right _ _ (sym (takes-left A labels w s i) ∙ support-searched vs (takes A labels w s) later .fewer i t))
+      (λ e. fails-at (and-right _ (sym (takes-left A labels w s i) ∙ support-searched vs later .fewer i t))
       (subst (λ (x : ℕ). So (bit i (labelIn labels x))) e l))
-      (λ k. support-covers vs (takes A labels w s) v i later k a l t) (List·Memᴰ·cases-cons m))
+      (λ k. support-covers vs (takes A labels w s) i later k a l t) (List·Memᴰ·cases-cons m))
       (λ f t. ⊎-elim
-      (λ e. fails-at _ f (subst (λ (x : ℕ). So (bit p (addsOf A x))) e a))
-      (λ k. support-covers vs s v i later k a l t) (List·Memᴰ·cases-cons m)) t
+      (λ e. fails-at f (subst (λ (x : ℕ). So (bit p (addsOf A x))) e a))
+      (λ k. support-covers vs s i later k a l t) (List·Memᴰ·cases-cons m)) t
     where
       later : (x : ℕ) → List·Memᴰ x vs → x < A .count + A .props
       later x k = h x (List·Memᴰ·tail k)

@@ -32,13 +32,12 @@ bit-came p w x = bit-union p (common x (w .kept)) (w .now) ∙ ap (λ (b : Bool)
 
 pub came-lt : (w : Course) (x : ℕ) → w .now < 2 ^ propWidth → x < 2 ^ propWidth → came w x < 2 ^ propWidth
 unfolding came
-came-lt w x h l = union-lt propWidth _ _ (common-lt propWidth x (w .kept) l) h
+came-lt w x h l = union-lt propWidth (common-lt propWidth (w .kept) l) h
 
 -- before the first step a state that has what all have, has what it started with
 came-new : (w : Course) (x : ℕ) → w .kept ≡ first propWidth → x < 2 ^ propWidth → ((p : ℕ) → So (bit p (w .now)) → So (bit p x)) → came w x ≡ x
-came-new w x k h sub = ext-all _ _ (λ p. bit-came p w x ∙ test-eq _ _
-    (λ t. ⊎-elim (λ u. and-left _ _ u) (sub p) (or-at _ _ t))
-    (λ t. or-left _ _ (and-of _ _ t (ap (bit p) k ∙ bit-first p propWidth ∙ below-of _ _ (bit-below p x propWidth h t)))))
+came-new w x k h sub = ext-all (λ p. bit-came p w x ∙ test-eq (λ t. ⊎-elim (λ u. and-left _ u) (sub p) (or-at t))
+    (λ t. or-left _ (and-of t (ap (bit p) k ∙ bit-first p propWidth ∙ below-of (bit-below h t)))))
 
 -- of what it started with, what is kept, what all have, and what a step lets stay and adds
 one-more : (x k n s q : Bool) → ((((x and k) or n) and s) or q) ≡ ((x and (k and s)) or ((n and s) or q))
@@ -55,7 +54,7 @@ moved stay plus x = union (common x stay) plus
 
 came-further : (stay plus : ℕ) (w : Course) (x : ℕ) → moved stay plus (came w x) ≡ came (further stay plus w) x
 unfolding further moved
-came-further stay plus w x = ext-all _ _ (λ p.
+came-further stay plus w x = ext-all (λ p.
     bit-union p (common (came w x) stay) plus
     ∙ ap (λ (b : Bool). b or bit p plus) (bit-common p (came w x) stay ∙ ap (λ (b : Bool). b and bit p stay) (bit-came p w x))
     ∙ one-more (bit p x) (bit p (w .kept)) (bit p (w .now)) (bit p stay) (bit p plus)
@@ -70,18 +69,18 @@ deletes-last false l a d h = refl
 deletes-last true true a false h = refl
 deletes-last true true true true h = refl
 deletes-last true true false true h = refl
-deletes-last true false a d h = absurd (fails-at false refl (h refl))
+deletes-last true false a d h = absurd (fails-at refl (h refl))
 
 moved-is : (A : Actions) (a x : ℕ) → x < 2 ^ propWidth → moved (stayOf A a) (plusOf A a) x ≡ after A a x
 unfolding after stayOf plusOf moved
-moved-is A a x h = ext-all _ _ (λ p.
+moved-is A a x h = ext-all (λ p.
     bit-union p (common x (without (first propWidth) (A .del a))) (without (A .add a) (A .del a))
     ∙ ap₂ _or_
     (bit-common p x (without (first propWidth) (A .del a))
     ∙ ap (λ (b : Bool). bit p x and b) (bit-without p (first propWidth) (A .del a)
     ∙ ap (λ (b : Bool). b and fails (bit p (A .del a))) (bit-first p propWidth)))
     (bit-without p (A .add a) (A .del a))
-    ∙ deletes-last (bit p x) (below p propWidth) (bit p (A .add a)) (bit p (A .del a)) (λ t. below-of _ _ (bit-below p x propWidth h t))
+    ∙ deletes-last (bit p x) (below p propWidth) (bit p (A .add a)) (bit p (A .del a)) (λ t. below-of (bit-below h t))
     ∙ sym (bit-without p (union x (A .add a)) (A .del a) ∙ ap (λ (b : Bool). b and fails (bit p (A .del a))) (bit-union p x (A .add a))))
 
 -- what all have, and how it stays small
@@ -91,40 +90,39 @@ now-further stay plus w sure e = sym (came-further stay plus w sure) ∙ ap (mov
 
 pub small-further : (stay plus : ℕ) (w : Course) → w .now < 2 ^ propWidth → plus < 2 ^ propWidth → further stay plus w .now < 2 ^ propWidth
 unfolding further
-small-further stay plus w h l = union-lt propWidth _ _ (common-lt propWidth (w .now) stay h) l
+small-further stay plus w h l = union-lt propWidth (common-lt propWidth stay h) l
 
 -- ---- one precondition
 
 -- all there is, of what all have and what is not needed: what is needed is there
 pub spare-bits : (A : Actions) (a now : ℕ) → A .pre a < 2 ^ propWidth → ((p : ℕ) → p < propWidth → So (bit p (union now (spareOf A a)))) → So (within (A .pre a) now)
 unfolding spareOf
-spare-bits A a now h full = within-of propWidth (A .pre a) now h (λ p l t. ⊎-elim
+spare-bits A a now h full = within-of now h (λ p l t. ⊎-elim
     (λ u. u)
-    (λ u. absurd (fails-at _ (and-right _ _ (sym (bit-without p (first propWidth) (A .pre a)) ∙ u)) t))
-    (or-at _ _ (sym (bit-union p now _) ∙ full p l)))
+    (λ u. absurd (fails-at (and-right _ (sym (bit-without p (first propWidth) (A .pre a)) ∙ u)) t))
+    (or-at (sym (bit-union p now _) ∙ full p l)))
 
 pub full-bits : (w p : ℕ) → p < propWidth → So (same w (first propWidth)) → So (bit p w)
-full-bits w p l t = ap (bit p) (same-at _ _ t) ∙ bit-first p propWidth ∙ below-of _ _ l
+full-bits w p l t = ap (bit p) (same-at t) ∙ bit-first p propWidth ∙ below-of l
 
 spare-lt : (A : Actions) (a : ℕ) → spareOf A a < 2 ^ propWidth
 unfolding spareOf
-spare-lt A a = without-lt propWidth (first propWidth) (A .pre a) (first-lt propWidth)
+spare-lt A a = without-lt propWidth (A .pre a) (first-lt propWidth)
 
 spare-there : (A : Actions) (a now p : ℕ) → So (within (A .pre a) now) → p < propWidth → So (bit p (union now (spareOf A a)))
 unfolding spareOf
 spare-there A a now p t l =
     bit-union p now _
     ∙ ⊎-elim
-    (λ u. or-left _ _ (within-at (A .pre a) now p t u))
-    (λ u. or-right _ _ (bit-without p (first propWidth) (A .pre a) ∙ and-of _ _ (bit-first p propWidth ∙ below-of _ _ l) u))
+    (λ u. or-left _ (within-at (A .pre a) now p t u))
+    (λ u. or-right _ (bit-without p (first propWidth) (A .pre a) ∙ and-of (bit-first p propWidth ∙ below-of l) u))
     (holds-or (bit p (A .pre a)))
 
 pub spare-is : (A : Actions) (a now : ℕ) → A .pre a < 2 ^ propWidth → now < 2 ^ propWidth
     → same (union now (spareOf A a)) (first propWidth) ≡ within (A .pre a) now
-spare-is A a now h small = test-eq _ _
-    (λ t. spare-bits A a now h (λ p l. full-bits _ p l t))
-    (λ t. same-of _ _ (ext propWidth _ _ (union-lt propWidth now _ small (spare-lt A a)) (first-lt propWidth) (λ p l.
-    spare-there A a now p t l ∙ sym (bit-first p propWidth ∙ below-of _ _ l))))
+spare-is A a now h small = test-eq (λ t. spare-bits A a now h (λ p l. full-bits _ p l t))
+    (λ t. same-of (ext (union-lt propWidth small (spare-lt A a)) (first-lt propWidth) (λ p l.
+    spare-there A a now p t l ∙ sym (bit-first p propWidth ∙ below-of l))))
 
 -- ---- all states
 
@@ -135,17 +133,17 @@ module _ (n : ℕ) (start : ℕ → ℕ) (set : ℕ) (narrow : (s : ℕ) → s <
 
   pub sets-new : (w : Course) → w .kept ≡ first propWidth → w .now ≡ meetOf n set start (first propWidth) → listOver n start ≡ setsOf n start set w
   unfolding setsOf choose
-  sets-new w k e = listOver-eq n _ _ (λ s l. go s l (bit s set) refl)
+  sets-new w k e = listOver-eq (λ s l. go s l (bit s set) refl)
     where
       go : (s : ℕ) → s < n → (b : Bool) → bit s set ≡ b → start s ≡ choose b (came w (start s)) (start s)
-      go s l true t = sym (came-new w (start s) k (narrow s l) (λ p u. meetOf-at p n set (first propWidth) start (sym (ap (bit p) e) ∙ u) .1 s l t))
+      go s l true t = sym (came-new w (start s) k (narrow s l) (λ p u. meetOf-at p set (first propWidth) start (sym (ap (bit p) e) ∙ u) .1 s l t))
       go s l false t = refl
 
   pub sets-further : (A : Actions) (a : ℕ) (w : Course) → w .now < 2 ^ propWidth
       → stepped A n set a (setsOf n start set w) ≡ setsOf n start set (further (stayOf A a) (plusOf A a) w)
   unfolding stepped setsOf choose
-  sets-further A a w h = listOver-eq n _ _ (λ s l.
-      ap (λ (x : ℕ). choose (bit s set) (after A a x) x) (getD-listOver n _ s l) ∙ go (start s) (narrow s l) (bit s set))
+  sets-further A a w h = listOver-eq (λ s l.
+      ap (λ (x : ℕ). choose (bit s set) (after A a x) x) (getD-listOver _ l) ∙ go (start s) (narrow s l) (bit s set))
     where
       go : (x : ℕ) → x < 2 ^ propWidth → (b : Bool)
           → choose b (after A a (choose b (came w x) x)) (choose b (came w x) x)
@@ -156,42 +154,41 @@ module _ (n : ℕ) (start : ℕ → ℕ) (set : ℕ) (narrow : (s : ℕ) → s <
   -- the set of a state of the set
   set-in : (w : Course) (s : ℕ) → s < n → So (bit s set) → getD (setsOf n start set w) s 0 ≡ came w (start s)
   unfolding setsOf
-  set-in w s l t = getD-listOver n _ s l ∙ choose-held _ _ _ t
+  set-in w s l t = getD-listOver _ l ∙ choose-held _ t
 
   -- a precondition is in every state of the set exactly when it is in what came of all that they have in common at the start
   module _ (few : n ≤ stateWidth) (some : Some n set) (w : Course) (sure : ℕ) (is : sure ≡ meetOf n set start (first propWidth)) where
     sure-at : (p s : ℕ) → So (bit p sure) → s < n → So (bit s set) → So (bit p (start s))
-    sure-at p s t = meetOf-at p n set (first propWidth) start (sym (ap (bit p) is) ∙ t) .1 s
+    sure-at p s t = meetOf-at p set (first propWidth) start (sym (ap (bit p) is) ∙ t) .1 s
 
     sure-of : (p : ℕ) → p < propWidth → ((s : ℕ) → s < n → So (bit s set) → So (bit p (start s))) → So (bit p sure)
-    sure-of p h each = ap (bit p) is ∙ meetOf-of p n set (first propWidth) start (bit-first p propWidth ∙ below-of _ _ h) each
+    sure-of p h each = ap (bit p) is ∙ meetOf-of p set (first propWidth) start (bit-first p propWidth ∙ below-of h) each
 
     -- a proposition that came to all states of the set, and was not added
     kept-in : (p : ℕ) → p < propWidth → ((s : ℕ) → s < n → So (bit s set) → So (bit p (start s) and bit p (w .kept))) → So (bit p (came w sure))
     kept-in p h each =
         bit-came p w sure
-        ∙ or-left _ _ (and-of _ _ (sure-of p h (λ s l t. and-left _ _ (each s l t)))
-        (and-right _ _ (each (trailingZeros wordWidth set) (lowest-lt n set few (some .inside) (some .some)) (lowest-in n set few (some .inside)
+        ∙ or-left _ (and-of (sure-of p h (λ s l t. and-left _ (each s l t)))
+        (and-right _ (each (trailingZeros wordWidth set) (lowest-lt n set few (some .inside) (some .some)) (lowest-in n set few (some .inside)
         (some .some)))))
 
     came-all : (p : ℕ) → p < propWidth → ((s : ℕ) → s < n → So (bit s set) → So (bit p (came w (start s)))) → So (bit p (came w sure))
     came-all p h each = ⊎-elim
-        (λ t. bit-came p w sure ∙ or-right _ _ t)
-        (λ f. kept-in p h (λ s l t. ⊎-elim (λ k. k) (λ a. absurd (fails-at _ f a)) (or-at _ _ (sym (bit-came p w (start s)) ∙ each s l t))))
+        (λ t. bit-came p w sure ∙ or-right _ t)
+        (λ f. kept-in p h (λ s l t. ⊎-elim (λ k. k) (λ a. absurd (fails-at f a)) (or-at (sym (bit-came p w (start s)) ∙ each s l t))))
         (holds-or (bit p (w .now)))
 
     came-each : (p s : ℕ) → So (bit p (came w sure)) → s < n → So (bit s set) → So (bit p (came w (start s)))
     came-each p s t l i =
         bit-came p w (start s)
         ∙ ⊎-elim
-        (λ k. or-left _ _ (and-of _ _ (sure-at p s (and-left _ _ k) l i) (and-right _ _ k)))
-        (λ a. or-right _ _ a)
-        (or-at _ _ (sym (bit-came p w sure) ∙ t))
+        (λ k. or-left _ (and-of (sure-at p s (and-left _ k) l i) (and-right _ k)))
+        (λ a. or-right _ a)
+        (or-at (sym (bit-came p w sure) ∙ t))
 
     pub ready-sure : (A : Actions) (a : ℕ) → A .pre a < 2 ^ propWidth → ready A n set a (setsOf n start set w) ≡ within (A .pre a) (came w sure)
     unfolding ready
-    ready-sure A a h = test-eq _ _
-        (λ t. within-of propWidth (A .pre a) (came w sure) h (λ p l m. came-all p l (λ s k i.
-        ap (bit p) (sym (set-in w s k i)) ∙ within-at (A .pre a) _ p (implies-at _ _ (all-at n _ t s k) i) m)))
-        (λ t. all-of n _ (λ s k. implies-of _ _ (λ i. within-of propWidth (A .pre a) _ h (λ p l m.
+    ready-sure A a h = test-eq (λ t. within-of (came w sure) h (λ p l m. came-all p l (λ s k i.
+        ap (bit p) (sym (set-in w s k i)) ∙ within-at (A .pre a) _ p (implies-at (all-at _ t k) i) m)))
+        (λ t. all-of (λ s k. implies-of (λ i. within-of {n = propWidth} _ h (λ p l m.
         ap (bit p) (set-in w s k i) ∙ came-each p s (within-at (A .pre a) (came w sure) p t m) k i))))

@@ -30,7 +30,7 @@ pub hold-none : {f : ℕ → Bool} {n : ℕ} → Holds f n 0
 hold-none = record { within = omega arith; is = λ k h. absurd (omega arith) }
 
 pub hold-more : {f : ℕ → Bool} {n i : ℕ} → Holds f n i → i < n → So (f i) → Holds f n (i + 1)
-hold-more {f} {n} {i} h l t = record { within = omega arith; is = λ k m. below-suc (λ x. So (f x)) i t (h .is) k (omega arith) }
+hold-more {f} {n} {i} h l t = record { within = omega arith; is = λ k m. below-suc t (h .is) (omega arith) }
 
 -- ---- the numbers of a list, so far all below the number of actions
 
@@ -38,19 +38,19 @@ module _ (actions : ℕ) (list : List ℕ) (i : ℕ) (so-far : Holds (λ k. belo
   unknown-first : (i < length list → actions ≤ getD list i 0) → i ≡ firstUnknown actions list
   unfolding firstUnknown
   unknown-first at =
-      first-unique (length list) _ i (so-far .within) (λ k h t. fails-at _ t (so-far .is k h)) (λ l. is-fails _ (below-not _ _ (at l)))
+      first-unique (so-far .within) (λ k h t. fails-at t (so-far .is k h)) (λ l. is-fails (below-not (at l)))
 
   pub unknown-found : i < length list → actions ≤ getD list i 0 → refused 11 i ≡ numbersRule actions list
   unfolding numbersRule
   unknown-found l h =
       let e = unknown-first (λ _. h) in
-      ap (refused 11) e ∙ sym (choose-held _ _ _ (below-of _ _ (subst (λ (x : ℕ). x < length list) e l)))
+      ap (refused 11) e ∙ sym (choose-held _ (below-of (subst (λ (x : ℕ). x < length list) e l)))
 
   pub none-unknown : length list ≤ i → accepted tt ≡ numbersRule actions list
   unfolding numbersRule
   none-unknown h =
       let e = unknown-first (λ l. absurd (omega arith)) in
-      sym (choose-failed _ _ _ (is-fails _ (below-not _ _ (subst (λ (x : ℕ). length list ≤ x) e h))))
+      sym (choose-failed _ _ (is-fails (below-not (subst (λ (x : ℕ). length list ≤ x) e h))))
 
 -- ---- the greatest of the numbers so far
 
@@ -76,7 +76,7 @@ most-done {list} {i} m h = let e : i ≡ length list = omega (arith, m .within) 
 pub all-known : (actions : ℕ) (list : List ℕ) → greatest (length list) (λ k. getD list k 0) < actions → accepted tt ≡ numbersRule actions list
 all-known actions list h =
     none-unknown actions list (length list)
-    (record { within = omega arith; is = λ k l. below-of _ _ (omega (arith, greatest-at (length list) (λ k. getD list k 0) k l)) }) (omega arith)
+    (record { within = omega arith; is = λ k l. below-of (omega (arith, greatest-at (length list) (λ k. getD list k 0) l)) }) (omega arith)
 
 -- a set that passes
 pub some-means : (n set : ℕ) → setRule n set ≡ accepted tt → Some n set
@@ -88,8 +88,8 @@ unfolding sequenceRule numbersRule firstUnknown
 sequence-means actions list e =
     let (short, e1) = passed-if-not (below maxSteps (length list)) 11 maxSteps _ tt e in
     let (none, e2) = passed-if-not _ 11 _ _ tt e1 in
-    let all : length list ≤ firstBelow (length list) (λ i. fails (below (getD list i 0) actions)) = below-fails _ _ none in
-    (below-fails _ _ short, λ i h. known i (first-before (length list) _ i (le-trans h all)))
+    let all : length list ≤ firstBelow (length list) (λ i. fails (below (getD list i 0) actions)) = below-fails none in
+    (below-fails short, λ i h. known i (first-before (length list) _ i (le-trans h all)))
   where
     known : (i : ℕ) → (So (fails (below (getD list i 0) actions)) → ⊥) → getD list i 0 < actions
-    known i known-not = ⊎-elim (below-at _ _) (λ t. absurd (known-not t)) (holds-or (below (getD list i 0) actions))
+    known i known-not = ⊎-elim below-at (λ t. absurd (known-not t)) (holds-or (below (getD list i 0) actions))

@@ -42,17 +42,16 @@ pub record Narrow (A : Actions) (n : ℕ) (start : ℕ → ℕ) : Type 0 where
 
 -- what is in a part of a word, and in the word
 union-part : (x y : ℕ) → union (common x y) x ≡ x
-union-part x y = ext-all _ _ (λ p. bit-union p (common x y) x ∙ test-eq _ _
-    (λ t. ⊎-elim (λ u. and-left _ _ (sym (bit-common p x y) ∙ u)) (λ u. u) (or-at _ _ t))
-    (λ t. or-right _ _ t))
+union-part x y = ext-all (λ p. bit-union p (common x y) x ∙ test-eq (λ t. ⊎-elim (λ u. and-left _ (sym (bit-common p x y) ∙ u)) (λ u. u) (or-at t))
+    (λ t. or-right _ t))
 
 meet-lt : (n set : ℕ) (start : ℕ → ℕ) → meetOf n set start (first propWidth) < 2 ^ propWidth
 unfolding meetOf
-meet-lt n set start = meetOver-lt propWidth _ n (first propWidth) (first-lt propWidth)
+meet-lt n set start = meetOver-lt propWidth _ n (first-lt propWidth)
 
 plus-lt : (A : Actions) (a : ℕ) → A .add a < 2 ^ propWidth → plusOf A a < 2 ^ propWidth
 unfolding plusOf
-plus-lt A a h = without-lt propWidth (A .add a) (A .del a) h
+plus-lt A a h = without-lt propWidth (A .del a) h
 
 -- ---- at step i, what is left of the run is a run of the rest of the list from what the steps so far have made of the states
 
@@ -95,14 +94,14 @@ module _ {A : Actions} {n : ℕ} {start : ℕ → ℕ} {set : ℕ} {list : List 
       inside = omega arith;
       small = small-further (stayOf A a) (plusOf A a) w (g .small) (plus-lt A a (narrow .add a l));
       now-is = now-further (stayOf A a) (plusOf A a) w _ (g .now-is);
-      is = turn a g h e ∙ choose-held _ _ _ (asked a g l ∙ t)
+      is = turn a g h e ∙ choose-held _ (asked a g l ∙ t)
           ∙ ap₂ (λ (k : ℕ) (xs : List ℕ). runFrom A n set k xs (drop k list)) (sym (add-one i))
           (sets-further n start set (narrow .starts) A a w (g .small));
     }
 
     pub go-off : {i : ℕ} {w : Course} (a : ℕ) → Going A n start set list i w → i < length list → a ≡ getD list i 0 → a < A .count
         → within (A .pre a) (w .now) ≡ false → lacks i ≡ runOf A n start set list
-    go-off {i} {w} a g h e l f = sym (turn a g h e ∙ choose-failed _ _ _ (is-fails _ (asked a g l ∙ f)))
+    go-off {i} {w} a g h e l f = sym (turn a g h e ∙ choose-failed _ _ (is-fails (asked a g l ∙ f)))
 
   pub go-done : {i : ℕ} {w : Course} → Going A n start set list i w → length list ≤ i → ended (setsOf n start set w) ≡ runOf A n start set list
   unfolding runFrom
@@ -122,7 +121,7 @@ pub record Words (A : Actions) (spares stays pluses : List ℕ) : Type 0 where
   pub plus : pluses ≡ listOver (A .count) (plusOf A)
 
 word-at : (m : ℕ) (f : ℕ → ℕ) (l : List ℕ) (a : ℕ) → l ≡ listOver m f → a < m → getD l a 0 ≡ f a
-word-at m f l a e h = ap (λ (x : List ℕ). getD x a 0) e ∙ getD-listOver m f a h
+word-at m f l a e h = ap (λ (x : List ℕ). getD x a 0) e ∙ getD-listOver f h
 
 -- the block is a part of the list
 pub record Part (list : List ℕ) (at : ℕ) (block : List ℕ) : Type 0 where
@@ -172,9 +171,9 @@ module _ {A : Actions} {n : ℕ} {start : ℕ → ℕ} {set : ℕ} {list : List 
   -- all had
   pub block-full : (held : ℕ) → held ≡ meetOver (length block) (heldAt spares stays pluses block w) (first propWidth) → held ≡ first propWidth
       → Going A n start set list (at + length block) (courseAt stays pluses block w (length block))
-  block-full held e f = go-block (length block) (omega arith) (λ k h p l. all-at (length block) _ (and-right _ _
-      (sym (ap (bit p) e ∙ bit-meetOver p (heldAt spares stays pluses block w) (λ i. bit p (heldAt spares stays pluses block w i)) (length block) (first propWidth)
-      (λ i m. refl)) ∙ full-bits held p l (same-of _ _ f))) k h)
+  block-full held e f = go-block (length block) (omega arith) (λ k h p l. all-at _ (and-right _
+      (sym (ap (bit p) e ∙ bit-meetOver p (heldAt spares stays pluses block w) (length block) (first propWidth)
+      (λ i m. refl)) ∙ full-bits held p l (same-of f))) h)
 
   pub block-on : {end : ℕ} {r : Walked} → Walks spares stays pluses block w r → r .held ≡ first propWidth → at + length block ≡ end
       → Going A n start set list end (r .course)
@@ -187,7 +186,7 @@ module _ {A : Actions} {n : ℕ} {start : ℕ → ℕ} {set : ℕ} {list : List 
     pub block-found : (held : ℕ) → held ≡ meetOver (length block) (heldAt spares stays pluses block w) (first propWidth) → (held ≡ first propWidth → ⊥)
         → r < length block
     block-found held e f = by-cases (decLt r (length block)) (λ h. h) (λ h. absurd (f (e ∙ meet-full (length block) _ (λ k l.
-        same-at _ _ (stops .before k (omega arith))))))
+        same-at (stops .before k (omega arith))))))
 
     pub block-off : r < length block → lacks (at + r) ≡ runOf A n start set list
     block-off h =

@@ -101,8 +101,8 @@ module _ {spares stays pluses list : List ℕ} {w₀ : Course} where
         tables = g .tables;
         inside = omega arith;
         course-is = q ∙ course-next stays pluses list w₀ w i a (g .course-is) e;
-        before = λ k l. below-suc (λ x. So (same (heldAt spares stays pluses list w₀ x) (first propWidth))) i
-            (ap (λ (x : ℕ). same x (first propWidth)) (sym (held-here spares stays pluses list w₀ w i a (g .course-is) e)) ∙ t) (g .before) k (omega arith);
+        before = λ k l. below-suc
+            (ap (λ (x : ℕ). same x (first propWidth)) (sym (held-here spares stays pluses list w₀ w i a (g .course-is) e)) ∙ t) (g .before) (omega arith);
       }
 
   pub find-off : {w : Course} {i : ℕ} (a : ℕ) → Finding spares stays pluses list w₀ w i → a ≡ getD list i 0

@@ -31,17 +31,17 @@ module _ {file : List ℕ} {c : Counts} {depth : ℕ} {found : List ℕ} (f : Fo
 
   pub level-bound : (t : ℕ) → levelRule file depth set goal found ≡ accepted (level t) → t ≤ length list
   level-bound t e =
-      claims.level-bound (actionsOf file c) (c .states) (startOf file c) depth found (built f) set goal (some .few) list (r .ends) known (r .ran)
-      (λ s h b. r .goals s b) t (level-says f set goal some over _ e)
+      claims.level-bound (actionsOf file c) (startOf file c) depth found (built f) goal (some .few) list known (r .ran)
+      (λ s h b. r .goals s b) (level-says f set goal some over _ e)
 
   pub never-bound : levelRule file depth set goal found ≡ accepted never → ⊥
   never-bound e =
-      claims.never-bound (actionsOf file c) (c .states) (startOf file c) depth found (built f) set goal (some .few) list (r .ends) known (r .ran)
+      claims.never-bound (actionsOf file c) (startOf file c) depth found (built f) goal (some .few) list known (r .ran)
       (λ s h b. r .goals s b) (level-says f set goal some over _ e)
 
   pub depth-bound : levelRule file depth set goal found ≡ accepted notByDepth → depth < length list
   depth-bound e =
-      claims.depth-bound (actionsOf file c) (c .states) (startOf file c) depth found (built f) set goal (some .few) list (r .ends) known (r .ran)
+      claims.depth-bound (actionsOf file c) (startOf file c) depth found (built f) goal (some .few) list known (r .ran)
       (λ s h b. r .goals s b) (level-says f set goal some over _ e)
 
 -- a list that the run call accepts, with end sets that have the goal
@@ -63,15 +63,15 @@ module _ {file : List ℕ} {c : Counts} (taken : fileRule file ≡ accepted c) {
   numbers-pass : sequenceRule (c .actions) list ≡ accepted tt
   unfolding sequenceRule
   numbers-pass =
-      choose-failed _ _ _ (is-fails _ (below-not _ _ short))
+      choose-failed _ _ (is-fails (below-not short))
       ∙ sym (none-unknown (c .actions) list (length list)
-      (record { within = omega arith; is = λ k h. below-of _ _ (r .known k h) }) (omega arith))
+      (record { within = omega arith; is = λ k h. below-of (r .known k h) }) (omega arith))
 
   pub run-accepts : runRule file set list room ≡ accepted (r .ends)
   unfolding runRule runTaken endRule ranVerdict
   run-accepts =
       then-accepted (fileRule file) _ c taken
-      ∙ then-accepted _ _ tt (sym (some-states (c .states) set (same-not set 0 (some .some)) (some .few)))
+      ∙ then-accepted _ _ tt (sym (some-states (c .states) set (same-not (some .some)) (some .few)))
       ∙ then-accepted _ _ tt (sym (long-output (c .states) room enough))
       ∙ then-accepted _ _ tt numbers-pass
       ∙ ap ranVerdict (r .ran)

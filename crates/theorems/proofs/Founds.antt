@@ -65,7 +65,7 @@ module _ {file : List ℕ} {c : Counts} {depth : ℕ} {found : List ℕ} (f : Fo
   pub asked-passes : (set goal : ℕ) → StatesOf c set → GoalOf c goal → Passed c depth (askedRule c set goal) (length found)
   asked-passes set goal s g = record {
     deep = deep;
-    fine = asked-of c set goal (sym (some-states (c .states) set (same-not set 0 (s .some)) (s .few))) (sym (fit-goal (c .props) goal g));
+    fine = asked-of c set goal (sym (some-states (c .states) set (same-not (s .some)) (s .few))) (sym (fit-goal (c .props) goal g));
     fits = fits;
   }
 
@@ -81,11 +81,11 @@ module _ {file : List ℕ} {c : Counts} {depth : ℕ} {found : List ℕ} (f : Fo
 
 -- one state is a set of states
 pub one-state : (c : Counts) (s : ℕ) → s < c .states → StatesOf c (single s)
-one-state c s h = record { some = λ e. omega (arith, pow-pos s); few = single-lt (c .states) s h }
+one-state c s h = record { some = λ e. omega (arith, pow-pos s); few = single-lt h }
 
 -- a state of S is one of the file
 pub is-state : {c : Counts} {set : ℕ} → StatesOf c set → (s : ℕ) → So (bit s set) → s < c .states
-is-state {c} {set} h s b = bit-below s set (c .states) (h .few) b
+is-state {c} {set} h s b = bit-below (h .few) b
 
 -- an accepted build leaves its words in front of what was there
 pub build-leaves : (file : List ℕ) (c : Counts) (depth : ℕ) (memory words : List ℕ) → fileRule file ≡ accepted c

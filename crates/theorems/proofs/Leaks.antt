@@ -57,7 +57,7 @@ module _ (file : List ℕ) (c : Counts) (file' : List ℕ) (c' : Counts) (same :
     words-same s h h' e i =
         ap (λ (x : List ℕ). bit s (getD x i 0))
         (are f ∙ ap (λ (D : Domain). graphWords D (c .states) (startOf file c) depth) domain-is)
-        ∙ no-leak (domainOf file' c') depth (c .states) (c' .states) (startOf file c) (startOf file' c') s h h' e i
+        ∙ no-leak (domainOf file' c') depth (startOf file c) (startOf file' c') h h' e i
         ∙ ap (λ (x : List ℕ). bit s (getD x i 0)) (sym (are f'))
 
     module _ {set goal : ℕ} (some : StatesOf c set) (some' : StatesOf c' set) (over : GoalOf c goal)
@@ -82,29 +82,29 @@ module _ (file : List ℕ) (c : Counts) (file' : List ℕ) (c' : Counts) (same :
           → AgreeIn set (labelIn (propsIn (shapeOf (domainOf file c)) found 0) p) (labelIn (propsIn (shapeOf (domainOf file' c')) found' 0) p)
       unfolding domain
       props-agree p h s b =
-          props-in-agree (domainOf file c) (c .states) (startOf file c) depth found (built f) s (is-state some s b) 0 (omega arith) .label p h
+          props-in-agree (domainOf file c) (c .states) (startOf file c) depth found (built f) (is-state some s b) (omega arith) .label p h
           ∙ ap₂ (λ (D : Domain) (x : ℕ). ownProps D x 0 .has p) domain-is (agree s b)
-          ∙ sym (props-in-agree (domainOf file' c') (c' .states) (startOf file' c') depth found' (built f') s (is-state some' s b) 0 (omega arith) .label p
+          ∙ sym (props-in-agree (domainOf file' c') (c' .states) (startOf file' c') depth found' (built f') (is-state some' s b) (omega arith) .label p
           (subst (λ (x : ℕ). p < x) (same .props) h))
 
       actions-agree : (t : ℕ) → t < depth → (v : ℕ) → v < actionsOf file c .count + actionsOf file c .props
           → AgreeIn set (labelIn (actionsIn (shapeOf (domainOf file c)) found t) v) (labelIn (actionsIn (shapeOf (domainOf file' c')) found' t) v)
       unfolding domain
       actions-agree t l v h s b =
-          actions-in-agree (domainOf file c) (c .states) (startOf file c) depth found (built f) s (is-state some s b) t l .label v h
+          actions-in-agree (domainOf file c) (c .states) (startOf file c) depth found (built f) (is-state some s b) l .label v h
           ∙ ap₂ (λ (D : Domain) (x : ℕ). ownActions D (ownProps D x t) .has v) domain-is (agree s b)
-          ∙ sym (actions-in-agree (domainOf file' c') (c' .states) (startOf file' c') depth found' (built f') s (is-state some' s b) t l .label v
+          ∙ sym (actions-in-agree (domainOf file' c') (c' .states) (startOf file' c') depth found' (built f') (is-state some' s b) l .label v
           (subst (λ (x : ℕ). v < x) (ap₂ (λ (x y : ℕ). x + y) (same .count) (same .props)) h))
 
       plan-at : (t : ℕ) → levelRule file depth set goal found ≡ accepted (level t)
           → planOf (actionsOf file c) depth set goal found ≡ planOf (actionsOf file' c') depth set goal found'
       plan-at t e =
-          planOf-at (actionsOf file c) depth set goal found t (level-says f set goal some over _ e)
-          ∙ descend-same (actionsOf file c) (actionsOf file' c') (plan-reads same) set depth found found' props-agree actions-agree t
+          planOf-at (actionsOf file c) depth set goal found (level-says f set goal some over _ e)
+          ∙ descend-same (plan-reads same) set found found' props-agree actions-agree t
           (largest f some over t e .0)
           (goals (actionsOf file c) set goal) [] (goals-inside (actionsOf file c) set goal)
           ∙ ap (λ (n : ℕ). descend (actionsOf file' c') found' t (listOver n (λ p. keep (bit p goal) set)) []) (same .props)
-          ∙ sym (planOf-at (actionsOf file' c') depth set goal found' t (level-says f' set goal some' over' _ (level-same t .0 e)))
+          ∙ sym (planOf-at (actionsOf file' c') depth set goal found' (level-says f' set goal some' over' _ (level-same t .0 e)))
 
       module _ (room : ℕ) (enough : depth ≤ room) where
         no-plans : ((t : ℕ) → levelRule file depth set goal found ≡ accepted (level t) → ⊥)

@@ -36,13 +36,13 @@ greatest-is (suc n) g = ⊎-elim
 
 keep-failed : (b : Bool) (w : ℕ) → So (fails b) → keep b w ≡ 0
 unfolding keep
-keep-failed b w h = choose-failed b w 0 h
+keep-failed b w h = choose-failed b w h
 
 -- a set that is not empty has a state
 member-of : {c : Counts} {set : ℕ} → StatesOf c set → (s : ℕ) × So (bit s set)
 member-of {c} {set} h = ⊎-elim
-    (λ t. let (s, l, b) = any-at _ _ t in (s, b))
-    (λ t. absurd (h .some (no-bits (c .states) set (h .few) (λ i l b. fails-at _ t (any-of (c .states) _ i l b)))))
+    (λ t. let (s, l, b) = any-at t in (s, b))
+    (λ t. absurd (h .some (no-bits (h .few) (λ i l b. fails-at t (any-of _ l b)))))
     (holds-or (anyBelow (c .states) (λ s. bit s set)))
 
 module _ {file : List ℕ} {c : Counts} {depth : ℕ} {found : List ℕ} (f : Found file c depth found) {set goal : ℕ} (some : StatesOf c set)
@@ -54,7 +54,7 @@ module _ {file : List ℕ} {c : Counts} {depth : ℕ} {found : List ℕ} (f : Fo
   one-has : (t : ℕ) → t ≡ greatest (c .states) lev → Each set (λ s. alone file c depth goal s ≤ t) → Largest file c depth set goal t
   one-has t e each = ⊎-elim zero-case
       (λ (i, q). ⊎-elim
-      (λ b. record { none-larger = each; state = i; member = b; reached = sym (keep-held _ _ b) ∙ q ∙ sym e })
+      (λ b. record { none-larger = each; state = i; member = b; reached = sym (keep-held _ b) ∙ q ∙ sym e })
       (λ b. zero-case (sym q ∙ keep-failed _ _ b))
       (holds-or (bit i set)))
       (greatest-is (c .states) lev)
@@ -64,14 +64,14 @@ module _ {file : List ℕ} {c : Counts} {depth : ℕ} {found : List ℕ} (f : Fo
 
   pub largest : (t : ℕ) → levelRule file depth set goal found ≡ accepted (level t) → (t ≤ depth) × Largest file c depth set goal t
   largest t e =
-      let (l, q, each) = level-only _ _ _ depth found (built f) set goal (some .few) (keeps (actionsOf file c)) t (level-says f set goal some over _ e) in
+      let (l, q, each) = level-only _ _ _ depth found (built f) goal (some .few) (keeps (actionsOf file c)) (level-says f set goal some over _ e) in
       (l, one-has t q (λ s b. each s (is-state some s b) b))
 
   greatest-answered : Each set (λ s. alone file c depth goal s ≤ depth)
       → levelRule file depth set goal found ≡ accepted (level (greatestLevel (domainOf file c) (c .states) (startOf file c) depth set goal))
   greatest-answered each =
       level-answer f set goal some over
-      ∙ ap accepted (level-exists _ _ _ depth found (built f) set goal (some .few) (keeps (actionsOf file c)) (λ s h b. each s b))
+      ∙ ap accepted (level-exists _ _ _ depth found (built f) goal (some .few) (keeps (actionsOf file c)) (λ s h b. each s b))
 
   pub answered : (t : ℕ) → t ≤ depth → Largest file c depth set goal t → levelRule file depth set goal found ≡ accepted (level t)
   answered t l h =

@@ -69,7 +69,7 @@ module _ {file : List ℕ} {c : Counts} {depth : ℕ} {found : List ℕ} (f : Fo
   level-at : (plan : List ℕ) → planRule file depth set goal found room ≡ accepted plan
       → levelOf (shapeOf (domainOf file c)) depth set goal found ≡ level (length plan)
   level-at plan e =
-      plan-level (actionsOf file c) (c .states) (startOf file c) depth found (built f) set goal (some .few) small goal-lt plan (planned-at plan e)
+      plan-level (actionsOf file c) (c .states) (startOf file c) depth found (built f) (some .few) small goal-lt (planned-at plan e)
 
   pub exactly-when-level : (t : ℕ)
       → Exactly (levelRule file depth set goal found ≡ accepted (level t))
@@ -78,7 +78,7 @@ module _ {file : List ℕ} {c : Counts} {depth : ℕ} {found : List ℕ} (f : Fo
   exactly-when-level t = (
     (λ e.
         let (plan, d, r) =
-        plan-of (actionsOf file c) (c .states) (startOf file c) depth found (built f) set goal (some .few) small goal-lt t
+        plan-of (actionsOf file c) (c .states) (startOf file c) depth found (built f) (some .few) small goal-lt
         (level-says f set goal some over _ e) in
         (plan, plan-answer ∙ ap (plannedVerdict depth) d, r .sized)),
     (λ (plan, e, l). level-answer f set goal some over ∙ ap accepted (level-at plan e ∙ ap (λ (x : ℕ). level x) l)),
@@ -88,7 +88,7 @@ module _ {file : List ℕ} {c : Counts} {depth : ℕ} {found : List ℕ} (f : Fo
       → Each set (λ s. So (within goal (relaxedRun (actionsOf file c) plan (startOf file c s))))
   reaches plan e s b =
       let (plan', d, r) =
-      plan-of (actionsOf file c) (c .states) (startOf file c) depth found (built f) set goal (some .few) small goal-lt (length plan) (level-at plan e) in
+      plan-of (actionsOf file c) (c .states) (startOf file c) depth found (built f) (some .few) small goal-lt (level-at plan e) in
       let same : planned plan' ≡ planned plan = sym d ∙ planned-at plan e in
       let q : plan' ≡ plan = cc in
       subst (λ (x : List ℕ). So (within goal (relaxedRun (actionsOf file c) x (startOf file c s)))) q (r .works s (is-state some s b) b)
@@ -98,14 +98,14 @@ module _ {file : List ℕ} {c : Counts} {depth : ℕ} {found : List ℕ} (f : Fo
   unfolding plannedVerdict
   none-exactly = (
     (λ h. plan-answer ∙ ap (plannedVerdict depth)
-        (no-level-of (actionsOf file c) (c .states) (startOf file c) depth found (built f) set goal (some .few) small goal-lt
+        (no-level-of (actionsOf file c) (c .states) (startOf file c) depth found (built f) (some .few) small goal-lt
         (λ t e. h t (level-answer f set goal some over ∙ ap accepted e)))),
     (λ e t q.
-        no-level-at (actionsOf file c) (c .states) (startOf file c) depth found (built f) set goal (some .few) small goal-lt
-        (no-level-means depth _ depth (sym plan-answer ∙ e)) t (level-says f set goal some over _ q)),
+        no-level-at (actionsOf file c) (c .states) (startOf file c) depth found (built f) (some .few) small goal-lt
+        (no-level-means depth _ depth (sym plan-answer ∙ e)) (level-says f set goal some over _ q)),
   )
 
   pub never-uncovered : (place : ℕ) → planRule file depth set goal found room ≡ refused 14 place → ⊥
   never-uncovered place e =
-      never-stuck (actionsOf file c) (c .states) (startOf file c) depth found (built f) set goal (some .few) small goal-lt place
+      never-stuck (actionsOf file c) (c .states) (startOf file c) depth found (built f) (some .few) small goal-lt
       (stuck-means depth _ place (sym plan-answer ∙ e))

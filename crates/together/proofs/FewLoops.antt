@@ -34,14 +34,14 @@ use Rattle.together.proofs.Rows.{parts-le, row-put, row-again, rows-row
 
 -- both ways the same
 either : (b : Bool) (x : ℕ) → choose b x x ≡ x
-either b x = ⊎-elim (λ t. choose-held b x x t) (λ t. choose-failed b x x t) (holds-or b)
+either b x = ⊎-elim (λ t. choose-held x t) (λ t. choose-failed b x t) (holds-or b)
 
 -- ---- one word of a row
 
 pub word-set : (row : List ℕ) (q v k : ℕ) → q < length row → getD (set row q v) k 0 ≡ choose (same k q) v (getD row k 0)
 word-set row q v k h = ⊎-elim
-    (λ u. ap (λ (x : ℕ). getD (set row q v) x 0) (same-at k q u) ∙ getD-set-same row q v 0 h ∙ sym (choose-held (same k q) v (getD row k 0) u))
-    (λ u. getD-set-other row q k v 0 (λ e. fails-at (same k q) u (same-of k q e)) ∙ sym (choose-failed (same k q) v (getD row k 0) u))
+    (λ u. ap (λ (x : ℕ). getD (set row q v) x 0) (same-at u) ∙ getD-set-same row q v 0 h ∙ sym (choose-held (getD row k 0) u))
+    (λ u. getD-set-other row q k v 0 (λ e. fails-at u (same-of e)) ∙ sym (choose-failed (same k q) v u))
     (holds-or (same k q))
 
 -- ---- a loop that puts f at each member: what is still to be put gives what is to be put at first
@@ -56,11 +56,11 @@ puts-more {f} {n} {set₀} {left} {left'} {q} {v} {row₀} {row} s h in-left e g
   long = length-set row q v ∙ s .long;
   is = λ k l. ⊎-elim
       (λ u.
-      let at : k ≡ q = same-at k q u in
+      let at : k ≡ q = same-at u in
       ap (choose (bit k left') (f k)) (ap (λ (x : ℕ). getD (set row q v) x 0) at ∙ getD-set-same row q v 0 (omega (arith, s .long)) ∙ e ∙ ap f (sym at))
-      ∙ either (bit k left') (f k) ∙ sym (choose-held (bit k left) (f k) (getD row k 0) (ap (λ (x : ℕ). bit x left) at ∙ in-left)) ∙ s .is k l)
+      ∙ either (bit k left') (f k) ∙ sym (choose-held (getD row k 0) (ap (λ (x : ℕ). bit x left) at ∙ in-left)) ∙ s .is k l)
       (λ u. ap₂ (λ (b : Bool) (x : ℕ). choose b (f k) x) (bit-left k q left left' g ∙ stays (bit k left) (same k q) u)
-      (getD-set-other row q k v 0 (λ at. fails-at (same k q) u (same-of k q at))) ∙ s .is k l)
+      (getD-set-other row q k v 0 (λ at. fails-at u (same-of at))) ∙ s .is k l)
       (holds-or (same k q));
 }
 
@@ -71,7 +71,7 @@ puts-done {f} {n} {set₀} {left} {row₀} {row} s h =
     let e : left ≡ 0 = omega arith in
     ext-getD 0 row _ (s .long ∙ sym (length-listOver n _)) (λ k l.
     let g : k < n = omega (arith, s .long) in
-    ap (λ (b : Bool). choose b (f k) (getD row k 0)) (sym (ap (bit k) e ∙ bit-zero k)) ∙ s .is k g ∙ sym (getD-listOver n _ k g))
+    ap (λ (b : Bool). choose b (f k) (getD row k 0)) (sym (ap (bit k) e ∙ bit-zero k)) ∙ s .is k g ∙ sym (getD-listOver _ g))
 
 -- ---- action i with those independent of it, one after the other
 
@@ -112,7 +112,7 @@ module _ {i set : ℕ} {needs adds live row : List ℕ} (asks : Independent i se
         let is : both ≡ withIndependent needs live row i j = independent-is j need met in
         let low : j < rowLength = omega (arith, asks .few, fews-lowest some) in
         record {
-          inside = subst (λ (x : ℕ). x < 2 ^ length needs) (sym g) (without-lt (length needs) left _ (s .inside));
+          inside = subst (λ (x : ℕ). x < 2 ^ length needs) (sym g) (without-lt (length needs) _ (s .inside));
           with-each = puts-more (s .with-each) low (ap (λ (x : ℕ). bit x left) e ∙ lowest-in (length needs) left few (s .inside) some) is
               (g ∙ ap (λ (x : ℕ). without left (single x)) (sym e));
           with-adders = lanes-more (s .with-adders) (λ p m. members-more m (omega arith) some (ap₂ (λ (x y : ℕ). keep (bit p x) y) add is ∙ ap (λ (x : ℕ). adding i needs adds live row p x) e) refl g)
@@ -136,9 +136,9 @@ module _ (i : ℕ) (needs adds interferers live row : List ℕ) {set : ℕ} (ind
       ext-getD 0 _ _ (length-set mates i (getD live i 0) ∙ long ∙ sym (length-listOver rowLength _)) (λ k l.
       let g : k < rowLength = omega (arith, length-set mates i (getD live i 0), long) in
       word-set mates i (getD live i 0) k (omega (arith, long))
-      ∙ ap (choose (same k i) (getD live i 0)) (ap (λ (x : List ℕ). getD x k 0) e ∙ getD-listOver rowLength _ k g
+      ∙ ap (choose (same k i) (getD live i 0)) (ap (λ (x : List ℕ). getD x k 0) e ∙ getD-listOver _ g
       ∙ ap (λ (x : ℕ). choose (bit k x) (withIndependent needs live row i k) (getD mates₀ k 0)) independent)
-      ∙ sym (getD-listOver rowLength _ k g))
+      ∙ sym (getD-listOver _ g))
 
   pub own-beside : (beside₀ : List ℕ) {beside beside' : List ℕ}
       → beside ≡ listOver rowLength (λ p. union (getD beside₀ p 0) (joinOf rowLength set (λ j. keep (bit p (getD adds j 0)) (withIndependent needs live row i j))))
@@ -147,8 +147,8 @@ module _ (i : ℕ) (needs adds interferers live row : List ℕ) {set : ℕ} (ind
   unfolding besideOf labelIn
   own-beside beside₀ {beside} e d =
       d ∙ ap (λ (n : ℕ). listOver n (λ q. union (getD beside q 0) (keep (bit q (getD adds i 0)) (getD live i 0)))) (ap length e ∙ length-listOver rowLength _)
-      ∙ listOver-eq rowLength _ _ (λ q h. ap (λ (x : ℕ). union x (keep (bit q (getD adds i 0)) (getD live i 0)))
-      (ap (λ (x : List ℕ). getD x q 0) e ∙ getD-listOver rowLength _ q h
+      ∙ listOver-eq (λ q h. ap (λ (x : ℕ). union x (keep (bit q (getD adds i 0)) (getD live i 0)))
+      (ap (λ (x : List ℕ). getD x q 0) e ∙ getD-listOver _ h
       ∙ ap (λ (x : ℕ). union (getD beside₀ q 0) (joinOf rowLength x (λ j. keep (bit q (getD adds j 0)) (withIndependent needs live row i j)))) independent))
 
 -- the independent actions, as the code finds them, are actions
@@ -158,7 +158,7 @@ module _ (needs interferers : List ℕ) (i : ℕ) {all one : ℕ} (a : all ≡ f
   independent-are = ap₂ (λ (x y : ℕ). without x (union (getD interferers i 0) y)) a o
 
   pub independent-lt : without all (union (getD interferers i 0) one) < 2 ^ length needs
-  independent-lt = without-lt (length needs) all _ (subst (λ (x : ℕ). x < 2 ^ length needs) (sym a) (first-lt (length needs)))
+  independent-lt = without-lt (length needs) _ (subst (λ (x : ℕ). x < 2 ^ length needs) (sym a) (first-lt (length needs)))
 
 -- ---- all actions: a row of each table is lent, and comes back with what stands in these tables
 
@@ -174,7 +174,7 @@ unfolding cell
 actions-none needs adds interferers live r parts e long = record {
   narrow = parts-le parts;
   pairs = rows-none (ap length e ∙ length-listOver tableLength _);
-  empty = λ j k l h g. ap (λ (w : List ℕ). getD w (j * rowLength + k) 0) e ∙ getD-listOver tableLength _ (j * rowLength + k) (omega arith);
+  empty = λ j k l h g. ap (λ (w : List ℕ). getD w (j * rowLength + k) 0) e ∙ getD-listOver _ (omega arith);
   with-adders = rows-none long;
 }
 

@@ -51,9 +51,9 @@ unfolding cell
 row-set row col v {at} {w} whole h l e = record {
   is = λ k g. ⊎-elim
       (λ u.
-      let p : row * rowLength + k ≡ at = omega (arith, same-at col k u) in
-      ap (λ (x : ℕ). getD (set w at v) x 0) p ∙ getD-set-same w at v 0 (omega arith) ∙ sym (choose-held (same col k) v _ u))
-      (λ u. getD-set-other w at (row * rowLength + k) v 0 (λ p. fails-at (same col k) u (same-of col k (omega arith))) ∙ sym (choose-failed (same col k) v _ u))
+      let p : row * rowLength + k ≡ at = omega (arith, same-at u) in
+      ap (λ (x : ℕ). getD (set w at v) x 0) p ∙ getD-set-same w at v 0 (omega arith) ∙ sym (choose-held _ u))
+      (λ u. getD-set-other w at (row * rowLength + k) v 0 (λ p. fails-at u (same-of (omega arith))) ∙ sym (choose-failed (same col k) v u))
       (holds-or (same col k));
   stays = λ i k g other. getD-set-other w at (i * rowLength + k) v 0 (λ p. other (omega arith));
 }
@@ -118,8 +118,8 @@ module _ (all : ℕ) {i width need del : ℕ} {r labels t r₁ : List ℕ} (asks
   admit-label {l} row e d =
       let long : length row ≡ rowLength = ap length e ∙ row-long r₁ i long₁ (asks .inside) in
       d ∙ ap (λ (n : ℕ). meetOf n need (λ q. getD row q 0) all) long
-      ∙ meet-only rowLength need all _ _ (λ q h m.
-      ap (λ (x : List ℕ). getD x q 0) e ∙ row-word r₁ i q h ∙ first-put .is q (bit-below q need width (asks .needs) m))
+      ∙ meet-only need all (λ q h m.
+      ap (λ (x : List ℕ). getD x q 0) e ∙ row-word r₁ i q h ∙ first-put .is q (bit-below (asks .needs) m))
 
   pub admit-put : {l : ℕ} {r₂ r₃ : List ℕ} → l ≡ labelFor all labels t need → length r₂ ≡ tableLength
       → r₂ ≡ putAt (i * rowLength) (listOver width (λ k. common (cell r₁ i k) l)) r₁

@@ -46,7 +46,7 @@ module _ (row m : ℕ) (f : ℕ → ℕ) (w : List ℕ) (whole : length w ≡ ta
   -- its words
   pub cell-put : (k : ℕ) → k < m → cell (putAt (row * rowLength) (listOver m f) w) row k ≡ f k
   unfolding cell
-  cell-put k l = put-word (row * rowLength) (listOver m f) w room k (omega (arith, length-listOver m f)) ∙ getD-listOver m f k l
+  cell-put k l = put-word (row * rowLength) (listOver m f) w room k (omega (arith, length-listOver m f)) ∙ getD-listOver f l
 
   -- every other row stays
   pub cell-stays : (i j : ℕ) → j < rowLength → (i ≡ row → ⊥) → cell (putAt (row * rowLength) (listOver m f) w) i j ≡ cell w i j
@@ -69,7 +69,7 @@ module _ (row : ℕ) {w w₁ : List ℕ} (t : Target w row) where
 
   module _ (g : ℕ → ℕ) (e : w₁ ≡ putAt (row * rowLength + 0) (listOver partLength (λ k. g (0 + k))) w) where
     first-part : w₁ ≡ putAt (row * rowLength) (listOver partLength g) w
-    first-part = e ∙ ap₂ (λ (x : ℕ) (l : List ℕ). putAt x l w) (add-zero (row * rowLength)) (listOver-eq partLength _ g (λ k h. ap g (zero-add k)))
+    first-part = e ∙ ap₂ (λ (x : ℕ) (l : List ℕ). putAt x l w) (add-zero (row * rowLength)) (listOver-eq (λ k h. ap g (zero-add k)))
 
     pub row-narrow : (width : ℕ) → InParts width → width ≤ partLength → w₁ ≡ putAt (row * rowLength) (listOver width g) w
     row-narrow width parts h =
@@ -84,7 +84,7 @@ module _ (row : ℕ) {w w₁ : List ℕ} (t : Target w row) where
         let l : length (listOver partLength g) ≡ partLength = length-listOver partLength g in
         d ∙ ap₂ (λ (x : ℕ) (v : List ℕ). putAt (row * rowLength + x) (listOver partLength g₂) v) (sym l) first-part
         ∙ put-put (row * rowLength) (listOver partLength g) w (omega arith) (listOver partLength g₂)
-        ∙ ap (λ (v : List ℕ). putAt (row * rowLength) (listOver partLength g ++ v) w) (listOver-eq partLength g₂ _ (λ k h. same-words k))
+        ∙ ap (λ (v : List ℕ). putAt (row * rowLength) (listOver partLength g ++ v) w) (listOver-eq (λ k h. same-words k))
         ∙ ap (λ (v : List ℕ). putAt (row * rowLength) v w) (sym (list-append partLength partLength g) ∙ ap (λ (n : ℕ). listOver n g) (sym two))
 
 -- ---- a table filled row by row: i rows are filled, with f row by row
@@ -100,7 +100,7 @@ pub rows-more : {f : ℕ → ℕ → ℕ} {width i : ℕ} {w w' : List ℕ} → 
     → ((j k : ℕ) → j < i → k < width → cell w' j k ≡ cell w j k) → ((k : ℕ) → k < width → cell w' i k ≡ f i k) → Rows f width (i + 1) w'
 rows-more {f} {width} {i} {w} {w'} s e old new = record {
   long = e;
-  is = λ j k h l. below-suc (λ j. cell w' j k ≡ f j k) i (new k l) (λ j h. old j k h l ∙ s .is j k h l) j (omega arith);
+  is = λ j k h l. below-suc (new k l) (λ j h. old j k h l ∙ s .is j k h l) (omega arith);
 }
 
 -- by a row that is put
@@ -135,17 +135,17 @@ clears-more {row} {set₀} {left} {left'} {q} {at} {w₀} {w} s whole h some e e
     let in-left : So (bit q left) = ap (λ (x : ℕ). bit x left) e ∙ lowest-in rowLength left (omega arith) (s .inside) some in
     let g' : left' ≡ without left (single q) = g ∙ ap (λ (x : ℕ). without left (single x)) (sym e) in
     let same-words : listOver rowLength (λ k. choose (bit k left') 0 (getD w' (base + k) 0)) ≡ listOver rowLength (λ k. choose (bit k left) 0 (getD w (base + k) 0)) =
-    listOver-eq rowLength _ _ (λ k l. ⊎-elim
+    listOver-eq (λ k l. ⊎-elim
     (λ u.
-    let k-at : base + k ≡ at = omega (arith, same-at k q u) in
+    let k-at : base + k ≡ at = omega (arith, same-at u) in
     ap (λ (x : ℕ). choose (bit k left') 0 x) (ap (λ (x : ℕ). getD w' x 0) k-at ∙ getD-set-same w at 0 0 (omega (arith, s .long)))
     ∙ choose-zero (bit k left')
-    ∙ sym (choose-held (bit k left) 0 (getD w (base + k) 0) (ap (λ (x : ℕ). bit x left) (same-at k q u) ∙ in-left)))
+    ∙ sym (choose-held (getD w (base + k) 0) (ap (λ (x : ℕ). bit x left) (same-at u) ∙ in-left)))
     (λ u. ap₂ (λ (b : Bool) (x : ℕ). choose b 0 x) (bit-left k q left left' g' ∙ stays (bit k left) (same k q) u)
-    (getD-set-other w at (base + k) 0 0 (λ r. fails-at (same k q) u (same-of k q (omega arith)))))
+    (getD-set-other w at (base + k) 0 0 (λ r. fails-at u (same-of (omega arith)))))
     (holds-or (same k q))) in
     record {
-      inside = subst (λ (x : ℕ). x < 2 ^ rowLength) (sym g) (without-lt rowLength left _ (s .inside));
+      inside = subst (λ (x : ℕ). x < 2 ^ rowLength) (sym g) (without-lt rowLength _ (s .inside));
       long = length-set w at 0 ∙ s .long;
       is = ap (λ (l : List ℕ). putAt base l w') same-words
           ∙ ap (λ (x : ℕ). putAt base (listOver rowLength (λ k. choose (bit k left) 0 (getD w (base + k) 0))) (set w x 0)) ea
@@ -156,7 +156,7 @@ clears-more {row} {set₀} {left} {left'} {q} {at} {w₀} {w} s whole h some e e
     }
   where
     choose-zero : (b : Bool) → choose {A = ℕ} b 0 0 ≡ 0
-    choose-zero b = ⊎-elim (λ t. choose-held b 0 0 t) (λ t. choose-failed b 0 0 t) (holds-or b)
+    choose-zero b = ⊎-elim (λ t. choose-held 0 t) (λ t. choose-failed b 0 t) (holds-or b)
 
 pub clears-done : {row set₀ left : ℕ} {w₀ w : List ℕ} → Clears row set₀ w₀ left w → length w₀ ≡ tableLength → row < rowLength → left ≤ 0
     → w ≡ putAt (row * rowLength) (listOver rowLength (λ k. choose (bit k set₀) 0 (cell w₀ row k))) w₀
@@ -164,6 +164,6 @@ unfolding emptied cell choose
 clears-done {row} {set₀} {left} {w₀} {w} s whole h none =
     let e : left ≡ 0 = omega arith in
     sym (put-same (row * rowLength) rowLength w (omega (arith, s .long)))
-    ∙ ap (λ (l : List ℕ). putAt (row * rowLength) l w) (listOver-eq rowLength _ _ (λ k l.
+    ∙ ap (λ (l : List ℕ). putAt (row * rowLength) l w) (listOver-eq (λ k l.
     ap (λ (b : Bool). choose b 0 (getD w (row * rowLength + k) 0)) (sym (ap (bit k) e ∙ bit-zero k))))
     ∙ s .is

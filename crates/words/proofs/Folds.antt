@@ -17,7 +17,7 @@ unfolding joinOver
 join-none = record { within = omega arith; is = refl }
 
 pub join-more : {f : ℕ → ℕ} {n i a b r : ℕ} → Joins f n i a → i < n → r ≡ union a b → b ≡ f i → Joins f n (i + 1) r
-join-more {f} {n} {i} {a} j h e q = record { within = omega arith; is = e ∙ ap (union a) q ∙ joinOver-next i f a (j .is) }
+join-more {f} {n} {i} {a} j h e q = record { within = omega arith; is = e ∙ ap (union a) q ∙ joinOver-next i f (j .is) }
 
 pub join-done : {f : ℕ → ℕ} {n i a : ℕ} → Joins f n i a → n ≤ i → a ≡ joinOver n f
 join-done {f} {n} {i} j h = let e : i ≡ n = omega arith in j .is ∙ ap (λ (x : ℕ). joinOver x f) e

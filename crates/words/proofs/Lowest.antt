@@ -15,7 +15,7 @@ use Rattle.rules.proofs.Words.{bit-without, bit-single, bit-shift}
 -- the lowest digit of a word that has bit 0, and the bits of its half
 low-digit : (w : ℕ) → So (bit 0 w) → w % 2 ≡ 1
 unfolding bit
-low-digit w t = sym (ap (λ (x : ℕ). x % 2) (div-one w)) ∙ same-at _ _ t
+low-digit w t = sym (ap (λ (x : ℕ). x % 2) (div-one w)) ∙ same-at t
 
 half-bit : (i w : ℕ) → So (bit (suc i) w) → So (bit i (w / 2))
 half-bit i w t = bit-shift w 1 i ∙ ap (λ (k : ℕ). bit k w) (one-add i) ∙ t
@@ -36,8 +36,8 @@ pub others-above : (k w i : ℕ) → w < 2 ^ k → So (bit i (without w (single 
 others-above k w i h t =
     let u = sym (bit-without i w (single (trailingZeros k w))) ∙ t in
     let other : trailingZeros k w ≡ i → ⊥ =
-    λ e. fails-at _ (and-right _ _ u) (bit-single i (trailingZeros k w) ∙ same-of _ _ (sym e)) in
-    omega (arith, lowest-least k w i h (and-left _ _ u))
+    λ e. fails-at (and-right _ u) (bit-single i (trailingZeros k w) ∙ same-of (sym e)) in
+    omega (arith, lowest-least k w i h (and-left _ u))
 
 -- below it there is none
 lowest-digit : (w : ℕ) → w % 2 ≡ 0 → bit 0 w ≡ false

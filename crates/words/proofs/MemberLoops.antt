@@ -29,12 +29,12 @@ or-regroup true b c = refl
 or-regroup false b c = refl
 
 union-assoc : (a b c : ℕ) → union (union a b) c ≡ union a (union b c)
-union-assoc a b c = ext-all _ _ (λ s.
+union-assoc a b c = ext-all (λ s.
     bit-union s (union a b) c ∙ ap (λ (x : Bool). x or bit s c) (bit-union s a b) ∙ or-regroup (bit s a) (bit s b) (bit s c)
     ∙ sym (bit-union s a (union b c) ∙ ap (λ (x : Bool). bit s a or x) (bit-union s b c)))
 
 common-assoc : (a b c : ℕ) → common (common a b) c ≡ common a (common b c)
-common-assoc a b c = ext-all _ _ (λ s.
+common-assoc a b c = ext-all (λ s.
     bit-common s (common a b) c ∙ ap (λ (x : Bool). x and bit s c) (bit-common s a b) ∙ and-assoc (bit s a) (bit s b) (bit s c)
     ∙ sym (bit-common s a (common b c) ∙ ap (λ (x : Bool). bit s a and x) (bit-common s b c)))
 
@@ -45,16 +45,16 @@ module _ (n set : ℕ) (few : n ≤ wordWidth) (inside : set < 2 ^ n) (some : 0 
   word = lt-of-lt-of-le inside (pow-mono few)
 
   pub lowest-in : So (bit (trailingZeros wordWidth set) set)
-  lowest-in = lowest-has wordWidth set word (λ e. omega arith)
+  lowest-in = lowest-has wordWidth word (λ e. omega arith)
 
   pub lowest-lt : trailingZeros wordWidth set < n
-  lowest-lt = bit-below (trailingZeros wordWidth set) set n inside lowest-in
+  lowest-lt = bit-below inside lowest-in
 
 -- `set & (set - 1)`
 pub others-is : (set : ℕ) → set < 2 ^ wordWidth → 0 < set → (bitAnd set (set - 1)
     ≡ without set (single (trailingZeros wordWidth set))) × (bitAnd set (set - 1) < set)
 others-is set h some =
-    (without-lowest wordWidth set h (λ e. omega arith), omega (arith, and-le-r set (set - 1)))
+    (without-lowest wordWidth h (λ e. omega arith), omega (arith, and-le-r set (set - 1)))
 
 -- ---- a loop over the members: w with what they join, while some are left
 
@@ -69,10 +69,10 @@ pub members-more : {f : ℕ → ℕ} {w n set₀ left joined b r left' : ℕ} �
     → b ≡ f (trailingZeros wordWidth left)
     → r ≡ union joined b → left' ≡ without left (single (trailingZeros wordWidth left)) → Members f w n set₀ left' r
 members-more {f} {w} {n} {set₀} {left} {joined} {b} {r} {left'} m few some e q l = record {
-  inside = subst (λ (x : ℕ). x < 2 ^ n) (sym l) (without-lt n left _ (m .inside));
+  inside = subst (λ (x : ℕ). x < 2 ^ n) (sym l) (without-lt n _ (m .inside));
   is = ap₂ (λ (x y : ℕ). union x (joinOf n y f)) (q ∙ ap (union joined) e) l
       ∙ union-assoc joined (f (trailingZeros wordWidth left)) (joinOf n (without left (single (trailingZeros wordWidth left))) f)
-      ∙ ap (union joined) (sym (join-pick n left (trailingZeros wordWidth left) f (lowest-lt n left few (m .inside) some) (lowest-in n left few
+      ∙ ap (union joined) (sym (join-pick left f (lowest-lt n left few (m .inside) some) (lowest-in n left few
       (m .inside) some)))
       ∙ m .is;
 }
@@ -91,27 +91,27 @@ pub record Shares (f : ℕ → ℕ) (w n set₀ left met : ℕ) : Type 0 where
 pub shares-none : {f : ℕ → ℕ} {w n set : ℕ} → set < 2 ^ n → Shares f w n set set w
 shares-none {f} {w} {n} {set} h = record {
   inside = h;
-  is = ext-all _ _ (λ s. bit-common s w (meetOf n set f w) ∙ test-eq _ _ (λ t. and-right _ _ t) (λ t. and-of _ _ (meetOf-at s n set w f t .0) t));
+  is = ext-all (λ s. bit-common s w (meetOf n set f w) ∙ test-eq (λ t. and-right _ t) (λ t. and-of (meetOf-at s set w f t .0) t));
   part = λ s t. t;
 }
 
 pub shares-more : {f : ℕ → ℕ} {w n set₀ left met b r left' : ℕ} → Shares f w n set₀ left met → n ≤ wordWidth → 0 < left → b ≡ f (trailingZeros wordWidth left)
     → r ≡ common met b → left' ≡ without left (single (trailingZeros wordWidth left)) → Shares f w n set₀ left' r
 shares-more {f} {w} {n} {set₀} {left} {met} {b} {r} {left'} m few some e q l = record {
-  inside = subst (λ (x : ℕ). x < 2 ^ n) (sym l) (without-lt n left _ (m .inside));
+  inside = subst (λ (x : ℕ). x < 2 ^ n) (sym l) (without-lt n _ (m .inside));
   is = ap₂ (λ (x y : ℕ). common x (meetOf n y f w)) (q ∙ ap (common met) e) l
       ∙ common-assoc met (f (trailingZeros wordWidth left)) (meetOf n (without left (single (trailingZeros wordWidth left))) f w)
-      ∙ ap (common met) (sym (meet-pick n left (trailingZeros wordWidth left) w f (lowest-lt n left few (m .inside) some) (lowest-in n left few
+      ∙ ap (common met) (sym (meet-pick left w f (lowest-lt n left few (m .inside) some) (lowest-in n left few
       (m .inside) some)))
       ∙ m .is;
-  part = λ s t. m .part s (and-left _ _ (sym (ap (bit s) q ∙ bit-common s met b) ∙ t));
+  part = λ s t. m .part s (and-left _ (sym (ap (bit s) q ∙ bit-common s met b) ∙ t));
 }
 
 pub shares-done : {f : ℕ → ℕ} {w n set₀ left met : ℕ} → Shares f w n set₀ left met → left ≤ 0 → met ≡ meetOf n set₀ f w
 shares-done {f} {w} {n} {set₀} {left} {met} m h =
     let e : left ≡ 0 = omega arith in
-    ext-all _ _ (λ s. test-eq _ _ (λ t. bit-common s met w ∙ and-of _ _ t (m .part s t)) (λ t. and-left _ _ (sym (bit-common s met w) ∙ t)))
-    ∙ ap (common met) (sym (meet-empty n w f)) ∙ ap (λ (x : ℕ). common met (meetOf n x f w)) (sym e) ∙ m .is
+    ext-all (λ s. test-eq (λ t. bit-common s met w ∙ and-of t (m .part s t)) (λ t. and-left _ (sym (bit-common s met w) ∙ t)))
+    ∙ ap (common met) (sym (meet-empty n f)) ∙ ap (λ (x : ℕ). common met (meetOf n x f w)) (sym e) ∙ m .is
 
 -- ---- a loop over the members, word by word of a row: P k left says what word k is while these are left
 
@@ -124,8 +124,8 @@ module _ {P : ℕ → ℕ → ℕ → Type 0} {n left : ℕ} {row : List ℕ} (m
       → Lanes P n left' row'
   lanes-more {left'} {row'} {g} step e = record {
     long = ap length e ∙ length-listOver n g;
-    is = λ k h. subst (P k left') (sym (ap (λ (l : List ℕ). getD l k 0) e ∙ getD-listOver n g k h)) (step k (m .is k h));
+    is = λ k h. subst (P k left') (sym (ap (λ (l : List ℕ). getD l k 0) e ∙ getD-listOver g h)) (step k (m .is k h));
   }
 
   pub lanes-done : {g : ℕ → ℕ} → ((k : ℕ) → P k left (getD row k 0) → getD row k 0 ≡ g k) → row ≡ listOver n g
-  lanes-done {g} last = sym (list-all row (m .long)) ∙ listOver-eq n _ g (λ k h. last k (m .is k h))
+  lanes-done {g} last = sym (list-all row (m .long)) ∙ listOver-eq (λ k h. last k (m .is k h))

@@ -37,8 +37,8 @@ pair-in n i j h l = omega (arith, rows-in n i, pairs-row n i (omega arith))
 module _ (n : ℕ) (l : List ℕ) (i j at : ℕ) where
   pub mutex-up : i < j → at ≡ pairAt n i j → getD l at 0 ≡ mutexIn n l i j
   unfolding mutexIn paired choose
-  mutex-up h e = simp (e, same-not i j (λ q. omega arith), min-eq-left (le-of-lt h), max-eq-right (le-of-lt h))
+  mutex-up h e = simp (e, same-not {i = i} {j = j} (λ q. omega arith), min-eq-left (le-of-lt h), max-eq-right (le-of-lt h))
 
 pub mutex-own : (n : ℕ) (l : List ℕ) (i j : ℕ) → i ≡ j → 0 ≡ mutexIn n l i j
 unfolding mutexIn paired choose
-mutex-own n l i j e = simp (same-of i j e)
+mutex-own n l i j e = simp (same-of e)

@@ -41,11 +41,11 @@ gone : (b c : Bool) → So c → (b and fails c) ≡ false
 unfolding _and_ fails
 gone true true h = refl
 gone false true h = refl
-gone b false h = absurd (fails-at false refl h)
+gone b false h = absurd (fails-at refl h)
 
 pub stays : (b c : Bool) → So (fails c) → (b and fails c) ≡ b
 unfolding _and_ fails
-stays true true h = absurd (fails-at true h refl)
+stays true true h = absurd (fails-at h refl)
 stays false true h = refl
 stays true false h = refl
 stays false false h = refl
@@ -58,11 +58,11 @@ spreads-more {t} {all} {left} {left'} {q} {x} {row₀} {row} s some e f g =
     let g' : left' ≡ without left (single q) = g ∙ ap (λ (i : ℕ). without left (single i)) (sym e) in
     record {
       few = s .few;
-      inside = subst (λ (y : ℕ). y < 2 ^ length row₀) (sym g) (without-lt (length row₀) left _ (s .inside));
+      inside = subst (λ (y : ℕ). y < 2 ^ length row₀) (sym g) (without-lt (length row₀) _ (s .inside));
       long = length-set row q x ∙ s .long;
       is = λ j h. ⊎-elim
           (λ u.
-          let at : j ≡ q = same-at j q u in
+          let at : j ≡ q = same-at u in
           ap₂ (λ (y : ℕ) (b : Bool). union y (keep b t))
           (ap (λ (i : ℕ). getD (set row q x) i 0) at ∙ getD-set-same row q x 0 (omega (arith, s .long)) ∙ f ∙ ap (λ (i : ℕ). union (getD row i 0) t) (sym at))
           (bit-left j q left left' g' ∙ gone (bit j left) (same j q) u)
@@ -72,7 +72,7 @@ spreads-more {t} {all} {left} {left'} {q} {x} {row₀} {row} s some e f g =
           ∙ s .is j h)
           (λ u.
           ap₂ (λ (y : ℕ) (b : Bool). union y (keep b t))
-          (getD-set-other row q j x 0 (λ at. fails-at (same j q) u (same-of j q at)))
+          (getD-set-other row q j x 0 (λ at. fails-at u (same-of at)))
           (bit-left j q left left' g' ∙ stays (bit j left) (same j q) u)
           ∙ s .is j h)
           (holds-or (same j q));
@@ -86,27 +86,27 @@ spreads-done {t} {all} {left} {row₀} {row} s h =
     ext-getD 0 row _ (s .long ∙ sym (length-listOver (length row₀) _)) (λ j l.
     let g : j < length row₀ = omega (arith, s .long) in
     sym (or-zero-r (getD row j 0)) ∙ ap (λ (b : Bool). union (getD row j 0) (keep b t)) (sym (ap (bit j) e ∙ bit-zero j))
-    ∙ s .is j g ∙ sym (getD-listOver (length row₀) _ j g))
+    ∙ s .is j g ∙ sym (getD-listOver _ g))
 
 -- of a set, those members that the row has a word for
 pub cut-lt : (n set left : ℕ) → left ≡ common (first n) set → left < 2 ^ n
-cut-lt n set left e = subst (λ (x : ℕ). x < 2 ^ n) (sym e) (common-lt n (first n) set (first-lt n))
+cut-lt n set left e = subst (λ (x : ℕ). x < 2 ^ n) (sym e) (common-lt n set (first-lt n))
 
 -- are all that counts
 pub spread-cut : (t set left : ℕ) (row : List ℕ) → left ≡ common (first (length row)) set
     → listOver (length row) (λ j. union (labelIn row j) (keep (bit j left) t)) ≡ listOver (length row) (λ j. union (labelIn row j) (keep (bit j set) t))
 unfolding _and_
 spread-cut t set left row e =
-    listOver-eq (length row) _ _ (λ j l. ap (λ (b : Bool). union (labelIn row j) (keep b t))
+    listOver-eq (λ j l. ap (λ (b : Bool). union (labelIn row j) (keep b t))
     (ap (bit j) e ∙ bit-common j (first (length row)) set
-    ∙ ap (λ (b : Bool). b and bit j set) (bit-first j (length row) ∙ below-of j (length row) l)))
+    ∙ ap (λ (b : Bool). b and bit j set) (bit-first j (length row) ∙ below-of l)))
 
 -- where nothing is taken, nothing changes
 pub spread-nothing : (t all : ℕ) (row : List ℕ) → t ≡ 0 → row ≡ listOver (length row) (λ j. union (labelIn row j) (keep (bit j all) t))
 unfolding keep choose labelIn
 spread-nothing t all row e =
     ext-getD 0 row _ (sym (length-listOver (length row) _)) (λ j l.
-    sym (getD-listOver (length row) _ j l ∙ ap (union (getD row j 0)) (none (bit j all)) ∙ or-zero-r (getD row j 0)))
+    sym (getD-listOver _ l ∙ ap (union (getD row j 0)) (none (bit j all)) ∙ or-zero-r (getD row j 0)))
   where
     none : (b : Bool) → keep b t ≡ 0
     none true = e
@@ -127,7 +127,7 @@ pub columns-more : (n i : ℕ) (f : ℕ → ℕ) (row row' : List ℕ) (x y : �
 unfolding labelIn
 columns-more n i f row row' x y e named one h =
     h ∙ ap (λ (m : ℕ). listOver m (λ q. union (getD row q 0) (keep (bit q x) y))) (ap length e ∙ length-listOver n _)
-    ∙ listOver-eq n _ _ (λ q l.
-    ap (λ (z : ℕ). union z (keep (bit q x) y)) (ap (λ (r : List ℕ). getD r q 0) e ∙ getD-listOver n _ q l)
+    ∙ listOver-eq (λ q l.
+    ap (λ (z : ℕ). union z (keep (bit q x) y)) (ap (λ (r : List ℕ). getD r q 0) e ∙ getD-listOver _ l)
     ∙ ap₂ (λ (u v : ℕ). union (startLabel i f q) (keep (bit q u) v)) named one ∙ label-next i f q
     ∙ ap (λ (k : ℕ). startLabel k f q) (sym (add-one i)))

@@ -96,7 +96,7 @@ put-same at n w room =
     let e : listOver n (λ k. getD w (at + k) 0) ≡ take n (drop at w) =
     ext-getD 0 _ _ (length-listOver n _ ∙ sym l) (λ k h.
     let g : k < n = omega (arith, length-listOver n (λ k. getD w (at + k) 0)) in
-    getD-listOver n _ k g ∙ sym (getD-take n (drop at w) k 0 g ∙ getD-drop at w k 0)) in
+    getD-listOver _ g ∙ sym (getD-take n (drop at w) k 0 g ∙ getD-drop at w k 0)) in
     ap (λ (x : List ℕ). take at w ++ (x ++ drop (at + length x) w)) e
     ∙ ap (λ (x : ℕ). take at w ++ (take n (drop at w) ++ drop (at + x) w)) l
     ∙ ap (λ (x : List ℕ). take at w ++ (take n (drop at w) ++ x)) (sym (drop-drop n at w))
@@ -134,12 +134,12 @@ put-within at b xs w p room e =
 
 -- the words of a list, one by one
 pub list-all : {n : ℕ} (l : List ℕ) → length l ≡ n → listOver n (λ k. getD l k 0) ≡ l
-list-all l e = ap (λ (x : ℕ). listOver x (λ k. getD l k 0)) (sym e) ∙ listOver-self l
+list-all l e = ap (λ (x : ℕ). listOver x (λ k. getD l k 0)) (sym e) ∙ listOver-self
 
 -- a list made of another one, word by word
 pub list-through : (n : ℕ) (f : ℕ → ℕ) (g : ℕ → ℕ → ℕ) {p q : List ℕ} → p ≡ listOver n f → q ≡ listOver n (λ k. g k (getD p k 0))
     → q ≡ listOver n (λ k. g k (f k))
-list-through n f g e d = d ∙ listOver-eq n _ _ (λ k h. ap (g k) (ap (λ (l : List ℕ). getD l k 0) e ∙ getD-listOver n f k h))
+list-through n f g e d = d ∙ listOver-eq (λ k h. ap (g k) (ap (λ (l : List ℕ). getD l k 0) e ∙ getD-listOver f h))
 
 -- ---- a loop that writes f 0, f 1 .. from `base` on: i of n words are written
 

@@ -12,7 +12,7 @@ use Rattle.rules.proofs.Layers.{length-listOver, getD-listOver}
 
 -- the front of a list of zeros
 pub zeros : (n m : ℕ) → n ≤ m → take {A = ℕ} n (replicate {A = ℕ} m 0) ≡ listOver n (λ q. 0)
-zeros n m h = go n m h ∙ ext-getD 0 _ _ (long n ∙ sym (length-listOver n (λ q. 0))) (λ i l. none n i ∙ sym (getD-listOver n (λ q. 0) i (omega
+zeros n m h = go n m h ∙ ext-getD 0 _ _ (long n ∙ sym (length-listOver n (λ q. 0))) (λ i l. none n i ∙ sym (getD-listOver (λ q. 0) (omega
     (arith, long n))))
   where
     go : (n m : ℕ) → n ≤ m → take {A = ℕ} n (replicate {A = ℕ} m 0) ≡ replicate n 0
@@ -34,7 +34,7 @@ pub zeros-front : (n m : ℕ) (row : List ℕ) → row ≡ listOver m (λ q. 0) 
 zeros-front n m row e h =
     ext-getD 0 (take n row) _ (length-take-le n row (omega (arith, long)) ∙ sym (length-listOver n (λ q. 0))) (λ i l.
     let k : i < n = omega (arith, length-take-le n row (omega (arith, long))) in
-    getD-take n row i 0 k ∙ ap (λ (x : List ℕ). getD x i 0) e ∙ getD-listOver m (λ q. 0) i (omega arith) ∙ sym (getD-listOver n (λ q. 0) i k))
+    getD-take n row i 0 k ∙ ap (λ (x : List ℕ). getD x i 0) e ∙ getD-listOver (λ q. 0) (omega arith) ∙ sym (getD-listOver (λ q. 0) k))
   where
     long : length row ≡ m
     long = ap length e ∙ length-listOver m (λ q. 0)

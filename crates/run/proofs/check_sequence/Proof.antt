@@ -8,14 +8,14 @@ use Rattle.run.proofs.check_sequence.Tie as tie
 
 returns : tie.Need-returns
 unfolding sequenceRule
-returns c = sym (choose-held _ _ _ (below-of _ _ (c .if1 .taken)))
+returns c = sym (choose-held _ (below-of (c .if1 .taken)))
 
 check-numbers-requires : tie.Need-check-numbers-requires
 check-numbers-requires c κs = search needs
 
 returns-2 : tie.Need-returns-2
 unfolding sequenceRule
-returns-2 c = c .check-numbers .ensures ∙ sym (choose-failed _ _ _ (is-fails _ (below-not _ _ (c .before .if1 .left))))
+returns-2 c = c .check-numbers .ensures ∙ sym (choose-failed _ _ (is-fails (below-not (c .before .if1 .left))))
 
 pub check-sequence-spec : {M : Type 1} → statement M
 check-sequence-spec = tie.close (tie.spec returns check-numbers-requires returns-2)

@@ -30,7 +30,7 @@ loop-less : tie.Need-loop-less Inv-loop μ-loop
 loop-less c = omega arith
 
 loop-again : tie.Need-loop-again Inv-loop μ-loop
-loop-again c = hold-more (c .before .before .before .loop .inv) (omega arith) (below-of _ _ (omega arith))
+loop-again c = hold-more (c .before .before .before .loop .inv) (omega arith) (below-of (omega arith))
 
 returns-2 : tie.Need-returns-2 Inv-loop μ-loop
 returns-2 c = none-unknown _ _ _ (c .before .loop .inv) (omega arith)

@@ -10,13 +10,13 @@ has-requires : tie.Need-has-requires
 has-requires c κs = search needs
 
 returns : tie.Need-returns
-returns c = sym (choose-failed _ _ _ (is-fails _ (sym (c .before .has .ensures) ∙ not-true _ (c .if1 .taken))))
+returns c = sym (choose-failed _ _ (is-fails (sym (c .before .has .ensures) ∙ not-true _ (c .if1 .taken))))
 
 came-requires : tie.Need-came-requires
 came-requires c κs = search needs
 
 returns-2 : tie.Need-returns-2
-returns-2 c = c .came .ensures ∙ sym (choose-held _ _ _ (sym (c .before .before .has .ensures) ∙ not-false _ (c .before .if1 .left)))
+returns-2 c = c .came .ensures ∙ sym (choose-held _ (sym (c .before .before .has .ensures) ∙ not-false _ (c .before .if1 .left)))
 
 pub state-end-spec : {M : Type 1} → statement M
 state-end-spec = tie.close (tie.spec has-requires returns came-requires returns-2)

@@ -9,14 +9,14 @@ use Rattle.extract.proofs.close.going_at.Tie as tie
 
 returns : tie.Need-returns
 unfolding keep choose
-returns c = simp (same-not _ _ (c .if1 .taken))
+returns c = simp (same-not (c .if1 .taken))
 
 single-requires : tie.Need-single-requires
 single-requires c κs = search needs
 
 returns-2 : tie.Need-returns-2
 unfolding keep choose
-returns-2 c = c .single .ensures ∙ simp (same-of _ _ (c .before .if1 .left))
+returns-2 c = c .single .ensures ∙ simp (same-of (c .before .if1 .left))
 
 pub going-at-spec : {M : Type 1} → statement M
 going-at-spec =

@@ -50,7 +50,7 @@ returns : tie.Need-returns Inv-loop μ-loop
 unfolding same
 returns c e i h =
     let l = c .before .loop in
-    l .inv .each (same-at (l .differ) 0 e) i (omega (arith, l .inv .within))
+    l .inv .each (same-at e) i (omega (arith, l .inv .within))
 
 pub same-piece-spec : {M : Type 1} → statement M
 same-piece-spec =

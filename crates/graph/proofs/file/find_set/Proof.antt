@@ -24,12 +24,12 @@ module _ (l : List ℕ) (v : Verdict (Unit {0})) (props at : ℕ) where
   next : (n : ℕ) → length l ≡ at + setBytes * n → v ≡ setsFrom l props n at → at < length l → setAt l at < 2 ^ props → Rest l v props (at + setBytes)
   unfolding setsFrom choose
   next zero long is more small = absurd (omega arith)
-  next (suc n) long is more small = record { left = n; long = omega arith; is = is ∙ simp (below-of (setAt l at) (2 ^ props) small) }
+  next (suc n) long is more small = record { left = n; long = omega arith; is = is ∙ simp (below-of small) }
 
   bad : (n : ℕ) → length l ≡ at + setBytes * n → v ≡ setsFrom l props n at → at < length l → 2 ^ props ≤ setAt l at → refused 5 at ≡ v
   unfolding setsFrom choose
   bad zero long is more wide = absurd (omega arith)
-  bad (suc n) long is more wide = sym (is ∙ simp (below-not (setAt l at) (2 ^ props) wide))
+  bad (suc n) long is more wide = sym (is ∙ simp (below-not wide))
 
   done : (n : ℕ) → length l ≡ at + setBytes * n → v ≡ setsFrom l props n at → length l ≤ at → accepted tt ≡ v
   unfolding setsFrom

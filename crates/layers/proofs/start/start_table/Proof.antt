@@ -51,7 +51,7 @@ same-length : tie.Need-same-length Inv-loop μ-loop
 same-length c = omega arith
 
 returns : tie.Need-returns Inv-loop μ-loop
-returns c = λ p q h k. c .before .loop .inv .is p q (omega arith) k ∙ meet-empty rowLength _ _
+returns c = λ p q h k. c .before .loop .inv .is p q (omega arith) k ∙ meet-empty rowLength _
 
 pub start-table-spec : {M : Type 1} → statement M
 start-table-spec =

@@ -50,7 +50,7 @@ same-length c = c .before .loop .inv .long
 
 returns : tie.Need-returns Inv-loop μ-loop
 returns c = let start = c .before .before in
-    list-done (c .before .loop .inv) (search needs) ∙ ap (λ (l : List ℕ). putAt (start .args .to) l (start .args .words .now)) (listOver-self (start .args .from .now))
+    list-done (c .before .loop .inv) (search needs) ∙ ap (λ (l : List ℕ). putAt (start .args .to) l (start .args .words .now)) listOver-self
 
 pub put-words-spec : {M : Type 1} → statement M
 put-words-spec =

@@ -35,7 +35,7 @@ shared-slice-read-if1-2 : tie.Need-shared-slice-read-if1-2 Inv-loop μ-loop
 shared-slice-read-if1-2 c = search simple
 
 returns : tie.Need-returns Inv-loop μ-loop
-returns c = held-not (c .before .before .before .before .loop .inv) (c .before .before .before .loop-test .taken) (same-not _ _ (c .if1 .taken))
+returns c = held-not (c .before .before .before .before .loop .inv) (c .before .before .before .loop-test .taken) (same-not (c .if1 .taken))
 
 add-i : tie.Need-add-i Inv-loop μ-loop
 add-i c = search simple
@@ -44,7 +44,7 @@ loop-less : tie.Need-loop-less Inv-loop μ-loop
 loop-less c = search simple
 
 loop-again : tie.Need-loop-again Inv-loop μ-loop
-loop-again c = held-more (c .before .before .before .before .loop .inv) (c .before .before .before .loop-test .taken) (same-of _ _ (c .if1 .left))
+loop-again c = held-more (c .before .before .before .before .loop .inv) (c .before .before .before .loop-test .taken) (same-of (c .if1 .left))
 
 returns-2 : tie.Need-returns-2 Inv-loop μ-loop
 returns-2 c = held-done (c .before .loop .inv) (c .loop-test .left)

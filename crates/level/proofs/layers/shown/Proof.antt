@@ -7,11 +7,11 @@ use Rattle.level.proofs.layers.shown.Tie as tie
 
 returns : tie.Need-returns
 unfolding shownAt choose
-returns c = simp (below-of _ _ (c .if1 .taken))
+returns c = simp (below-of (c .if1 .taken))
 
 returns-2 : tie.Need-returns-2
 unfolding shownAt choose
-returns-2 c = simp (below-not _ _ (c .if1 .left))
+returns-2 c = simp (below-not (c .if1 .left))
 
 pub shown-spec : {M : Type 1} → statement M
 shown-spec = tie.close (tie.spec returns returns-2)

@@ -47,7 +47,7 @@ same-length c = search needs
 returns-2 : tie.Need-returns-2
 returns-2 c =
     let start = c .before .before .before .before .before .before .before .before in
-    turned-some (start .pre .2) (single-lt _ _ (start .pre .0)) (c .before .before .before .before .before .if1 .left) refl (sym (or-zero-r _))
+    turned-some (start .pre .2) (single-lt (start .pre .0)) (c .before .before .before .before .before .if1 .left) refl (sym (or-zero-r _))
     (c .union .ensures ∙ ap (union (start .args .s .live)) (c .before .single .ensures)) (one-spread (start .args .under .now) (start .args .p) (common (start .args .s .left) (start .args .label)) _ (start .pre .0) refl)
 
 pub carry-spec : {M : Type 1} → statement M

@@ -44,7 +44,7 @@ same-length : tie.Need-same-length Inv-loop μ-loop
 same-length c = c .before .loop .inv .long
 
 returns : tie.Need-returns Inv-loop μ-loop
-returns c = list-whole (c .before .loop .inv) (omega arith) (search needs) ∙ listOver-self _
+returns c = list-whole (c .before .loop .inv) (omega arith) (search needs) ∙ listOver-self
 
 pub replace-spec : {M : Type 1} → statement M
 replace-spec =

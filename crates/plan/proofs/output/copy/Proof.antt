@@ -47,8 +47,7 @@ same-length c = c .before .loop .inv .long
 returns : tie.Need-returns Inv-loop μ-loop
 returns c =
     let start = c .before .before in
-    list-done (c .before .loop .inv) (omega arith) ∙ ap (λ (l : List ℕ). putAt 0 l (start .args .out .now)) (listOver-self
-    (start .args .plan .now))
+    list-done (c .before .loop .inv) (omega arith) ∙ ap (λ (l : List ℕ). putAt 0 l (start .args .out .now)) listOver-self
 
 pub copy-spec : {M : Type 1} → statement M
 copy-spec =

@@ -50,7 +50,7 @@ same-length c = c .before .loop .inv .long
 returns : tie.Need-returns Inv-loop μ-loop
 returns c = let a = c .before .before .args in
     record {
-      is = list-done (c .before .loop .inv) (omega arith) ∙ ap (λ (l : List ℕ). putAt (a .at) l (a .out .now)) (listOver-self (a .text .now));
+      is = list-done (c .before .loop .inv) (omega arith) ∙ ap (λ (l : List ℕ). putAt (a .at) l (a .out .now)) listOver-self;
       ends = refl;
       fits = omega arith;
     }

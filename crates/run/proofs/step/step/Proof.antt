@@ -12,14 +12,14 @@ first-requires c κs = search needs
 
 returns : tie.Need-returns
 unfolding stepAnswer
-returns c = sym (choose-failed _ _ _ (is-fails _ (same-not _ _ (λ e. c .if1 .taken (e ∙ sym (c .before .before .first .ensures))))))
+returns c = sym (choose-failed _ _ (is-fails (same-not (λ e. c .if1 .taken (e ∙ sym (c .before .before .first .ensures))))))
 
 further-requires : tie.Need-further-requires
 further-requires c κs = search needs
 
 returns-2 : tie.Need-returns-2
 unfolding stepAnswer
-returns-2 c = ap did.Moved (c .further .ensures) ∙ sym (choose-held _ _ _ (same-of _ _ (c .before .if1 .left ∙ c .before .before .before .first .ensures)))
+returns-2 c = ap did.Moved (c .further .ensures) ∙ sym (choose-held _ (same-of (c .before .if1 .left ∙ c .before .before .before .first .ensures)))
 
 pub step-spec : {M : Type 1} → statement M
 step-spec = tie.close (tie.spec first-requires returns further-requires returns-2)

@@ -45,7 +45,7 @@ returns c =
     c .before .before .put-part .ensures
     ∙ ap (λ (l : List ℕ). putAt at l (a .dest .now))
     (c .before .before .before .before .before .before .take-part .ensures
-    ∙ listOver-eq partLength _ _ (λ k h. ap (λ (x : ℕ). common x (a .own)) (cell-at (a .dest .now) (a .row) (a .col) k refl)))
+    ∙ listOver-eq (λ k h. ap (λ (x : ℕ). common x (a .own)) (cell-at (a .dest .now) (a .row) (a .col) k refl)))
 
 pub cut-cols-spec : {M : Type 1} → statement M
 cut-cols-spec =

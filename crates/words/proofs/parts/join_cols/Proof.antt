@@ -55,7 +55,7 @@ returns c =
     let known = at-take-part .before .before .before .shared-slice-known .given in
     let a = at-take-part .before .before .before .before .before .args in
     let at = a .row * rowLength + a .col in
-    let taken = at-take-part .take-part .ensures ∙ listOver-eq partLength _ (λ k. cell (a .from .now) (a .row) (a .col + k)) (λ k h.
+    let taken = at-take-part .take-part .ensures ∙ listOver-eq (λ k h.
     cut-none (getD (a .from .now) (at + k) 0) (omega (arith, known (at + k))) ∙ cell-at (a .from .now) (a .row) (a .col) k refl) in
     c .before .before .put-part .ensures ∙ ap (λ (l : List ℕ). putAt at l (a .dest .now))
     (list-through partLength _ (λ k x. union x (joinOf rowLength (a .named) (λ i. cell (a .table .now) i (a .col + k)))) taken (at-join-parts .join-parts .ensures))

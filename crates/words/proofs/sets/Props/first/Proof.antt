@@ -19,7 +19,7 @@ shr-t5 : tie.Need-shr-t5
 shr-t5 c = search needs
 
 returns-2 : tie.Need-returns-2
-returns-2 c = ones-shift (c .before .args .n) 32 (search needs)
+returns-2 c = ones-shift 32 (search needs)
 
 pub first-spec : {M : Type 1} → statement M
 first-spec = tie.close (tie.spec returns sub-t3 cast-t4 shr-t5 returns-2)

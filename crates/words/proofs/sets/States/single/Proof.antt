@@ -8,7 +8,7 @@ shl-t3 : tie.Need-shl-t3
 shl-t3 c = search needs
 
 returns : tie.Need-returns
-returns c = shift-single 64 (c .args .i) (search needs)
+returns c = shift-single 64 (search needs)
 
 pub single-spec : {M : Type 1} → statement M
 single-spec = tie.close (tie.spec shl-t3 returns)
