@@ -13,6 +13,10 @@ use Rattle.graph.proofs.Verdicts.{told, then-refused, then-accepted, laid-refus
 use Rattle.build.proofs.build_taken.Statement.{statement}
 use Rattle.build.proofs.build_taken.Tie as tie
 
+-- places, each from a later one
+abbrev to-start : tie.After-enum-told → tie.Start
+to-start c = c .before .before .before .before .before
+
 check-graph-requires : tie.Need-check-graph-requires
 check-graph-requires c κs = search needs
 
@@ -24,23 +28,22 @@ enum-told c = search needs
 
 -- what has passed
 passed : (c : tie.After-enum-told)
-    → let start = c .before .before .before .before .before in
+    → let start = to-start c in
     graphRule (start .args .c) (start .args .depth) (accepted tt) (length (start .args .words .now)) ≡ accepted tt
 passed c = told checkVerdict (c .before .before .check-graph .ensures) (c .enum-told .given .1)
 
 build-words-requires : tie.Need-build-words-requires
 build-words-requires c κs =
     let p = graph-means _ _ _ _ (passed (c .before)) in
-    (c .before .before .before .before .before .before .pre, p .deep, p .fits)
+    ((to-start (c .before)) .pre, p .deep, p .fits)
 
 shape-requires : tie.Need-shape-requires
 shape-requires c κs = search needs
 
 word-count-requires : tie.Need-word-count-requires
 word-count-requires c κs = (
-  subst Small (sym (c .shape .ensures)) (small-of _ (c .before .before .before .before .before .before .before .before .before
-      .before .pre .ranged)),
-  graph-means _ _ _ _ (passed (c .before .before .before .before .before)) .deep,
+  subst Small (sym (c .shape .ensures)) (small-of _ ((to-start (c .before .before .before .before .before)) .pre .ranged)),
+  graph-means _ _ _ _ (passed ((c .before .before .before .before .before))) .deep,
 )
 
 returns : tie.Need-returns
@@ -53,8 +56,8 @@ same-length c = search needs
 returns-2 : tie.Need-returns-2
 unfolding buildTaken
 returns-2 c =
-    let start = c .before .before .before .before .before .before .before .before .before .before .before in
-    laid-accepted _ _ _ _ _ (then-accepted _ _ _ (passed (c .before .before .before .before .before .before)))
+    let start = to-start (c .before .before .before .before .before .before) in
+    laid-accepted _ _ _ _ _ (then-accepted _ _ _ (passed ((c .before .before .before .before .before .before))))
     (c .word-count .ensures ∙ ap (λ (s : Shape). wordCount s (start .args .depth)) (c .before .shape .ensures)
     ∙ sym (graph-long (start .args .file .now) (start .args .c) (start .args .depth)))
     (c .before .before .before .before .build-words .ensures)

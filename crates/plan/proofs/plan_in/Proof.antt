@@ -16,31 +16,44 @@ use borrow.Author.Needs.{needs}
 use Rattle.plan.proofs.plan_in.Statement.{statement}
 use Rattle.plan.proofs.plan_in.Tie as tie
 
+-- places, each from a later one
+abbrev to-start : tie.After-read-sets-arg2 → tie.Start
+to-start c = c .before .before .before .before .before .before .before .before .before
+
+abbrev to-read-sets-arg2 : tie.After-read-sets → tie.After-read-sets-arg2
+to-read-sets-arg2 c = c .before
+
+abbrev to-read-sets : tie.After-spread → tie.After-read-sets
+to-read-sets c = c .before .before .before .before .before .before
+
+abbrev to-spread : tie.After-descend → tie.After-spread
+to-spread c = c .before .before .before .before .before .before .before
+
 read-sets-requires : tie.Need-read-sets-requires
 read-sets-requires c κs = search needs
 
 spread-requires : tie.Need-spread-requires
-spread-requires c κs = let start = c .before .before .before .before .before .before .before .before .before .before .before .before .before .before .before in
+spread-requires c κs = let start = to-start (to-read-sets-arg2 (c .before .before .before .before .before)) in
     omega (arith, ap length (start .pre .1 .nothing), length-listOver (start .args .c .props) (λ p. 0), start .pre .0 .ranged .props)
 
 descend-requires : tie.Need-descend-requires
 descend-requires c κs =
-    let at-read-sets = c .before .before .before .before .before .before .before .before .before .before .before .before in
-    let start = c .before .before .before .before .before .before .before .before .before .before .before .before .before .before .before .before .before .before .before .before .before .before in
-    descends (start .args .set .0) (start .args .goal .0) (start .pre .0) (start .pre .1) (at-read-sets .read-sets .ensures .0) (at-read-sets .read-sets .ensures .1) (c .before .before .before .before .before .before .spread .ensures)
+    let at-read-sets = to-read-sets (c .before .before .before .before .before .before) in
+    let start = to-start (to-read-sets-arg2 (to-read-sets (c .before .before .before .before .before .before))) in
+    descends (start .args .set .0) (start .args .goal .0) (start .pre .0) (start .pre .1) (at-read-sets .read-sets .ensures .0) (at-read-sets .read-sets .ensures .1) ((c .before .before .before .before .before .before) .spread .ensures)
 
 -- the descent is that of the file's actions, from the goals
 falls : (c : tie.After-descend)
-    → let a = c .before .before .before .before .before .before .before .before .before .before .before .before .before .before .before .before .before .before .before .before .before .before .before .args in
+    → let a = (to-start (to-read-sets-arg2 (to-read-sets (to-spread c)))) .args in
     plannedAs (c .descend .result) (c .descend .last .1 .1 .1 .1 .1 .0)
     ≡ descend (actionsOf (a .file .now) (a .c)) (a .words .now) (length (a .plan .now)) (listOver (a .c .props) (λ p. keep (bit p (a .goal .0)) (a .set .0))) []
 falls c =
-    let start = c .before .before .before .before .before .before .before .before .before .before .before .before .before .before .before .before .before .before .before .before .before .before .before in
+    let start = to-start (to-read-sets-arg2 (to-read-sets (to-spread c))) in
     let a = start .args in
-    let read = c .before .before .before .before .before .before .before .before .before .before .before .before .before .read-sets .ensures in
+    let read = (to-read-sets (to-spread c)) .read-sets .ensures in
     c .descend .ensures
     ∙ read-descend (a .file .now) (a .c) (start .pre .0) _ _ (read .0) (read .1) (a .words .now) (length (a .plan .now)) (a .set .0) (a .goal .0) _
-    (goals-spread (a .c .props) (a .set .0) (a .goal .0) _ _ (start .pre .1 .nothing) (c .before .before .before .before .before .before .before .spread .ensures))
+    (goals-spread (a .c .props) (a .set .0) (a .goal .0) _ _ (start .pre .1 .nothing) ((to-spread c) .spread .ensures))
 
 enum-known-got : tie.Need-enum-known-got
 enum-known-got c = search needs
@@ -59,7 +72,7 @@ same-length-4 c = search needs
 
 returns : tie.Need-returns
 returns c = λ depth.
-    plan-refused _ _ _ _ (ends-stuck depth _ _ (sym (ap (λ r. plannedAs r (c .before .before .before .before .before .before .before .descend .last .1 .1 .1 .1 .1 .0)) (c .before .got .given .1)) ∙ falls (c .before .before .before .before .before .before .before)))
+    plan-refused _ _ _ _ (ends-stuck depth _ _ (sym (ap (λ r. plannedAs r ((c .before .before .before .before .before .before .before) .descend .last .1 .1 .1 .1 .1 .0)) (c .before .got .given .1)) ∙ falls ((c .before .before .before .before .before .before .before))))
 
 enum-told : tie.Need-enum-told
 enum-told c = search needs
@@ -68,7 +81,7 @@ copy-requires : tie.Need-copy-requires
 copy-requires c κs = search needs
 
 count-requires : tie.Need-count-requires
-count-requires c κs = omega (arith, c .before .before .before .before .before .before .before .before .before .before .before .before .before .before .before .before .before .before .before .before .before .before .before .before .before .before .before .before .before .before .before .before .before .before .before .pre .1 .room .deep, c .before .before .before .before .before .before .before .before .before .before .before .before .descend .kept .1 .1 .1 .1 .1 .0)
+count-requires c κs = omega (arith, (to-start (to-read-sets-arg2 (to-read-sets (to-spread (c .before .before .before .before .before .before .before .before .before .before .before .before))))) .pre .1 .room .deep, (c .before .before .before .before .before .before .before .before .before .before .before .before) .descend .kept .1 .1 .1 .1 .1 .0)
 
 same-length-5 : tie.Need-same-length-5
 same-length-5 c = search needs

@@ -26,6 +26,10 @@ use borrow.Author.Needs.{needs}
 use Rattle.plan.proofs.plan_over.Statement.{statement}
 use Rattle.plan.proofs.plan_over.Tie as tie
 
+-- places, each from a later one
+abbrev to-start : tie.Else1 → tie.Start
+to-start c = c .before .before .before .before .before .before
+
 shape-requires : tie.Need-shape-requires
 shape-requires c κs = search needs
 
@@ -34,10 +38,10 @@ first-met-requires c κs = let start = c .before .before .before .before in subs
 
 -- the level that was found is that of the file's graph
 met : (c : tie.After-first-met)
-    → let a = c .before .before .before .before .before .args in
+    → let a = (c .before .before .before .before .before) .args in
     c .first-met .result ≡ firstMet (shapeOf (domain (actionsOf (a .file .now) (a .c)))) (a .depth) (a .set .0) (a .goal .0) (a .words .now)
 met c =
-    let a = c .before .before .before .before .before .args in
+    let a = (c .before .before .before .before .before) .args in
     c .first-met .ensures
     ∙ ap (λ (S : Shape). firstMet S (a .depth) (a .set .0) (a .goal .0) (a .words .now)) (c .before .shape .ensures ∙ sym (shape-is (a .file .now) (a .c)))
 
@@ -46,25 +50,25 @@ returns c = plan-refused _ _ _ _ (no-level _ _ _ _ _ _ (met (c .before)) (c .if1
 
 -- the plan's words are as many as the level
 long : (c : tie.Else1) → length {A = ℕ} (take (c .before .first-met .result) (replicate maxDepth 0)) ≡ c .before .first-met .result
-long c = length-take-le {A = ℕ} (c .before .first-met .result) (replicate maxDepth 0) (le-trans (c .if1 .left) (c .before .before .before .before .before .before .pre .1 .deep))
+long c = length-take-le {A = ℕ} (c .before .first-met .result) (replicate maxDepth 0) (le-trans (c .if1 .left) ((to-start c) .pre .1 .deep))
 
 array-borrow-prefix-needs : tie.Need-array-borrow-prefix-needs
 array-borrow-prefix-needs c = search needs
 
 slice-aggregate-plan-in : tie.Need-slice-aggregate-plan-in
-slice-aggregate-plan-in c = sym (length-take-le _ _ (omega (arith, c .before .before .before .before .before .before .before .pre .0 .ranged .actions)))
+slice-aggregate-plan-in c = sym (length-take-le _ _ (omega (arith, (to-start (c .before)) .pre .0 .ranged .actions)))
 
 array-borrow-prefix-adders : tie.Need-array-borrow-prefix-adders
 array-borrow-prefix-adders c = search needs
 
 slice-aggregate-plan-in-2 : tie.Need-slice-aggregate-plan-in-2
-slice-aggregate-plan-in-2 c = sym (length-take-le _ _ (omega (arith, c .before .before .before .before .before .before .before .before .pre .0 .ranged .props)))
+slice-aggregate-plan-in-2 c = sym (length-take-le _ _ (omega (arith, (to-start (c .before .before)) .pre .0 .ranged .props)))
 
 array-borrow-prefix-needed : tie.Need-array-borrow-prefix-needed
 array-borrow-prefix-needed c = search needs
 
 slice-aggregate-plan-in-3 : tie.Need-slice-aggregate-plan-in-3
-slice-aggregate-plan-in-3 c = sym (length-take-le _ _ (omega (arith, c .before .before .before .before .before .before .before .before .before .pre .0 .ranged .props)))
+slice-aggregate-plan-in-3 c = sym (length-take-le _ _ (omega (arith, (to-start (c .before .before .before)) .pre .0 .ranged .props)))
 
 array-borrow-prefix-plan : tie.Need-array-borrow-prefix-plan
 array-borrow-prefix-plan c = search needs
@@ -74,8 +78,8 @@ slice-aggregate-plan-in-4 c = sym (long (c .before .before .before .before))
 
 plan-in-requires : tie.Need-plan-in-requires
 plan-in-requires c κs =
-    let start = c .before .before .before .before .before .before .before .before .before .before .before in
-    let at-if1 = c .before .before .before .before .before in (
+    let start = to-start (c .before .before .before .before .before) in
+    let at-if1 = (c .before .before .before .before .before) in (
       start .pre .0,
       record {
         room = room-deep _ (long at-if1) (fewer (start .pre .1) _ (at-if1 .if1 .left));
@@ -94,7 +98,7 @@ returns-2 : tie.Need-returns-2
 unfolding actionsOf
 returns-2 c =
     let at-if1 = c .before .before .before .before .before .before .before .before .before .before .before .before in
-    let a = c .before .before .before .before .before .before .before .before .before .before .before .before .before .before .before .before .before .before .args in
+    let a = (to-start (c .before .before .before .before .before .before .before .before .before .before .before .before)) .args in
     equal-rule (a .out .now) _ _
     (ap (plannedVerdict (a .depth))
     (ap (λ (x : ℕ). descend (actionsOf (a .file .now) (a .c)) (a .words .now) x (listOver (a .c .props) (λ p. keep (bit p (a .goal .0)) (a .set .0))) [])

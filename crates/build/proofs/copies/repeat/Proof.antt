@@ -14,6 +14,10 @@ Inv-loop words₀ to stride count limit done₀ words done = Again to stride cou
 abbrev μ-loop : tie.MeasureT-loop
 μ-loop words₀ to stride count limit done₀ words done = count - done
 
+-- places, each from a later one
+abbrev to-start : tie.At-loop Inv-loop μ-loop → tie.Start Inv-loop μ-loop
+to-start c = c .before .before .before
+
 least-requires : tie.Need-least-requires Inv-loop μ-loop
 least-requires c κs = search needs
 
@@ -39,7 +43,7 @@ add-copy-on-3 c = omega arith
 
 copy-on-requires : tie.Need-copy-on-requires Inv-loop μ-loop
 copy-on-requires c κs =
-    let start = c .before .before .before .before .before in
+    let start = to-start (c .before .before) in
     let near = start .pre .0 (omega arith) in
     (λ _. (omega (arith, near), omega (arith, near)), omega (arith, c .before .before .loop .inv .long))
 
@@ -50,37 +54,37 @@ add-done-2 : tie.Need-add-done-2 Inv-loop μ-loop
 add-done-2 c = omega arith
 
 loop-less : tie.Need-loop-less Inv-loop μ-loop
-loop-less c = omega (arith, c .before .before .before .before .before .before .before .before .pre .0 (omega arith))
+loop-less c = omega (arith, (to-start (c .before .before .before .before .before)) .pre .0 (omega arith))
 
 loop-again : tie.Need-loop-again Inv-loop μ-loop
 loop-again c =
-    let start = c .before .before .before .before .before .before .before .before in
-    again-more (c .before .before .before .before .before .loop .inv) (start .pre .0) (start .pre .1) (omega arith) (c .before .before .copy-on .ensures)
+    let start = to-start (c .before .before .before .before .before) in
+    again-more ((c .before .before .before .before .before) .loop .inv) (start .pre .0) (start .pre .1) (omega arith) (c .before .before .copy-on .ensures)
 
 add-copy-on-4 : tie.Need-add-copy-on-4 Inv-loop μ-loop
 add-copy-on-4 c = omega (arith, c .before .before .loop .inv .within)
 
 add-copy-on-5 : tie.Need-add-copy-on-5 Inv-loop μ-loop
 add-copy-on-5 c =
-    by-cases (decLe 1 (c .before .before .before .before .before .args .count))
-    (λ h. omega (arith, c .before .before .loop .inv .within, c .before .before .before .before .before .pre .0 h)) (λ h. omega (arith, c .before .before .loop .inv .within))
+    by-cases (decLe 1 ((to-start (c .before .before)) .args .count))
+    (λ h. omega (arith, c .before .before .loop .inv .within, (to-start (c .before .before)) .pre .0 h)) (λ h. omega (arith, c .before .before .loop .inv .within))
 
 sub-copy-on : tie.Need-sub-copy-on Inv-loop μ-loop
 sub-copy-on c = c .before .before .loop .inv .within
 
 copy-on-requires-2 : tie.Need-copy-on-requires-2 Inv-loop μ-loop
 copy-on-requires-2 c κs =
-    let start = c .before .before .before .before .before in
+    let start = to-start (c .before .before) in
     let a = c .before .before .loop .inv in
     ((λ h. let near = start .pre .0 (omega arith) in (omega (arith, near), omega (arith, near))), omega (arith, a .long, a .within))
 
 same-length : tie.Need-same-length Inv-loop μ-loop
-same-length c = omega (arith, c .before .before .copy-on2 .kept .0, c .before .before .before .before .before .loop .inv .long)
+same-length c = omega (arith, c .before .before .copy-on2 .kept .0, (c .before .before .before .before .before) .loop .inv .long)
 
 returns : tie.Need-returns Inv-loop μ-loop
 returns c =
-    let start = c .before .before .before .before .before .before .before .before in
-    again-done (c .before .before .before .before .before .loop .inv) (start .pre .0) (start .pre .1) (c .before .before .copy-on2 .ensures)
+    let start = to-start (c .before .before .before .before .before) in
+    again-done ((c .before .before .before .before .before) .loop .inv) (start .pre .0) (start .pre .1) (c .before .before .copy-on2 .ensures)
 
 pub repeat-spec : {M : Type 1} → statement M
 repeat-spec =

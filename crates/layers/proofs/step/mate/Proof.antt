@@ -7,6 +7,16 @@ use Rattle.layers.proofs.Stages.{few-made, rows-made}
 use Rattle.layers.proofs.step.mate.Statement.{statement}
 use Rattle.layers.proofs.step.mate.Tie as tie
 
+-- places, each from a later one
+abbrev to-start : tie.After-turn-arg → tie.Start
+to-start c = c .before .before .before .before .before .before .before .before .before .before .before
+
+abbrev to-turn-arg : tie.After-turn → tie.After-turn-arg
+to-turn-arg c = c .before
+
+abbrev to-turn : tie.After-pairs → tie.After-turn
+to-turn c = c .before .before .before .before .before
+
 few-requires : tie.Need-few-requires
 few-requires c κs = search needs
 
@@ -25,13 +35,13 @@ returns c = λ A all labels t told is adm.
     _ _ (did .0) (did .1)
 
 turn-requires : tie.Need-turn-requires
-turn-requires c κs = let start = c .before .before .before .before .before .before .before .before .before .before .before in
+turn-requires c κs = let start = to-start c in
     let wide = start .pre .wide in
     let few = parts-le (wide .parts) in
     (start .pre .besides-long, start .pre .r-long, omega (arith, wide .actions, few), omega (arith, wide .props, few))
 
 pairs-requires : tie.Need-pairs-requires
-pairs-requires c κs = let start = c .before .before .before .before .before .before .before .before .before .before .before .before .before .before .before .before in
+pairs-requires c κs = let start = to-start (to-turn-arg (c .before .before .before .before)) in
     record {
       wide = start .pre .wide;
       interferers-long = start .pre .interferers-long;
@@ -42,22 +52,22 @@ pairs-requires c κs = let start = c .before .before .before .before .before .be
     }
 
 join-rows-requires : tie.Need-join-rows-requires
-join-rows-requires c κs = let start = c .before .before .before .before .before .before .before .before .before .before .before .before .before .before .before .before .before .before .before .before .before .before in
+join-rows-requires c κs = let start = to-start (to-turn-arg (to-turn (c .before .before .before .before .before))) in
     let wide = start .pre .wide in
     record {
       to-long = start .pre .spare-long;
-      from-long = omega (arith, start .pre .besides-long, c .before .before .before .before .before .before .before .before .before .before .turn .kept .0);
-      table-long = omega (arith, start .pre .mates-long, c .before .before .before .before .before .pairs .kept .1 .1 .1 .1 .0);
+      from-long = omega (arith, start .pre .besides-long, (to-turn (c .before .before .before .before .before)) .turn .kept .0);
+      table-long = omega (arith, start .pre .mates-long, (c .before .before .before .before .before) .pairs .kept .1 .1 .1 .1 .0);
       few = omega (arith, start .pre .adders-long, wide .props, parts-le (wide .parts));
       rows = start .pre .adders-inside;
       parts = wide .parts;
     }
 
 turn-requires-2 : tie.Need-turn-requires-2
-turn-requires-2 c κs = let start = c .before .before .before .before .before .before .before .before .before .before .before .before .before .before .before .before .before .before .before .before .before .before .before .before .before .before .before in
+turn-requires-2 c κs = let start = to-start (to-turn-arg (to-turn (c .before .before .before .before .before .before .before .before .before .before))) in
     let wide = start .pre .wide in
     let few = parts-le (wide .parts) in (
-      omega (arith, start .pre .besides-long, c .before .before .before .before .before .before .before .before .before .before .before .before .before .before .before .turn .kept .0),
+      omega (arith, start .pre .besides-long, (to-turn (c .before .before .before .before .before .before .before .before .before .before)) .turn .kept .0),
       omega (arith, start .pre .spare-long, c .before .before .before .before .join-rows .kept .0),
       omega (arith, wide .props, few),
       omega (arith, wide .actions, few),
@@ -74,10 +84,10 @@ same-length-5 c = search needs
 
 returns-2 : tie.Need-returns-2
 returns-2 c = λ A all labels t told is adm.
-    let start = c .before .before .before .before .before .before .before .before .before .before .before .before .before .before .before .before .before .before .before .before .before .before .before .before .before .before .before .before .before .before in
+    let start = to-start (to-turn-arg (to-turn (c .before .before .before .before .before .before .before .before .before .before .before .before .before))) in
     let a = start .args in
     rows-made A all (a .n) (a .width) (a .needs .now) (a .adds .now) (a .adders .now) (a .interferers .now) (a .live .now) (a .r .now) labels t told (start .pre .wide) is adm
-    _ _ _ _ (start .pre .adders-long) (c .before .before .before .before .before .before .before .before .before .before .before .before .before .before .before .before .before .before .turn .ensures) (c .before .before .before .before .before .before .before .before .before .before .before .before .before .pairs .ensures) (c .before .before .before .before .before .before .before .join-rows .ensures) (c .before .before .turn2 .ensures)
+    _ _ _ _ (start .pre .adders-long) ((to-turn (c .before .before .before .before .before .before .before .before .before .before .before .before .before)) .turn .ensures) ((c .before .before .before .before .before .before .before .before .before .before .before .before .before) .pairs .ensures) (c .before .before .before .before .before .before .before .join-rows .ensures) (c .before .before .turn2 .ensures)
 
 pub mate-spec : {M : Type 1} → statement M
 mate-spec =

@@ -14,8 +14,24 @@ Inv-loop needed₀ goal words needs adders plan₀ live₀ t₀ needed plan live
 abbrev μ-loop : tie.MeasureT-loop
 μ-loop needed₀ goal words needs adders plan₀ live₀ t₀ needed plan live t = t
 
+-- places, each from a later one
+abbrev to-start : tie.After-slice-known2 Inv-loop μ-loop → tie.Start Inv-loop μ-loop
+to-start c = c .before .before .before .before .before
+
+abbrev to-slice-known2 : tie.At-loop Inv-loop μ-loop → tie.After-slice-known2 Inv-loop μ-loop
+to-slice-known2 c = c .before
+
+abbrev to-loop : tie.In-loop Inv-loop μ-loop → tie.At-loop Inv-loop μ-loop
+to-loop c = c .before
+
+abbrev to-turn-of-enum-told : tie.After-enum-told Inv-loop μ-loop → tie.In-loop Inv-loop μ-loop
+to-turn-of-enum-told c = c .before .before .before .before .before .before
+
+abbrev to-turn-of-known-told : tie.After-known-told Inv-loop μ-loop → tie.In-loop Inv-loop μ-loop
+to-turn-of-known-told c = c .before .before .before .before .before .before .before
+
 loop-holds : tie.Need-loop-holds Inv-loop μ-loop
-loop-holds c = let start = c .before .before .before .before .before in fall-none (start .pre .0) (start .pre .1) (start .pre .2) (start .pre .3)
+loop-holds c = let start = (to-start c) in fall-none (start .pre .0) (start .pre .1) (start .pre .2) (start .pre .3)
 
 sub-t : tie.Need-sub-t Inv-loop μ-loop
 sub-t c = omega arith
@@ -36,42 +52,42 @@ enum-told c = search simple
 
 add-t15 : tie.Need-add-t15 Inv-loop μ-loop
 add-t15 c =
-    let at-loop = c .before .before .before .before .before .before .before in
+    let at-loop = to-loop (to-turn-of-enum-told c) in
     omega (arith, at-loop .loop .inv .room .deep, at-loop .loop .inv .inside)
 
 same-length : tie.Need-same-length Inv-loop μ-loop
-same-length c = c .before .before .before .before .fall .kept .0 ∙ c .before .before .before .before .before .before .before .loop .inv .wide ∙ sym (c .before .before .before .before .before .before .before .before .before .before .before .before .before .pre .2)
+same-length c = c .before .before .before .before .fall .kept .0 ∙ (to-loop (to-turn-of-enum-told c)) .loop .inv .wide ∙ sym ((to-start (to-slice-known2 (to-loop (to-turn-of-enum-told c)))) .pre .2)
 
 same-length-2 : tie.Need-same-length-2 Inv-loop μ-loop
-same-length-2 c = c .before .before .before .before .before .before .before .loop .inv .long
+same-length-2 c = (to-loop (to-turn-of-enum-told c)) .loop .inv .long
 
 returns : tie.Need-returns Inv-loop μ-loop
 returns c =
-    let at-loop = c .before .before .before .before .before .before .before in
-    fall-off (at-loop .loop .inv) (at-loop .loop .t - 1) (omega (arith, c .before .before .before .before .before .before .loop-test .taken)) (c .before .before .before .before .fall .ensures) (c .enum-told .given .1)
+    let at-loop = to-loop (to-turn-of-enum-told c) in
+    fall-off (at-loop .loop .inv) (at-loop .loop .t - 1) (omega (arith, (to-turn-of-enum-told c) .loop-test .taken)) (c .before .before .before .before .fall .ensures) (c .enum-told .given .1)
 
 mul-plan : tie.Need-mul-plan Inv-loop μ-loop
 mul-plan c = omega arith
 
 slice-write-plan : tie.Need-slice-write-plan Inv-loop μ-loop
 slice-write-plan c =
-    let at-loop = c .before .before .before .before .before .before .before .before in
-    omega (arith, at-loop .loop .inv .long, at-loop .loop .inv .inside, c .before .before .before .before .before .before .before .loop-test .taken)
+    let at-loop = to-loop (to-turn-of-known-told c) in
+    omega (arith, at-loop .loop .inv .long, at-loop .loop .inv .inside, (to-turn-of-known-told c) .loop-test .taken)
 
 loop-less : tie.Need-loop-less Inv-loop μ-loop
-loop-less c = omega (arith, c .before .before .before .before .before .before .before .loop-test .taken)
+loop-less c = omega (arith, (to-turn-of-known-told c) .loop-test .taken)
 
 loop-again : tie.Need-loop-again Inv-loop μ-loop
 loop-again c =
     let at-fall = c .before .before .before .before .before in
     let at-loop = at-fall .before .before .before in
-    fall-on (at-loop .loop .inv) (at-loop .loop .t - 1) (omega (arith, c .before .before .before .before .before .before .before .loop-test .taken)) _ _ (at-fall .fall .ensures) (c .before .answer .given .1) (at-fall .fall .kept .0)
+    fall-on (at-loop .loop .inv) (at-loop .loop .t - 1) (omega (arith, (to-turn-of-known-told c) .loop-test .taken)) _ _ (at-fall .fall .ensures) (c .before .answer .given .1) (at-fall .fall .kept .0)
 
 grounded-requires : tie.Need-grounded-requires Inv-loop μ-loop
 grounded-requires c κs = let l = c .before .before .loop in room-front (l .inv .wide) (l .inv .room)
 
 same-length-3 : tie.Need-same-length-3 Inv-loop μ-loop
-same-length-3 c = c .before .before .before .before .loop .inv .wide ∙ sym (c .before .before .before .before .before .before .before .before .before .before .pre .2)
+same-length-3 c = c .before .before .before .before .loop .inv .wide ∙ sym ((to-start (to-slice-known2 (c .before .before .before .before))) .pre .2)
 
 same-length-4 : tie.Need-same-length-4 Inv-loop μ-loop
 same-length-4 c = c .before .before .before .before .loop .inv .long
@@ -80,7 +96,7 @@ returns-2 : tie.Need-returns-2 Inv-loop μ-loop
 returns-2 c = fall-whole (c .before .before .before .before .loop .inv) (c .before .before .before .loop-test .left) _ (c .before .grounded .ensures) (c .if1 .taken)
 
 same-length-5 : tie.Need-same-length-5 Inv-loop μ-loop
-same-length-5 c = c .before .before .before .before .loop .inv .wide ∙ sym (c .before .before .before .before .before .before .before .before .before .before .pre .2)
+same-length-5 c = c .before .before .before .before .loop .inv .wide ∙ sym ((to-start (to-slice-known2 (c .before .before .before .before))) .pre .2)
 
 same-length-6 : tie.Need-same-length-6 Inv-loop μ-loop
 same-length-6 c = c .before .before .before .before .loop .inv .long

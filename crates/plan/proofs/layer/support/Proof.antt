@@ -20,11 +20,33 @@ Inv-props wanted live labels needs adders under₀ s₀ props₀ under s props =
 abbrev μ-props : tie.MeasureT-props
 μ-props wanted live labels needs adders under₀ s₀ props₀ under s props = props
 
+-- places, each from a later one
+abbrev to-start : tie.After-slice-known Inv-loop μ-loop Inv-props μ-props → tie.Start Inv-loop μ-loop Inv-props μ-props
+to-start c = c .before .before .before .before .before
+
+abbrev to-slice-known : tie.At-props Inv-loop μ-loop Inv-props μ-props → tie.After-slice-known Inv-loop μ-loop Inv-props μ-props
+to-slice-known c = c .before .before
+
+abbrev to-props-of-props : tie.In-props Inv-loop μ-loop Inv-props μ-props → tie.At-props Inv-loop μ-loop Inv-props μ-props
+to-props-of-props c = c .before
+
+abbrev to-props-of-lowest : tie.After-lowest Inv-loop μ-loop Inv-props μ-props → tie.In-props Inv-loop μ-loop Inv-props μ-props
+to-props-of-lowest c = c .before
+
+abbrev to-lowest : tie.After-others Inv-loop μ-loop Inv-props μ-props → tie.After-lowest Inv-loop μ-loop Inv-props μ-props
+to-lowest c = c .before
+
+abbrev to-others : tie.At-loop Inv-loop μ-loop Inv-props μ-props → tie.After-others Inv-loop μ-loop Inv-props μ-props
+to-others c = c .before .before .before .before .before .before .before .before
+
+abbrev to-loop : tie.In-loop Inv-loop μ-loop Inv-props μ-props → tie.At-loop Inv-loop μ-loop Inv-props μ-props
+to-loop c = c .before
+
 wide-requires : tie.Need-wide-requires Inv-loop μ-loop Inv-props μ-props
 wide-requires c κs = tt
 
 props-holds : tie.Need-props-holds Inv-loop μ-loop Inv-props μ-props
-props-holds c = let start = c .before .before .before .before .before .before in lay-none (start .pre .0) (start .pre .1) refl refl (c .wide .ensures)
+props-holds c = let start = (to-start (c .before)) in lay-none (start .pre .0) (start .pre .1) refl refl (c .wide .ensures)
 
 lowest-requires : tie.Need-lowest-requires Inv-loop μ-loop Inv-props μ-props
 lowest-requires c κs = tt
@@ -54,36 +76,36 @@ mul-carry c =
 
 shared-slice-read-carry : tie.Need-shared-slice-read-carry Inv-loop μ-loop Inv-props μ-props
 shared-slice-read-carry c =
-    let at-props = c .before .before .before .before .before in
+    let at-props = to-props-of-props (to-props-of-lowest (to-lowest (c .before .before))) in
     omega (arith, c .before .before .before .lowest .ensures, lay-lt (at-props .props .inv) (c .before .before .before .before .props-test .taken), at-props .props .inv .lists .wide, at-props .props .inv .lists .labelled)
 
 carry-requires : tie.Need-carry-requires Inv-loop μ-loop Inv-props μ-props
 carry-requires c κs =
-    let at-props = c .before .before .before .before .before .before in
+    let at-props = to-props-of-props (to-props-of-lowest (to-lowest (c .before .before .before))) in
     let l = at-props .props in (
-      omega (arith, c .before .before .before .before .lowest .ensures, lay-lt (at-props .props .inv) (c .before .before .before .before .before .props-test .taken), at-props .props .inv .lists .wide, l .inv .long),
+      omega (arith, c .before .before .before .before .lowest .ensures, lay-lt (at-props .props .inv) ((to-props-of-lowest (to-lowest (c .before .before .before))) .props-test .taken), at-props .props .inv .lists .wide, l .inv .long),
       omega (arith, l .inv .long, l .inv .lists .tables .props),
       l .inv .live,
     )
 
 mul-by : tie.Need-mul-by Inv-loop μ-loop Inv-props μ-props
 mul-by c =
-    let at-props = c .before .before .before .before .before .before .before .before .before in
-    omega (arith, c .before .before .before .before .before .before .before .lowest .ensures, lay-lt (at-props .props .inv) (c .before .before .before .before .before .before .before .before .props-test .taken), at-props .props .inv .lists .wide, at-props .props .inv .lists .tables .props)
+    let at-props = to-props-of-props (to-props-of-lowest (to-lowest (c .before .before .before .before .before .before))) in
+    omega (arith, (to-lowest (c .before .before .before .before .before .before)) .lowest .ensures, lay-lt (at-props .props .inv) ((to-props-of-lowest (to-lowest (c .before .before .before .before .before .before))) .props-test .taken), at-props .props .inv .lists .wide, at-props .props .inv .lists .tables .props)
 
 shared-slice-read-by : tie.Need-shared-slice-read-by Inv-loop μ-loop Inv-props μ-props
 shared-slice-read-by c =
-    let at-props = c .before .before .before .before .before .before .before .before .before .before in
-    omega (arith, c .before .before .before .before .before .before .before .before .lowest .ensures, lay-lt (at-props .props .inv) (c .before .before .before .before .before .before .before .before .before .props-test .taken), at-props .props .inv .lists .wide)
+    let at-props = to-props-of-props (to-props-of-lowest (to-lowest (c .before .before .before .before .before .before .before))) in
+    omega (arith, (to-lowest (c .before .before .before .before .before .before .before)) .lowest .ensures, lay-lt (at-props .props .inv) ((to-props-of-lowest (to-lowest (c .before .before .before .before .before .before .before))) .props-test .taken), at-props .props .inv .lists .wide)
 
 loop-holds : tie.Need-loop-holds Inv-loop μ-loop Inv-props μ-props
-loop-holds c = lay-open (c .before .before .before .before .before .before .before .before .before .before .props .inv) (c .before .before .before .before .before .before .before .before .before .props-test .taken) (c .before .before .before .before .before .before .before .before .lowest .ensures) refl refl (c .before .before .before .carry .ensures)
+loop-holds c = lay-open ((to-props-of-props (to-props-of-lowest (to-lowest (c .before .before .before .before .before .before .before)))) .props .inv) ((to-props-of-lowest (to-lowest (c .before .before .before .before .before .before .before))) .props-test .taken) ((to-lowest (c .before .before .before .before .before .before .before)) .lowest .ensures) refl refl (c .before .before .before .carry .ensures)
 
 props-less : tie.Need-props-less Inv-loop μ-loop Inv-props μ-props
-props-less c = c .before .before .before .before .before .before .before .before .before .before .before .others .ensures .1
+props-less c = (to-others (to-loop (c .before .before))) .others .ensures .1
 
 props-again : tie.Need-props-again Inv-loop μ-loop Inv-props μ-props
-props-again c = seek-clear (c .before .before .before .before .before .before .before .before .before .before .before .before .before .before .props .inv) (c .before .before .before .before .before .before .before .before .before .before .before .before .before .props-test .taken) (c .before .before .before .before .before .before .before .before .before .before .before .before .lowest .ensures) (c .before .before .before .before .before .before .before .before .before .before .before .others .ensures .0) (c .before .before .before .loop .inv) (c .if1 .taken)
+props-again c = seek-clear ((to-props-of-props (to-props-of-lowest (to-lowest (to-others (to-loop (c .before .before)))))) .props .inv) ((to-props-of-lowest (to-lowest (to-others (to-loop (c .before .before))))) .props-test .taken) ((to-lowest (to-others (to-loop (c .before .before)))) .lowest .ensures) ((to-others (to-loop (c .before .before))) .others .ensures .0) (c .before .before .before .loop .inv) (c .if1 .taken)
 
 lowest-requires-2 : tie.Need-lowest-requires-2 Inv-loop μ-loop Inv-props μ-props
 lowest-requires-2 c κs = tt
@@ -95,18 +117,18 @@ mul-turn c =
 
 shared-slice-read-turn : tie.Need-shared-slice-read-turn Inv-loop μ-loop Inv-props μ-props
 shared-slice-read-turn c =
-    let at-loop = c .before .before .before .before .before in
+    let at-loop = to-loop (c .before .before .before .before) in
     omega (arith, c .before .lowest2 .ensures, seek-lt (at-loop .loop .inv) (c .before .before .before .before .loop-test .taken), at-loop .loop .inv .lists .tables .few, at-loop .loop .inv .lists .labelled)
 
 mul-turn-2 : tie.Need-mul-turn-2 Inv-loop μ-loop Inv-props μ-props
 mul-turn-2 c =
-    let at-loop = c .before .before .before .before .before in
+    let at-loop = to-loop (c .before .before .before .before) in
     omega (arith, c .before .lowest2 .ensures, seek-lt (at-loop .loop .inv) (c .before .before .before .before .loop-test .taken), at-loop .loop .inv .lists .tables .few)
 
 shared-slice-read-turn-2 : tie.Need-shared-slice-read-turn-2 Inv-loop μ-loop Inv-props μ-props
 shared-slice-read-turn-2 c =
-    let at-loop = c .before .before .before .before .before .before in
-    omega (arith, c .before .before .lowest2 .ensures, seek-lt (at-loop .loop .inv) (c .before .before .before .before .before .loop-test .taken), at-loop .loop .inv .lists .tables .few)
+    let at-loop = to-loop (c .before .before .before .before .before) in
+    omega (arith, c .before .before .lowest2 .ensures, seek-lt (at-loop .loop .inv) ((c .before .before .before .before .before) .loop-test .taken), at-loop .loop .inv .lists .tables .few)
 
 turn-requires : tie.Need-turn-requires Inv-loop μ-loop Inv-props μ-props
 turn-requires c κs =
@@ -115,34 +137,34 @@ turn-requires c κs =
     let at-loop = at-loop-test .before in
     let l = at-loop .loop in (
       omega (arith, at-lowest2 .lowest2 .ensures, seek-lt (at-loop .loop .inv) (at-loop-test .loop-test .taken), at-loop .loop .inv .lists .tables .few),
-      subst (λ (x : ℕ). getD (c .before .before .before .before .before .before .before .before .before .before .before .before .before .before .before .before .before .before .before .before .before .before .before .before .before .args .needs .now) (at-lowest2 .lowest2 .result) 0 < 2 ^ x) (sym (l .inv .long)) (l .inv .lists .tables .pre _ (omega (arith, at-lowest2 .lowest2 .ensures, seek-lt (at-loop .loop .inv) (at-loop-test .loop-test .taken), at-loop .loop .inv .lists .tables .few))),
+      subst (λ (x : ℕ). getD ((to-start (to-slice-known (to-props-of-props (to-props-of-lowest (to-lowest (to-others (to-loop (c .before .before .before .before .before .before)))))))) .args .needs .now) (at-lowest2 .lowest2 .result) 0 < 2 ^ x) (sym (l .inv .long)) (l .inv .lists .tables .pre _ (omega (arith, at-lowest2 .lowest2 .ensures, seek-lt (at-loop .loop .inv) (at-loop-test .loop-test .taken), at-loop .loop .inv .lists .tables .few))),
       omega (arith, l .inv .long, l .inv .lists .tables .props),
       l .inv .live,
     )
 
 others-requires-2 : tie.Need-others-requires-2 Inv-loop μ-loop Inv-props μ-props
-others-requires-2 c κs = c .before .before .before .before .before .before .before .before .before .loop-test .taken
+others-requires-2 c κs = (c .before .before .before .before .before .before .before .before .before) .loop-test .taken
 
 loop-less : tie.Need-loop-less Inv-loop μ-loop Inv-props μ-props
 loop-less c = c .others2 .ensures .1
 
 loop-again : tie.Need-loop-again Inv-loop μ-loop Inv-props μ-props
-loop-again c = seek-on (c .before .before .before .before .before .before .before .before .before .before .before .loop .inv) (c .before .before .before .before .before .before .before .before .before .before .loop-test .taken) (c .before .before .before .before .before .before .before .before .if1 .left) (c .before .before .before .before .before .before .before .lowest2 .ensures) (c .others2 .ensures .0) refl refl (c .before .before .before .turn .ensures)
+loop-again c = seek-on ((to-loop (c .before .before .before .before .before .before .before .before .before .before)) .loop .inv) ((c .before .before .before .before .before .before .before .before .before .before) .loop-test .taken) (c .before .before .before .before .before .before .before .before .if1 .left) (c .before .before .before .before .before .before .before .lowest2 .ensures) (c .others2 .ensures .0) refl refl (c .before .before .before .turn .ensures)
 
 same-length : tie.Need-same-length Inv-loop μ-loop Inv-props μ-props
-same-length c = c .before .before .before .loop .inv .long ∙ sym (ap length (c .before .before .before .before .before .before .before .before .before .before .before .before .before .before .before .before .before .before .before .before .before .pre .1) ∙ length-listOver _ _)
+same-length c = c .before .before .before .loop .inv .long ∙ sym (ap length ((to-start (to-slice-known (to-props-of-props (to-props-of-lowest (to-lowest (to-others (c .before .before .before))))))) .pre .1) ∙ length-listOver _ _)
 
 returns : tie.Need-returns Inv-loop μ-loop Inv-props μ-props
 returns c = seek-end (c .before .before .before .loop .inv) (c .before .before .loop-test .left) (c .if2 .taken)
 
 props-less-2 : tie.Need-props-less-2 Inv-loop μ-loop Inv-props μ-props
-props-less-2 c = c .before .before .before .before .before .before .before .before .before .before .before .others .ensures .1
+props-less-2 c = (to-others (c .before .before .before)) .others .ensures .1
 
 props-again-2 : tie.Need-props-again-2 Inv-loop μ-loop Inv-props μ-props
-props-again-2 c = seek-clear (c .before .before .before .before .before .before .before .before .before .before .before .before .before .before .props .inv) (c .before .before .before .before .before .before .before .before .before .before .before .before .before .props-test .taken) (c .before .before .before .before .before .before .before .before .before .before .before .before .lowest .ensures) (c .before .before .before .before .before .before .before .before .before .before .before .others .ensures .0) (c .before .before .before .loop .inv) (c .if2 .left)
+props-again-2 c = seek-clear ((to-props-of-props (to-props-of-lowest (to-lowest (to-others (c .before .before .before))))) .props .inv) ((to-props-of-lowest (to-lowest (to-others (c .before .before .before)))) .props-test .taken) ((to-lowest (to-others (c .before .before .before))) .lowest .ensures) ((to-others (c .before .before .before)) .others .ensures .0) (c .before .before .before .loop .inv) (c .if2 .left)
 
 same-length-2 : tie.Need-same-length-2 Inv-loop μ-loop Inv-props μ-props
-same-length-2 c = c .before .props .inv .long ∙ sym (ap length (c .before .before .before .before .before .before .before .before .pre .1) ∙ length-listOver _ _)
+same-length-2 c = c .before .props .inv .long ∙ sym (ap length ((to-start (to-slice-known (c .before))) .pre .1) ∙ length-listOver _ _)
 
 returns-2 : tie.Need-returns-2 Inv-loop μ-loop Inv-props μ-props
 returns-2 c = lay-end (c .before .props .inv) (c .props-test .left)

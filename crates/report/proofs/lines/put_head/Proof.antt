@@ -7,6 +7,16 @@ use borrow.Author.Needs.{needs}
 use Rattle.report.proofs.lines.put_head.Statement.{statement}
 use Rattle.report.proofs.lines.put_head.Tie as tie
 
+-- places, each from a later one
+abbrev to-start : tie.After-put → tie.Start
+to-start c = c .before .before .before .before
+
+abbrev to-put : tie.After-put-decimal → tie.After-put
+to-put c = c .before .before .before .before
+
+abbrev to-put-decimal : tie.After-put2 → tie.After-put-decimal
+to-put-decimal c = c .before .before .before .before .before
+
 slice-aggregate-put : tie.Need-slice-aggregate-put
 slice-aggregate-put c = search needs
 
@@ -17,7 +27,7 @@ put-decimal-requires : tie.Need-put-decimal-requires
 put-decimal-requires c κs = let one = c .before .before .before .put .ensures in
     omega (
       arith,
-      decimal-length 3 (c .before .before .before .before .before .before .before .args .depth) (omega arith)
+      decimal-length 3 ((to-start (c .before .before .before)) .args .depth) (omega arith)
           (omega arith),
       one .ends,
       wrote-length one,
@@ -27,11 +37,11 @@ slice-aggregate-put-2 : tie.Need-slice-aggregate-put-2
 slice-aggregate-put-2 c = search needs
 
 put-requires-2 : tie.Need-put-requires-2
-put-requires-2 c κs = let one = c .before .before .before .before .before .before .before .before .put .ensures in
+put-requires-2 c κs = let one = (to-put (c .before .before .before .before)) .put .ensures in
     let two = c .before .before .before .before .put-decimal .ensures in
     omega (
       arith,
-      decimal-length 3 (c .before .before .before .before .before .before .before .before .before .before .before .before .args .depth)
+      decimal-length 3 ((to-start (to-put (c .before .before .before .before))) .args .depth)
           (omega arith) (omega arith),
       one .ends,
       wrote-length one,
@@ -40,13 +50,13 @@ put-requires-2 c κs = let one = c .before .before .before .before .before .befo
     )
 
 put-rest-requires : tie.Need-put-rest-requires
-put-rest-requires c κs = let one = c .before .before .before .before .before .before .before .before .before .before .before .before .put .ensures in
-    let two = c .before .before .before .before .before .before .before .before .put-decimal .ensures in
+put-rest-requires c κs = let one = (to-put (to-put-decimal (c .before .before .before))) .put .ensures in
+    let two = (to-put-decimal (c .before .before .before)) .put-decimal .ensures in
     let three = c .before .before .before .put2 .ensures in (
       search needs,
       omega (
         arith,
-        decimal-length 3 (c .before .before .before .before .before .before .before .before .before .before .before .before .before .before .before .before
+        decimal-length 3 ((to-start (to-put (to-put-decimal (c .before .before .before))))
             .args .depth) (omega arith) (omega arith),
         one .ends,
         wrote-length one,
@@ -62,12 +72,10 @@ slice-aggregate-put-3 c = search needs
 
 put-requires-3 : tie.Need-put-requires-3
 put-requires-3 c κs =
-    let start = c .before .before .before .before .before .before .before .before .before .before .before .before .before .before .before .before
-    .before .before .before .before .before in
-    let one = c .before .before .before .before .before .before .before .before .before .before .before .before .before .before .before
-    .before .before .put .ensures in
-    let two = c .before .before .before .before .before .before .before .before .before .before .before .before .before .put-decimal .ensures in
-    let three = c .before .before .before .before .before .before .before .before .put2 .ensures in
+    let start = to-start (to-put (to-put-decimal (c .before .before .before .before .before .before .before .before))) in
+    let one = (to-put (to-put-decimal (c .before .before .before .before .before .before .before .before))) .put .ensures in
+    let two = (to-put-decimal (c .before .before .before .before .before .before .before .before)) .put-decimal .ensures in
+    let three = (c .before .before .before .before .before .before .before .before) .put2 .ensures in
     let four = c .before .before .before .before .put-rest .ensures in
     omega (
       arith,
@@ -90,10 +98,9 @@ same-length c = search needs
 returns : tie.Need-returns
 unfolding headText
 returns c = wrote-then
-    (c .before .before .before .before .before .before .before .before .before .before .before .before .before .before .before .before .before .before
-    .before .before .put .ensures)
-    (wrote-then (c .before .before .before .before .before .before .before .before .before .before .before .before .before .before .before .before
-    .put-decimal .ensures) (wrote-then (c .before .before .before .before .before .before .before .before .before .before .before .put2 .ensures)
+    ((to-put (to-put-decimal (c .before .before .before .before .before .before .before .before .before .before .before))) .put .ensures)
+    (wrote-then ((to-put-decimal (c .before .before .before .before .before .before .before .before .before .before .before))
+    .put-decimal .ensures) (wrote-then ((c .before .before .before .before .before .before .before .before .before .before .before) .put2 .ensures)
     (wrote-then (c .before .before .before .before .before .before .before .put-rest .ensures) (c .before .before .put3 .ensures))))
 
 pub put-head-spec : {M : Type 1} → statement M
