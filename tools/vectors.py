@@ -36,6 +36,10 @@ CALL = ['kind', 'file', 'depth', 'set', 'goal', 'words', 'graph', 'base', 'mask'
 ANSWERS = ['refused # #', 'built #', 'rest #', 'none', 'level #', 'never', 'not by depth', 'extracted #',
            'plan # count #', 'ran #']
 
+# The memory that the program has (`WORDS` and `SETS` in crates/vectors/src/calls.rt).
+WORDS, SETS = 40000, 512
+MEMORY = {kind: {'words': WORDS, 'out': WORDS if kind == 'extract' else SETS} for kind in KINDS}
+
 
 def number(n):
     some = (n.bit_length() + 7) // 8
@@ -97,6 +101,8 @@ def call(line, built):
     case = {'kind': KINDS.index(kind), 'file': octets(given['file']), 'list': octets(given.get('list', '-'))}
     case |= {key: int(given[key]) for key in ('depth', 'words', 'out', 'fill') if key in given}
     case |= {key: int(given[key], 16) for key in ('set', 'goal') if key in given}
+    if case.get('goal', 0) >= 2 ** 32 or any(case.get(key, 0) > most for key, most in MEMORY[kind].items()):
+        raise ValueError(f'the program has not so much room: {line}')
     case |= graph(given['graph'], case['words']) if 'graph' in given else {}
     return case | answer(text) | {'digest': int(digest or '0', 16)}
 

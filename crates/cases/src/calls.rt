@@ -1,18 +1,28 @@
 // The calls, each with its answer as a line of text.
 use crate::line::DEPTH;
-use crate::line::FILE;
 use crate::line::GOAL;
 use crate::line::OUT;
 use crate::line::SET;
 use crate::line::TEXT;
 use crate::line::WORDS;
-use crate::line::bytes;
+use crate::line::cut;
+use crate::line::fitting;
 use crate::line::number;
 use crate::line::size;
-use crate::show::say;
+use crate::show;
+use crate::show::BUILT;
+use crate::show::EXTRACTED;
+use crate::show::LEVEL;
+use crate::show::NEVER;
+use crate::show::NONE;
+use crate::show::NOT_BY_DEPTH;
+use crate::show::RAN;
+use crate::show::RESTS;
 use crate::show::say_line;
+use crate::show::say_name;
 use crate::show::say_plan;
 use crate::show::say_refusal;
+use crate::show::show_sets;
 use build::BuildAnswer;
 use build::build;
 use extract::ExtractAnswer;
@@ -31,116 +41,104 @@ use words::sets::States;
 // Where the list of a run begins, behind the longest file.
 const LIST: usize = 700;
 
-fn file<'a>(line: &[u8], memory: &'a [u8]) -> &'a [u8] {
-    bytes(memory, 0, size(line, FILE))
-}
+// How many sets there are for a plan or a run, and what each holds before it.
+const SETS: usize = 3;
+
+const FRESH: u32 = 9;
 
 fn states(line: &[u8]) -> States {
     States(number(line, SET) as u64)
 }
 
-// The words from a to b, or all where there are fewer.
-pub fn part<'a>(words: &'a [u64], a: usize, b: usize) -> &'a [u64] {
-    if a <= b {
-        if b <= words.len() {
-            return &words[a..b];
-        }
-    }
-    words
-}
-
-// The first n words, to write to.
-fn room<'a>(words: &'a mut [u64], n: usize) -> &'a mut [u64] {
-    if n <= words.len() {
-        return &mut words[..n];
-    }
-    words
-}
-
-pub fn set_room<'a>(sets: &'a mut [u32], n: usize) -> &'a mut [u32] {
-    if n <= sets.len() {
-        return &mut sets[..n];
-    }
-    sets
-}
-
-pub fn build_to(line: &[u8], memory: &[u8], words: &mut [u64]) {
-    let answer = build(
-        file(line, memory),
-        size(line, DEPTH),
-        room(words, size(line, WORDS)),
-    );
+// With no text nothing is said.
+fn say_built(line: &[u8], answer: BuildAnswer) {
     if line.len() == TEXT {
         return;
     }
     match answer {
-        BuildAnswer::Built(n) => say_line(b"built ", n),
+        BuildAnswer::Built(n) => say_line(BUILT, n),
         BuildAnswer::Refused(why) => say_refusal(why),
     }
 }
 
-pub fn rest_of(line: &[u8], memory: &[u8], words: &[u64]) {
-    match rest(
-        file(line, memory),
-        size(line, DEPTH),
-        part(words, 0, size(line, WORDS)),
-    ) {
-        RestAnswer::At(t) => say_line(b"rest ", t),
-        RestAnswer::None => say(b"none\n"),
+pub fn build_to(line: &[u8], file: &[u8], words: &mut [u64]) {
+    let n = fitting(size(line, WORDS), words.len());
+    let answer = build(file, size(line, DEPTH), &mut words[0..n]);
+    say_built(line, answer);
+}
+
+pub fn rest_of(line: &[u8], file: &[u8], graph: &[u64]) {
+    match rest(file, size(line, DEPTH), graph) {
+        RestAnswer::At(t) => say_line(RESTS, t),
+        RestAnswer::None => say_name(NONE),
         RestAnswer::Refused(why) => say_refusal(why),
     }
 }
 
-pub fn level_of(line: &[u8], memory: &[u8], words: &[u64]) {
+pub fn level_of(line: &[u8], file: &[u8], graph: &[u64]) {
     match level(
-        file(line, memory),
+        file,
         size(line, DEPTH),
         states(line),
         Props(number(line, GOAL)),
-        part(words, 0, size(line, WORDS)),
+        graph,
     ) {
-        LevelAnswer::At(t) => say_line(b"level ", t),
-        LevelAnswer::Never => say(b"never\n"),
-        LevelAnswer::NotByDepth => say(b"not by depth\n"),
+        LevelAnswer::At(t) => say_line(LEVEL, t),
+        LevelAnswer::Never => say_name(NEVER),
+        LevelAnswer::NotByDepth => say_name(NOT_BY_DEPTH),
         LevelAnswer::Refused(why) => say_refusal(why),
     }
 }
 
-pub fn extract_to(line: &[u8], memory: &[u8], words: &[u64], out: &mut [u64]) {
-    match extract(
-        file(line, memory),
-        size(line, DEPTH),
-        states(line),
-        part(words, 0, size(line, WORDS)),
-        room(out, size(line, OUT)),
-    ) {
-        ExtractAnswer::Extracted(n) => say_line(b"extracted ", n),
+pub fn extract_to(line: &[u8], file: &[u8], graph: &[u64], out: &mut [u64]) {
+    let n = fitting(size(line, OUT), out.len());
+    let answer = extract(file, size(line, DEPTH), states(line), graph, &mut out[0..n]);
+    say_extracted(answer);
+}
+
+fn say_extracted(answer: ExtractAnswer) {
+    match answer {
+        ExtractAnswer::Extracted(n) => say_line(EXTRACTED, n),
         ExtractAnswer::Refused(why) => say_refusal(why),
     }
 }
 
-pub fn plan_to(line: &[u8], memory: &[u8], words: &[u64], out: &mut [u32]) {
+fn plan_to(line: &[u8], file: &[u8], graph: &[u64], out: &mut [u32]) {
     match plan(
-        file(line, memory),
+        file,
         size(line, DEPTH),
         states(line),
         Props(number(line, GOAL)),
-        part(words, 0, size(line, WORDS)),
-        set_room(out, size(line, OUT)),
+        graph,
+        out,
     ) {
         PlanAnswer::Plan(level, count) => say_plan(level, count),
         PlanAnswer::Refused(why) => say_refusal(why),
     }
 }
 
-pub fn run_to(line: &[u8], memory: &[u8], out: &mut [u32]) {
-    match run(
-        file(line, memory),
-        states(line),
-        bytes(memory, LIST, size(line, DEPTH)),
-        set_room(out, size(line, OUT)),
-    ) {
-        RunAnswer::Ran(n) => say_line(b"ran ", n),
+fn run_to(line: &[u8], file: &[u8], list: &[u8], out: &mut [u32]) {
+    match run(file, states(line), list, out) {
+        RunAnswer::Ran(n) => say_line(RAN, n),
         RunAnswer::Refused(why) => say_refusal(why),
     }
+}
+
+// A call that writes sets.
+fn sets_to(letter: u8, line: &[u8], file: &[u8], memory: &[u8], graph: &[u64], out: &mut [u32]) {
+    match letter {
+        b'p' => plan_to(line, file, graph, out),
+        b'n' => run_to(line, file, cut(memory, LIST, size(line, DEPTH)), out),
+        _ => say_name(show::NO_STEP),
+    }
+}
+
+// What it writes is printed too.
+pub fn sets_of(letter: u8, line: &[u8], file: &[u8], memory: &[u8], graph: &[u64]) {
+    let mut room = [FRESH; SETS];
+    let n = fitting(size(line, OUT), SETS);
+    let out = &mut room[0..n];
+    sets_to(letter, line, file, memory, graph, &mut *out);
+    say_name(show::SETS);
+    show_sets(&out[..]);
 }

@@ -1,6 +1,5 @@
 // A line of the script: what stands in its columns.
-ghost use Prim.Native.Nat.{_<_, _≤_};
-ghost use lib.ListN.{length};
+ghost use Prim.Native.Nat.{_≤_};
 
 // Where the numbers of a line begin, six columns each: bytes of the file, depth, set of states, goal, words of graph memory, elements of output.
 pub const FILE: usize = 1;
@@ -20,7 +19,7 @@ pub const TEXT: usize = 38;
 const WIDTH: usize = 6;
 
 // n bytes from `at` on, or none where there are fewer.
-pub fn bytes<'a>(data: &'a [u8], at: usize, n: usize) -> &'a [u8] {
+pub fn cut<'a>(data: &'a [u8], at: usize, n: usize) -> &'a [u8] {
     if at <= data.len() {
         if n <= data.len() - at {
             let end = at + n;
@@ -48,24 +47,27 @@ fn value(digits: &[u8]) -> u32 {
 
 // The number whose columns begin at `at`.
 pub fn number(line: &[u8], at: usize) -> u32 {
-    value(bytes(line, at, WIDTH))
+    value(cut(line, at, WIDTH))
 }
 
 pub fn size(line: &[u8], at: usize) -> usize {
     number(line, at) as usize
 }
 
-// Where the line that `at` stands in ends.
-pub fn line_end(script: &[u8], at: usize) -> usize
-    requires { ⌜ at < length (now script) ⌝ }
-    ensures { λ r. ⌜ (at ≤ r) × (r ≤ length (now (script .entry))) ⌝ }
+// n, or none where there are fewer.
+pub fn fitting(n: usize, room: usize) -> usize
+    ensures { λ r. ⌜ r ≤ room ⌝ }
 {
-    let mut i = at;
-    while i < script.len() {
-        if script[i] == b'\n' {
-            return i;
-        }
-        i += 1;
+    if n <= room {
+        return n;
     }
-    i
+    0
+}
+
+// The letter of a line, 0 for one that is too short to be a step.
+pub fn letter(line: &[u8]) -> u8 {
+    if line.len() < TEXT {
+        return 0;
+    }
+    line[0]
 }

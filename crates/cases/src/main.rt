@@ -3,25 +3,50 @@
 // e puts the byte DEPTH at offset FILE of the byte memory, which holds the file, and from `calls::LIST` on the list of a run;
 // w puts the word DEPTH at index FILE of the graph memory;
 // b build (with no text it prints nothing), r rest, l level, x extract, p plan, n run (of DEPTH steps): a call, whose answer is printed;
-// g, o print the words FILE to DEPTH of the graph memory, of the extract's output; s prints the first FILE sets of output, and makes them `show::FRESH` again.
+// g, o print the words FILE to DEPTH of the graph memory, of the extract's output. The output of a plan and of a run is printed behind the answer.
 mod calls;
 mod line;
 mod show;
 
-use line::TEXT;
-use line::bytes;
-use line::line_end;
+use bytes::scan::find;
+use line::cut;
+use line::letter;
 use line::number;
 use line::size;
-use show::say;
 
-// The byte memory: the file, and from `calls::LIST` on a list of 65,536 steps, one more than a run takes.
+// The byte memory: the file, and from `calls::LIST` on, behind the longest file, a list of 65,536 steps, one more than a run takes.
 const BYTES: usize = 66236;
 
-fn put_byte(line: &[u8], bytes: &mut [u8]) {
+fn file<'a>(line: &[u8], memory: &'a [u8]) -> &'a [u8] {
+    cut(memory, 0, size(line, line::FILE))
+}
+
+// The words from a to b, none where there are fewer.
+fn part<'a>(words: &'a [u64], a: usize, b: usize) -> &'a [u64] {
+    if a <= b {
+        if b <= words.len() {
+            return &words[a..b];
+        }
+    }
+    &words[..0]
+}
+
+fn say_text(line: &[u8]) {
+    show::say(cut(
+        line,
+        line::TEXT,
+        std::num::wrapping_sub_usize(line.len(), line::TEXT),
+    ));
+}
+
+fn show_part(line: &[u8], words: &[u64]) {
+    show::show_words(part(words, size(line, line::FILE), size(line, line::DEPTH)));
+}
+
+fn put_byte(line: &[u8], memory: &mut [u8]) {
     let at = size(line, line::FILE);
-    if at < bytes.len() {
-        bytes[at] = (number(line, line::DEPTH) % 256) as u8;
+    if at < memory.len() {
+        memory[at] = (number(line, line::DEPTH) % 256) as u8;
     }
 }
 
@@ -32,57 +57,37 @@ fn put_word(line: &[u8], words: &mut [u64]) {
     }
 }
 
-fn show_part(line: &[u8], words: &[u64]) {
-    show::show_words(calls::part(words, size(line, line::FILE), size(line, line::DEPTH)));
-}
-
 // A step that leaves the file and the graph as they are.
-fn reading_step(
-    letter: u8,
-    line: &[u8],
-    memory: &[u8],
-    words: &[u64],
-    out: &mut [u64],
-    sets: &mut [u32],
-) {
+fn reading_step(letter: u8, line: &[u8], memory: &[u8], words: &[u64], out: &mut [u64]) {
+    let file = file(line, memory);
+    let graph = part(words, 0, size(line, line::WORDS));
     match letter {
-        b'r' => calls::rest_of(line, memory, words),
-        b'l' => calls::level_of(line, memory, words),
-        b'x' => calls::extract_to(line, memory, words, out),
-        b'p' => calls::plan_to(line, memory, words, sets),
-        b'n' => calls::run_to(line, memory, sets),
+        b'r' => calls::rest_of(line, file, graph),
+        b'l' => calls::level_of(line, file, graph),
+        b'x' => calls::extract_to(line, file, graph, out),
         b'g' => show_part(line, words),
         b'o' => show_part(line, &out[..]),
-        b's' => show::show_sets(calls::set_room(sets, size(line, line::FILE))),
-        _ => say(b"no such step\n"),
+        _ => calls::sets_of(letter, line, file, memory, graph),
     }
 }
 
-fn step(line: &[u8], memory: &mut [u8], words: &mut [u64], out: &mut [u64], sets: &mut [u32]) {
-    if line.len() < TEXT {
-        return;
-    }
-    say(&line[TEXT..]);
-    let letter = line[0];
+fn step(line: &[u8], memory: &mut [u8], words: &mut [u64], out: &mut [u64]) {
+    let letter = letter(line);
     match letter {
         b'e' => put_byte(line, memory),
         b'w' => put_word(line, words),
-        b'b' => calls::build_to(line, &memory[..], words),
-        _ => reading_step(letter, line, &memory[..], &words[..], out, sets),
+        b'b' => calls::build_to(line, file(line, &memory[..]), words),
+        _ => reading_step(letter, line, &memory[..], &words[..], out),
     }
 }
 
-fn steps(script: &[u8], memory: &mut [u8], words: &mut [u64], out: &mut [u64], sets: &mut [u32]) {
+fn steps(script: &[u8], memory: &mut [u8], words: &mut [u64], out: &mut [u64]) {
     let mut at = 0;
     while at < script.len() {
-        let end = line_end(script, at);
-        step(
-            bytes(script, at, end - at),
-            &mut *memory,
-            &mut *words,
-            &mut *out,
-            &mut *sets,
-        );
+        let end = find(script, at, script.len(), b'\n');
+        let line = &script[at..end];
+        say_text(line);
+        step(line, &mut *memory, &mut *words, &mut *out);
         at = end + 1;
     }
 }
@@ -90,9 +95,8 @@ fn steps(script: &[u8], memory: &mut [u8], words: &mut [u64], out: &mut [u64], s
 fn main() {
     let mut script = io::large_buffer();
     let n = io::read_full(0, &mut script);
-    let mut bytes = [0u8; BYTES];
+    let mut memory = [0u8; BYTES];
     let mut words = [7u64; 600];
     let mut out = [7u64; 49];
-    let mut sets = [9u32; 3];
-    steps(&script[..n], &mut bytes, &mut words, &mut out, &mut sets);
+    steps(&script[..n], &mut memory, &mut words, &mut out);
 }

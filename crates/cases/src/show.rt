@@ -1,53 +1,108 @@
 // Answers and memory as lines of text on standard output.
+use bytes::scan::find;
 use graph::refusal::Refusal;
 use graph::refusal::number;
 use graph::refusal::place;
-
-// What a set of output holds before a call.
-const FRESH: u32 = 9;
 
 pub fn say(text: &[u8]) {
     io::write_all(1, text);
 }
 
-fn say_number(text: &[u8], n: usize) {
-    say(text);
-    io::print_decimal(1, n as u64);
+// What an answer begins with, and the whole of one that has no number.
+pub const BUILT: usize = 0;
+
+pub const RESTS: usize = 1;
+
+pub const NONE: usize = 2;
+
+pub const LEVEL: usize = 3;
+
+pub const NEVER: usize = 4;
+
+pub const NOT_BY_DEPTH: usize = 5;
+
+pub const EXTRACTED: usize = 6;
+
+pub const RAN: usize = 7;
+
+const REFUSED: usize = 8;
+
+const PLAN: usize = 9;
+
+pub const SETS: usize = 10;
+
+pub const NO_STEP: usize = 11;
+
+const NAMES: usize = 12;
+
+// How wide a name is with the dots behind it.
+const NAME: usize = 14;
+
+// The text from `at` on, up to the dots.
+fn say_column(names: &[u8], at: usize) {
+    if at <= names.len() {
+        let end = find(names, at, names.len(), b'.');
+        say(&names[at..end]);
+    }
 }
 
-// A word, a number and the end of the line.
-pub fn say_line(text: &[u8], n: usize) {
-    say_number(text, n);
+pub fn say_name(name: usize) {
+    let at = name % NAMES * NAME;
+    say_column(
+        b"built ........rest .........none\n.........level ........never\n........not by depth\n.extracted ....ran ..........refused ......plan .........sets: ........no such step\n.",
+        at,
+    );
+}
+
+fn end_line() {
     say(b"\n");
 }
 
+// A number and the end of the line.
+fn say_end(n: usize) {
+    io::print_decimal(1, n as u64);
+    end_line();
+}
+
+// An answer with one number.
+pub fn say_line(name: usize, n: usize) {
+    say_name(name);
+    say_end(n);
+}
+
 pub fn say_refusal(why: Refusal) {
-    say_number(b"refused ", number(why));
-    say_line(b" ", place(why));
+    say_name(REFUSED);
+    say_word(number(why) as u64);
+    say_end(place(why));
 }
 
 pub fn say_plan(level: usize, count: usize) {
-    say_number(b"plan ", level);
-    say_line(b" count ", count);
+    say_name(PLAN);
+    io::print_decimal(1, level as u64);
+    say(b" count ");
+    say_end(count);
+}
+
+// A number and a blank.
+fn say_word(x: u64) {
+    io::print_decimal(1, x);
+    say(b" ");
+}
+
+fn say_set(x: u32) {
+    say_word(x as u64);
 }
 
 pub fn show_words(words: &[u64]) {
     for i in 0..words.len() {
-        io::print_decimal(1, words[i]);
-        say(b" ");
+        say_word(words[i]);
     }
-    say(b"\n");
+    end_line();
 }
 
-fn wide(x: u32) -> u64 {
-    x as u64
-}
-
-pub fn show_sets(sets: &mut [u32]) {
+pub fn show_sets(sets: &[u32]) {
     for i in 0..sets.len() {
-        io::print_decimal(1, wide(sets[i]));
-        say(b" ");
-        sets[i] = FRESH;
+        say_set(sets[i]);
     }
-    say(b"\n");
+    end_line();
 }

@@ -1,26 +1,26 @@
-// The library calls of calls.bin. A case is 20 numbers: the kind of the call (build, rest, level, extract, plan, run); the file, a part of the store;
-// depth, set, goal, words of graph memory; the graph (0 none, 1 as the build above left it, 2 a fill), the fill's base and mask, the edits, a part of
-// the store with pairs of numbers, a word's index and what is xored to it; the list, a part of the store; elements of output, base of their fill;
-// the answer wanted, its two numbers, and the digest of all elements after the call. What a call does not take is 0.
+// The library calls of calls.bin. A case is 20 numbers: the kind of the call; the file, a part of the store; depth, set, goal, words of graph memory;
+// the graph (0 none, 1 as the build above left it, 2 a fill), the fill's base and mask, the edits, a part of the store with pairs of numbers,
+// a word's index and what is xored to it; the list, a part of the store; elements of output, base of their fill; what `answers` compares.
+// What a call does not take is 0. Memory that there is not is none, so that a case that asks for it disagrees.
+ghost use Prim.Native.Nat.{_≤_};
+ghost use mathlib.Core.Path.{_≡_};
+ghost use lib.ListN.{length};
 use crate::answers as a;
 use crate::answers::Outcome;
-use crate::answers::answered;
-use crate::answers::not_run;
+use crate::answers::agrees;
 use crate::answers::refused;
-use crate::data::Part;
-use crate::data::count;
 use crate::data::entry;
 use crate::data::index;
-use crate::data::numbers;
-use crate::data::part_of;
+use crate::data::onward;
+use crate::data::start;
 use crate::data::stored;
-use crate::memory::copy;
+use crate::levels;
 use crate::memory::digest;
 use crate::memory::digest_sets;
+use crate::memory::element;
 use crate::memory::fill;
 use crate::memory::fill_sets;
 use crate::memory::low_u32;
-use crate::show::say_other;
 use build::BuildAnswer;
 use extract::ExtractAnswer;
 use level::LevelAnswer;
@@ -35,272 +35,233 @@ pub const WORDS: usize = 40000;
 
 const SETS: usize = 512;
 
-// Where the graph of a case comes from.
-const AS_BUILT: u64 = 1;
+// Kinds of cases. The last is that of levels.bin, whose rows do not name it.
+pub const BUILD: usize = 0;
 
-const AS_FILLED: u64 = 2;
+pub const REST: usize = 1;
 
-struct Case {
-    kind: u64,
-    file: Part,
-    depth: usize,
-    set: u64,
-    goal: u64,
-    words: usize,
-    graph: u64,
-    base: u64,
-    mask: u64,
-    edits: Part,
-    list: Part,
-    out: usize,
-    fill: u64,
-    wanted: Outcome,
+pub const LEVEL: usize = 2;
+
+pub const EXTRACT: usize = 3;
+
+pub const PLAN: usize = 4;
+
+pub const RUN: usize = 5;
+
+pub const LEVELS: usize = 6;
+
+// Where a case has what.
+pub const KIND: usize = 0;
+
+const FILE: usize = 1;
+
+const DEPTH: usize = 3;
+
+const SET: usize = 4;
+
+const GOAL: usize = 5;
+
+const LENT: usize = 6;
+
+const GRAPH: usize = 7;
+
+const BASE: usize = 8;
+
+const MASK: usize = 9;
+
+const EDITS: usize = 10;
+
+const LIST: usize = 12;
+
+const OUT: usize = 14;
+
+const FILL: usize = 15;
+
+// How many numbers a case has.
+pub const NUMBERS: usize = 20;
+
+// A graph that is filled; any other is the built one.
+const FILLED: u64 = 2;
+
+// n, or none where there are fewer.
+fn fitting(n: usize, room: usize) -> usize
+    ensures { λ r. ⌜ r ≤ room ⌝ }
+{
+    if n <= room {
+        return n;
+    }
+    0
 }
 
-fn case_of(row: &[u64]) -> Case {
-    Case {
-        kind: entry(row, 0),
-        file: part_of(row, 1),
-        depth: index(row, 3),
-        set: entry(row, 4),
-        goal: entry(row, 5),
-        words: index(row, 6),
-        graph: entry(row, 7),
-        base: entry(row, 8),
-        mask: entry(row, 9),
-        edits: part_of(row, 10),
-        list: part_of(row, 12),
-        out: index(row, 14),
-        fill: entry(row, 15),
-        wanted: Outcome {
-            answer: entry(row, 16),
-            first: entry(row, 17),
-            second: entry(row, 18),
-            digest: entry(row, 19),
-        },
-    }
+// Room for words; that its length is known here spares the callers to count it.
+pub fn word_room() -> [u64; WORDS]
+    ensures { λ r. ⌜ length r ≡ 40000 ⌝ }
+{
+    [0; WORDS]
 }
 
-// Whether the store has the parts of the case, and there is memory for it.
-fn fits(c: Case, store: &[u8]) -> bool {
-    if !c.file.within(store) {
-        return false;
-    }
-    if !c.edits.within(store) {
-        return false;
-    }
-    if !c.list.within(store) {
-        return false;
-    }
-    if 0xffff_ffff < c.goal {
-        return false;
-    }
-    if WORDS < c.words {
-        return false;
-    }
-    if c.kind == a::EXTRACT {
-        return c.out <= WORDS;
-    }
-    c.out <= SETS
-}
-
-// The first n words, to read or to write.
-fn front<'a>(words: &'a [u64], n: usize) -> &'a [u64] {
-    if n <= words.len() {
-        return &words[0..n];
-    }
-    words
-}
-
-fn room<'a>(words: &'a mut [u64], n: usize) -> &'a mut [u64] {
-    if n <= words.len() {
-        return &mut words[0..n];
-    }
-    words
-}
-
-fn set_room<'a>(sets: &'a mut [u32], n: usize) -> &'a mut [u32] {
-    if n <= sets.len() {
-        return &mut sets[0..n];
-    }
-    sets
-}
-
-fn toggle(words: &mut [u64], i: usize, x: u64) {
-    if i < words.len() {
-        words[i] = words[i] ^ x;
+// An answer with one number.
+fn said(answer: u64, n: usize) -> Outcome {
+    Outcome {
+        answer: answer,
+        first: n,
+        second: 0,
     }
 }
 
-// Carries out the edits, and answers whether all of them could be read.
-fn alter_in(edits: &[u8], pair: &mut [u64], words: &mut [u64]) -> bool {
+fn states(row: &[u8]) -> States {
+    States(entry(row, SET))
+}
+
+fn goal(row: &[u8]) -> Props {
+    Props(low_u32(entry(row, GOAL)))
+}
+
+// What an edit xors to word i.
+fn change(edit: &[u8], i: usize) -> u64 {
+    if index(edit, 0) == i {
+        return entry(edit, 1);
+    }
+    0
+}
+
+// All that the edits xor to word i.
+fn changes(edits: &[u8], i: usize) -> u64 {
+    let mut x = 0;
     let mut at = 0;
     while at < edits.len() {
-        let next = numbers(edits, at, &mut *pair);
-        if next <= at {
-            return false;
-        }
-        toggle(&mut *words, index(&pair[..], 0), entry(&pair[..], 1));
-        at = next;
+        let edit = &edits[at..];
+        x = x ^ change(edit, i);
+        at = onward(at, start(edit, 2), edits.len());
     }
-    true
+    x
 }
 
-fn alter(edits: &[u8], words: &mut [u64]) -> bool {
-    let mut pair = [0u64; 2];
-    alter_in(edits, &mut pair, words)
+// Word i of the graph, before the edits.
+fn unedited(row: &[u8], built: &[u64], i: usize) -> u64 {
+    if entry(row, GRAPH) == FILLED {
+        return element(entry(row, BASE), i) & entry(row, MASK);
+    }
+    if i < built.len() {
+        return built[i];
+    }
+    0
 }
 
-// Puts the graph of a case into memory, and answers whether there is one that makes sense.
-fn lay_graph(store: &[u8], c: Case, built: &[u64], graph: &mut [u64]) -> bool {
-    if c.graph == AS_BUILT {
-        copy(built, &mut *graph);
-        return alter(stored(store, c.edits), graph);
+fn lay_graph(row: &[u8], edits: &[u8], built: &[u64], graph: &mut [u64]) {
+    for i in 0..graph.len() {
+        graph[i] = unedited(row, built, i) ^ changes(edits, i);
     }
-    if c.graph == AS_FILLED {
-        fill(&mut *graph, c.base, c.mask);
-        return alter(stored(store, c.edits), graph);
+}
+
+fn call_build(file: &[u8], row: &[u8], out: &mut [u64]) -> Outcome {
+    match build::build(file, index(row, DEPTH), out) {
+        BuildAnswer::Built(n) => said(a::BUILT, n),
+        BuildAnswer::Refused(why) => refused(why),
     }
-    false
+}
+
+fn call_rest(file: &[u8], row: &[u8], graph: &[u64]) -> Outcome {
+    match level::rest(file, index(row, DEPTH), graph) {
+        RestAnswer::At(t) => said(a::RESTS_AT, t),
+        RestAnswer::None => said(a::NONE, 0),
+        RestAnswer::Refused(why) => refused(why),
+    }
+}
+
+fn call_level(file: &[u8], row: &[u8], graph: &[u64]) -> Outcome {
+    match level::level(file, index(row, DEPTH), states(row), goal(row), graph) {
+        LevelAnswer::At(t) => said(a::LEVEL_AT, t),
+        LevelAnswer::Never => said(a::NEVER, 0),
+        LevelAnswer::NotByDepth => said(a::NOT_BY_DEPTH, 0),
+        LevelAnswer::Refused(why) => refused(why),
+    }
+}
+
+fn call_extract(file: &[u8], row: &[u8], graph: &[u64], out: &mut [u64]) -> Outcome {
+    match extract::extract(file, index(row, DEPTH), states(row), graph, out) {
+        ExtractAnswer::Extracted(n) => said(a::EXTRACTED, n),
+        ExtractAnswer::Refused(why) => refused(why),
+    }
+}
+
+fn call_plan(file: &[u8], row: &[u8], graph: &[u64], out: &mut [u32]) -> Outcome {
+    match plan::plan(file, index(row, DEPTH), states(row), goal(row), graph, out) {
+        PlanAnswer::Plan(level, marked) => Outcome {
+            answer: a::PLANNED,
+            first: level,
+            second: marked,
+        },
+        PlanAnswer::Refused(why) => refused(why),
+    }
+}
+
+fn call_run(file: &[u8], row: &[u8], list: &[u8], out: &mut [u32]) -> Outcome {
+    match run::run(file, states(row), list, out) {
+        RunAnswer::Ran(n) => said(a::RAN, n),
+        RunAnswer::Refused(why) => refused(why),
+    }
 }
 
 // The memory stays as the build left it, for the calls behind it.
-fn call_build(store: &[u8], c: Case, built: &mut [u64]) -> Outcome {
-    fill(&mut *built, c.fill, u64::MAX);
-    let answer = build::build(stored(store, c.file), c.depth, &mut *built);
-    let d = digest(&built[..]);
-    match answer {
-        BuildAnswer::Built(n) => answered(a::BUILT, n, 0, d),
-        BuildAnswer::Refused(why) => refused(why, d),
-    }
+fn build_agrees(file: &[u8], row: &[u8], built: &mut [u64]) -> bool {
+    fill(&mut *built, entry(row, FILL));
+    let came = call_build(file, row, &mut *built);
+    agrees(row, came, digest(&built[..]))
 }
 
-fn call_rest(file: &[u8], c: Case, graph: &[u64]) -> Outcome {
-    match level::rest(file, c.depth, graph) {
-        RestAnswer::At(t) => answered(a::RESTS_AT, t, 0, 0),
-        RestAnswer::None => answered(a::NONE, 0, 0, 0),
-        RestAnswer::Refused(why) => refused(why, 0),
-    }
+fn extract_agrees(file: &[u8], row: &[u8], graph: &[u64]) -> bool {
+    let mut room = word_room();
+    let n = fitting(index(row, OUT), WORDS);
+    let out = &mut room[0..n];
+    fill(&mut *out, entry(row, FILL));
+    let came = call_extract(file, row, graph, &mut *out);
+    agrees(row, came, digest(&out[..]))
 }
 
-fn call_level(file: &[u8], c: Case, graph: &[u64]) -> Outcome {
-    match level::level(file, c.depth, States(c.set), Props(low_u32(c.goal)), graph) {
-        LevelAnswer::At(t) => answered(a::LEVEL_AT, t, 0, 0),
-        LevelAnswer::Never => answered(a::NEVER, 0, 0, 0),
-        LevelAnswer::NotByDepth => answered(a::NOT_BY_DEPTH, 0, 0, 0),
-        LevelAnswer::Refused(why) => refused(why, 0),
-    }
-}
-
-fn call_extract_in(file: &[u8], c: Case, graph: &[u64], out: &mut [u64]) -> Outcome {
-    fill(&mut *out, c.fill, u64::MAX);
-    let answer = extract::extract(file, c.depth, States(c.set), graph, &mut *out);
-    let d = digest(&out[..]);
-    match answer {
-        ExtractAnswer::Extracted(n) => answered(a::EXTRACTED, n, 0, d),
-        ExtractAnswer::Refused(why) => refused(why, d),
-    }
-}
-
-fn call_extract(file: &[u8], c: Case, graph: &[u64]) -> Outcome {
-    let mut out = [0u64; WORDS];
-    call_extract_in(file, c, graph, room(&mut out, c.out))
-}
-
-fn call_plan(file: &[u8], c: Case, graph: &[u64], out: &mut [u32]) -> Outcome {
-    fill_sets(&mut *out, c.fill);
-    let answer = plan::plan(
-        file,
-        c.depth,
-        States(c.set),
-        Props(low_u32(c.goal)),
-        graph,
-        &mut *out,
-    );
-    let d = digest_sets(&out[..]);
-    match answer {
-        PlanAnswer::Plan(level, marked) => answered(a::PLANNED, level, marked, d),
-        PlanAnswer::Refused(why) => refused(why, d),
-    }
-}
-
-fn call_run(store: &[u8], c: Case, out: &mut [u32]) -> Outcome {
-    fill_sets(&mut *out, c.fill);
-    let answer = run::run(
-        stored(store, c.file),
-        States(c.set),
-        stored(store, c.list),
-        &mut *out,
-    );
-    let d = digest_sets(&out[..]);
-    match answer {
-        RunAnswer::Ran(n) => answered(a::RAN, n, 0, d),
-        RunAnswer::Refused(why) => refused(why, d),
-    }
-}
-
-// A call that reads a graph.
-fn call_on(file: &[u8], c: Case, graph: &[u64], sets: &mut [u32]) -> Outcome {
-    let kind = c.kind;
+// A call that writes sets; only a run has a list.
+fn call_for_sets(kind: usize, store: &[u8], row: &[u8], graph: &[u64], out: &mut [u32]) -> Outcome {
+    let file = stored(store, row, FILE);
     match kind {
-        a::REST => call_rest(file, c, graph),
-        a::LEVEL => call_level(file, c, graph),
-        a::EXTRACT => call_extract(file, c, graph),
-        a::PLAN => call_plan(file, c, graph, sets),
-        _ => not_run(),
+        RUN => call_run(file, row, stored(store, row, LIST), out),
+        _ => call_plan(file, row, graph, out),
     }
 }
 
-fn call_reader(
-    store: &[u8],
-    c: Case,
-    built: &[u64],
-    graph: &mut [u64],
-    sets: &mut [u32],
-) -> Outcome {
-    if !lay_graph(store, c, built, &mut *graph) {
-        return not_run();
-    }
-    call_on(stored(store, c.file), c, &graph[..], sets)
+fn sets_agree(kind: usize, store: &[u8], row: &[u8], graph: &[u64]) -> bool {
+    let mut room = [0u32; SETS];
+    let n = fitting(index(row, OUT), SETS);
+    let out = &mut room[0..n];
+    fill_sets(&mut *out, entry(row, FILL));
+    let came = call_for_sets(kind, store, row, graph, &mut *out);
+    agrees(row, came, digest_sets(&out[..]))
 }
 
-fn call_in(
-    store: &[u8],
-    c: Case,
-    built: &mut [u64],
-    graph: &mut [u64],
-    sets: &mut [u32],
-) -> Outcome {
-    let kind = c.kind;
+// A call on a graph; that of a run has no words.
+fn graph_agrees(kind: usize, store: &[u8], row: &[u8], graph: &[u64]) -> bool {
+    let file = stored(store, row, FILE);
     match kind {
-        a::BUILD => call_build(store, c, room(built, c.words)),
-        a::RUN => call_run(store, c, sets),
-        _ => call_reader(store, c, front(&built[..], c.words), graph, sets),
+        REST => agrees(row, call_rest(file, row, graph), 0),
+        LEVEL => agrees(row, call_level(file, row, graph), 0),
+        EXTRACT => extract_agrees(file, row, graph),
+        _ => sets_agree(kind, store, row, graph),
     }
 }
 
-// What the call of a case answers and writes.
-fn call(store: &[u8], c: Case, built: &mut [u64]) -> Outcome {
-    let mut graph = [0u64; WORDS];
-    let mut sets = [0u32; SETS];
-    if !fits(c, store) {
-        return not_run();
-    }
-    call_in(
-        store,
-        c,
-        built,
-        room(&mut graph, c.words),
-        set_room(&mut sets, c.out),
-    )
+fn laid_agrees(kind: usize, store: &[u8], row: &[u8], built: &[u64]) -> bool {
+    let mut room = word_room();
+    let n = fitting(index(row, LENT), WORDS);
+    let graph = &mut room[0..n];
+    lay_graph(row, stored(store, row, EDITS), built, &mut *graph);
+    graph_agrees(kind, store, row, &graph[..])
 }
 
-pub fn judge(store: &[u8], row: &[u64], n: usize, built: &mut [u64], agree: &mut [u64]) {
-    let c = case_of(row);
-    let came = call(store, c, built);
-    if c.wanted.agrees(came) {
-        count(agree, c.kind as usize);
-        return;
+// Whether the case agrees. `built` is the graph memory of the last build.
+pub fn case_agrees(kind: usize, store: &[u8], row: &[u8], built: &mut [u64]) -> bool {
+    let n = fitting(index(row, LENT), built.len());
+    match kind {
+        BUILD => build_agrees(stored(store, row, FILE), row, &mut built[0..n]),
+        LEVELS => levels::agrees(store, row),
+        _ => laid_agrees(kind, store, row, &built[0..n]),
     }
-    say_other(n, came);
 }

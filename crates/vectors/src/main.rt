@@ -1,5 +1,8 @@
 // The outside vectors: library calls and problem files with the answers of an independent implementation, run through the library and compared.
 // `tools/vectors.py` writes the data files calls.bin and levels.bin.
+ghost use mathlib.Core.Path.{_≡_};
+ghost use lib.ListN.{length};
+
 mod answers;
 mod calls;
 mod data;
@@ -8,29 +11,26 @@ mod memory;
 mod rows;
 mod show;
 
-// Reads a data file and answers how many bytes it has, 0 where it cannot be opened.
-fn read(name: &[u8], room: &mut [u8]) -> usize {
+// Room for a data file.
+const BYTES: usize = 131072;
+
+// That the length is known here spares the caller to count it.
+fn file_room() -> [u8; BYTES]
+    ensures { λ r. ⌜ length r ≡ 131072 ⌝ }
+{
+    [0; BYTES]
+}
+
+// Reads a data file and judges its cases; of one that cannot be opened there are none.
+fn judge(name: &[u8], first: usize, kinds: usize, width: usize) {
+    let mut room = file_room();
     let fd = os::open_read(name);
-    if fd < 0 {
-        return 0;
-    }
-    let n = io::read_full(fd, room);
+    let n = io::read_full(fd, &mut room);
     libc::close(fd);
-    n
-}
-
-fn calls_in(room: &mut [u8]) {
-    let n = read(b"calls.bin", &mut *room);
-    rows::judge_calls(data::bytes(&room[..], 0, n));
-}
-
-fn levels_in(room: &mut [u8]) {
-    let n = read(b"levels.bin", &mut *room);
-    rows::judge_levels(data::bytes(&room[..], 0, n));
+    rows::judge_file(name, &room[..n], first, kinds, width);
 }
 
 fn main() {
-    let mut room = [0u8; 262144];
-    calls_in(&mut room);
-    levels_in(&mut room);
+    judge(b"calls.bin", calls::BUILD, 6, calls::NUMBERS);
+    judge(b"levels.bin", calls::LEVELS, 1, levels::NUMBERS);
 }

@@ -1,5 +1,4 @@
 // How the vectors fill memory and sum it up: SplitMix64's output function and FNV-1a of 64 bits.
-use crate::data::entry;
 use std::num::wrapping_add_u64;
 
 const HALF: u64 = 0x1_0000_0000;
@@ -9,37 +8,27 @@ fn low_product(a: u64, b: u64) -> u64 {
     (a % HALF) * (b % HALF)
 }
 
-// The lower half, moved up.
-fn moved_up(x: u64) -> u64 {
-    (x % HALF) * HALF
-}
-
 // a * b, modulo 2^64.
 fn product(a: u64, b: u64) -> u64 {
     let cross = wrapping_add_u64(low_product(a / HALF, b), low_product(a, b / HALF));
-    wrapping_add_u64(low_product(a, b), moved_up(cross))
-}
-
-fn mix(x: u64) -> u64 {
-    let a = wrapping_add_u64(x, 0x9E37_79B9_7F4A_7C15);
-    let b = product(a ^ (a >> 30), 0xBF58_476D_1CE4_E5B9);
-    let c = product(b ^ (b >> 27), 0x94D0_49BB_1331_11EB);
-    c ^ (c >> 31)
+    wrapping_add_u64(low_product(a, b), (cross % HALF) * HALF)
 }
 
 // Element i of memory that is filled from `base` on.
-fn element(base: u64, i: usize) -> u64 {
-    mix(wrapping_add_u64(base, i as u64))
+pub fn element(base: u64, i: usize) -> u64 {
+    let a = wrapping_add_u64(wrapping_add_u64(base, i as u64), 0x9E37_79B9_7F4A_7C15);
+    let b = product(a ^ (a >> 30), 0xBF58_476D_1CE4_E5B9);
+    let c = product(b ^ (b >> 27), 0x94D0_49BB_1331_11EB);
+    c ^ (c >> 31)
 }
 
 pub fn low_u32(x: u64) -> u32 {
     (x % HALF) as u32
 }
 
-// Each word is its element, cut to the mask.
-pub fn fill(words: &mut [u64], base: u64, mask: u64) {
+pub fn fill(words: &mut [u64], base: u64) {
     for i in 0..words.len() {
-        words[i] = element(base, i) & mask;
+        words[i] = element(base, i);
     }
 }
 
@@ -49,22 +38,15 @@ pub fn fill_sets(sets: &mut [u32], base: u64) {
     }
 }
 
-// Copies; what `from` does not have is 0.
-pub fn copy(from: &[u64], to: &mut [u64]) {
-    for i in 0..to.len() {
-        to[i] = entry(from, i);
-    }
-}
-
 const START: u64 = 0xCBF2_9CE4_8422_2325;
 
 // The digest `d` with one byte more.
-fn with_byte(d: u64, b: u64) -> u64 {
-    product(d ^ b, 0x100_0000_01B3)
+fn with_byte(d: u64, b: u8) -> u64 {
+    product(d ^ b as u64, 0x100_0000_01B3)
 }
 
 fn with_two(d: u64, x: u64) -> u64 {
-    with_byte(with_byte(d, x % 256), x / 256 % 256)
+    with_byte(with_byte(d, (x % 256) as u8), (x / 256 % 256) as u8)
 }
 
 fn with_four(d: u64, x: u64) -> u64 {
@@ -76,12 +58,9 @@ fn with_word(d: u64, x: u64) -> u64 {
     with_four(with_four(d, x), x / HALF)
 }
 
-fn wide(x: u32) -> u64 {
-    x as u64
-}
-
-fn wide_byte(x: u8) -> u64 {
-    x as u64
+// With a set's 4 bytes and 4 zeros, as a word.
+fn with_set(d: u64, x: u32) -> u64 {
+    with_word(d, x as u64)
 }
 
 pub fn digest(words: &[u64]) -> u64 {
@@ -95,7 +74,7 @@ pub fn digest(words: &[u64]) -> u64 {
 pub fn digest_sets(sets: &[u32]) -> u64 {
     let mut d = START;
     for i in 0..sets.len() {
-        d = with_word(d, wide(sets[i]));
+        d = with_set(d, sets[i]);
     }
     d
 }
@@ -103,7 +82,7 @@ pub fn digest_sets(sets: &[u32]) -> u64 {
 pub fn digest_bytes(bytes: &[u8]) -> u64 {
     let mut d = START;
     for i in 0..bytes.len() {
-        d = with_byte(d, wide_byte(bytes[i]));
+        d = with_byte(d, bytes[i]);
     }
     d
 }

@@ -1,45 +1,66 @@
 // Lines of text on standard output.
 use crate::answers::Outcome;
-use crate::data::entry;
+use crate::data::digits;
 use crate::memory::digest_bytes;
 
 pub fn say(text: &[u8]) {
     io::write_all(1, text);
 }
 
-// A number between two texts.
-pub fn say_number(before: &[u8], n: u64, after: &[u8]) {
-    say(before);
+// A number behind a text.
+pub fn say_number(text: &[u8], n: u64) {
+    say(text);
     io::print_decimal(1, n);
-    say(after);
 }
 
+// A digest and the end of the line.
 fn say_digest(d: u64) {
     say(b" digest ");
     io::print_hex(1, d, 16);
+    say(b"\n");
 }
 
-// A call that does not agree, and what came, in the numbers of `answers`; n counts the cases from 1 on.
-pub fn say_other(n: usize, came: Outcome) {
-    say_number(b"case ", n as u64, b" has another answer: ");
-    say_number(b"", came.answer, b" ");
-    say_number(b"", came.first, b" ");
-    io::print_decimal(1, came.second);
-    say_digest(came.digest);
-    say(b"\n");
+// What a call answered and wrote, in the numbers of `answers`.
+pub fn say_came(came: Outcome, digest: u64) {
+    say_number(b"answer ", came.answer);
+    say_number(b" ", came.first as u64);
+    say_number(b" ", came.second as u64);
+    say_digest(digest);
 }
 
 // What a data file is: a byte more or less, or another one, changes this line.
-pub fn say_data(name: &[u8], bytes: &[u8]) {
+pub fn say_data(name: &[u8], data: &[u8]) {
     say(name);
-    say_number(b": ", bytes.len() as u64, b" bytes,");
-    say_digest(digest_bytes(bytes));
+    say_number(b": ", data.len() as u64);
+    say(b" bytes,");
+    say_digest(digest_bytes(data));
+}
+
+// How many cases a data file has.
+pub fn say_cases(name: &[u8], n: usize) {
+    say(name);
+    say_number(b": ", n as u64);
+    say(b" cases\n");
+}
+
+// A case that does not agree; n counts the cases from 1 on.
+pub fn say_other(n: usize) {
+    say_number(b"not so in case ", n as u64);
     say(b"\n");
 }
 
-// How many of kind i agree, of as many as the file's head announces.
-pub fn say_tally(name: &[u8], i: usize, agree: &[u64], head: &[u64]) {
-    say(name);
-    say_number(b": ", entry(agree, i), b" of ");
-    say_number(b"", entry(head, i), b" agree\n");
+// The names of the kinds of cases, in their order, each laid as a number is.
+fn say_kind(kind: usize) {
+    let names = b"\x05build\x04rest\x05level\x07extract\x04plan\x03run\x06levels";
+    say(digits(names, kind));
+}
+
+// How many of a kind agree, of as many as the file's head announces.
+pub fn say_tally(kind: usize, agree: &[u64], of: u64) {
+    say_kind(kind);
+    if kind < agree.len() {
+        say_number(b": ", agree[kind]);
+    }
+    say_number(b" of ", of);
+    say(b" agree\n");
 }

@@ -7,22 +7,28 @@ use Rattle.cases.proofs.steps.Statement.{statement}
 use Rattle.cases.proofs.steps.Tie as tie
 
 abbrev Inv-loop : tie.InvT-loop
-Inv-loop script memory₀ words₀ out₀ sets₀ at₀ memory words out sets at = (length memory ≡ length memory₀) × (length words ≡ length words₀) × (length out ≡ length out₀) × (length sets ≡ length sets₀)
+Inv-loop script memory₀ words₀ out₀ at₀ memory words out at = (length memory ≡ length memory₀) × (length words ≡ length words₀) × (length out ≡ length out₀)
 
 abbrev μ-loop : tie.MeasureT-loop
-μ-loop script memory₀ words₀ out₀ sets₀ at₀ memory words out sets at = length script - at
+μ-loop script memory₀ words₀ out₀ at₀ memory words out at = length script - at
 
 loop-holds : tie.Need-loop-holds Inv-loop μ-loop
 loop-holds c = search simple
 
-line-end-requires : tie.Need-line-end-requires Inv-loop μ-loop
-line-end-requires c κs = search simple
+find-requires : tie.Need-find-requires Inv-loop μ-loop
+find-requires c κs = search simple
 
-sub-bytes : tie.Need-sub-bytes Inv-loop μ-loop
-sub-bytes c = search simple
+sub-line : tie.Need-sub-line Inv-loop μ-loop
+sub-line c = search simple
 
-bytes-requires : tie.Need-bytes-requires Inv-loop μ-loop
-bytes-requires c κs = search simple
+part-line-start : tie.Need-part-line-start Inv-loop μ-loop
+part-line-start c = search simple
+
+part-line-end : tie.Need-part-line-end Inv-loop μ-loop
+part-line-end c = search simple
+
+say-text-requires : tie.Need-say-text-requires Inv-loop μ-loop
+say-text-requires c κs = search simple
 
 step-requires : tie.Need-step-requires Inv-loop μ-loop
 step-requires c κs = search simple
@@ -45,9 +51,6 @@ same-length-2 c = search simple
 same-length-3 : tie.Need-same-length-3 Inv-loop μ-loop
 same-length-3 c = search simple
 
-same-length-4 : tie.Need-same-length-4 Inv-loop μ-loop
-same-length-4 c = search simple
-
 returns : tie.Need-returns Inv-loop μ-loop
 returns c = search simple
 
@@ -58,9 +61,11 @@ steps-spec =
     Inv-loop
     μ-loop
     loop-holds
-    line-end-requires
-    sub-bytes
-    bytes-requires
+    find-requires
+    sub-line
+    part-line-start
+    part-line-end
+    say-text-requires
     step-requires
     add-at
     loop-less
@@ -68,5 +73,4 @@ steps-spec =
     same-length
     same-length-2
     same-length-3
-    same-length-4
     returns)

@@ -1,43 +1,27 @@
 -- `show::show_sets` ends: the index stays within the slice.
 use Prim.Native.Nat.{_-_, _≤_}
-use mathlib.Core.Path.{_≡_}
 use lib.ListN.{length}
 use borrow.Author.Needs.{needs as simple}
 use Rattle.cases.proofs.show.show_sets.Statement.{statement}
 use Rattle.cases.proofs.show.show_sets.Tie as tie
 
 abbrev Inv-loop : tie.InvT-loop
-Inv-loop sets₀ i₀ t3 t4 i-end sets i = (i ≤ length sets₀) × (length sets ≡ length sets₀)
+Inv-loop sets i₀ i-end i = i ≤ length sets
 
 abbrev μ-loop : tie.MeasureT-loop
-μ-loop sets₀ i₀ t3 t4 i-end sets i = length sets₀ - i
+μ-loop sets i₀ i-end i = length sets - i
 
 loop-holds : tie.Need-loop-holds Inv-loop μ-loop
 loop-holds c = search simple
 
-mul-wide : tie.Need-mul-wide Inv-loop μ-loop
-mul-wide c = search simple
+mul-say-set : tie.Need-mul-say-set Inv-loop μ-loop
+mul-say-set c = search simple
 
-slice-read-wide : tie.Need-slice-read-wide Inv-loop μ-loop
-slice-read-wide c = search simple
+shared-slice-read-say-set : tie.Need-shared-slice-read-say-set Inv-loop μ-loop
+shared-slice-read-say-set c = search simple
 
-wide-requires : tie.Need-wide-requires Inv-loop μ-loop
-wide-requires c κs = search simple
-
-print-decimal-requires : tie.Need-print-decimal-requires Inv-loop μ-loop
-print-decimal-requires c κs = search simple
-
-slice-aggregate-say : tie.Need-slice-aggregate-say Inv-loop μ-loop
-slice-aggregate-say c = search simple
-
-say-requires : tie.Need-say-requires Inv-loop μ-loop
-say-requires c κs = search simple
-
-mul-sets : tie.Need-mul-sets Inv-loop μ-loop
-mul-sets c = search simple
-
-slice-write-sets : tie.Need-slice-write-sets Inv-loop μ-loop
-slice-write-sets c = search simple
+say-set-requires : tie.Need-say-set-requires Inv-loop μ-loop
+say-set-requires c κs = search simple
 
 add-i : tie.Need-add-i Inv-loop μ-loop
 add-i c = search simple
@@ -48,14 +32,8 @@ loop-less c = search simple
 loop-again : tie.Need-loop-again Inv-loop μ-loop
 loop-again c = search simple
 
-slice-aggregate-say-2 : tie.Need-slice-aggregate-say-2 Inv-loop μ-loop
-slice-aggregate-say-2 c = search simple
-
-say-requires-2 : tie.Need-say-requires-2 Inv-loop μ-loop
-say-requires-2 c κs = search simple
-
-same-length : tie.Need-same-length Inv-loop μ-loop
-same-length c = search simple
+end-line-requires : tie.Need-end-line-requires Inv-loop μ-loop
+end-line-requires c κs = search simple
 
 returns : tie.Need-returns Inv-loop μ-loop
 returns c = search simple
@@ -67,18 +45,11 @@ show-sets-spec =
     Inv-loop
     μ-loop
     loop-holds
-    mul-wide
-    slice-read-wide
-    wide-requires
-    print-decimal-requires
-    slice-aggregate-say
-    say-requires
-    mul-sets
-    slice-write-sets
+    mul-say-set
+    shared-slice-read-say-set
+    say-set-requires
     add-i
     loop-less
     loop-again
-    slice-aggregate-say-2
-    say-requires-2
-    same-length
+    end-line-requires
     returns)

@@ -14,17 +14,14 @@ abbrev μ-loop : tie.MeasureT-loop
 loop-holds : tie.Need-loop-holds Inv-loop μ-loop
 loop-holds c = search simple
 
-mul-wide : tie.Need-mul-wide Inv-loop μ-loop
-mul-wide c = search simple
+mul-with-set : tie.Need-mul-with-set Inv-loop μ-loop
+mul-with-set c = search simple
 
-shared-slice-read-wide : tie.Need-shared-slice-read-wide Inv-loop μ-loop
-shared-slice-read-wide c = search simple
+shared-slice-read-with-set : tie.Need-shared-slice-read-with-set Inv-loop μ-loop
+shared-slice-read-with-set c = search simple
 
-wide-requires : tie.Need-wide-requires Inv-loop μ-loop
-wide-requires c κs = search simple
-
-with-word-requires : tie.Need-with-word-requires Inv-loop μ-loop
-with-word-requires c κs = search simple
+with-set-requires : tie.Need-with-set-requires Inv-loop μ-loop
+with-set-requires c κs = search simple
 
 add-i : tie.Need-add-i Inv-loop μ-loop
 add-i c = search simple
@@ -45,10 +42,9 @@ digest-sets-spec =
     Inv-loop
     μ-loop
     loop-holds
-    mul-wide
-    shared-slice-read-wide
-    wide-requires
-    with-word-requires
+    mul-with-set
+    shared-slice-read-with-set
+    with-set-requires
     add-i
     loop-less
     loop-again

@@ -7,10 +7,10 @@ use Rattle.vectors.proofs.memory.fill.Statement.{statement}
 use Rattle.vectors.proofs.memory.fill.Tie as tie
 
 abbrev Inv-loop : tie.InvT-loop
-Inv-loop words₀ base mask i₀ i-end words i = (i ≤ length words₀) × (length words ≡ length words₀)
+Inv-loop words₀ base i₀ i-end words i = (i ≤ length words₀) × (length words ≡ length words₀)
 
 abbrev μ-loop : tie.MeasureT-loop
-μ-loop words₀ base mask i₀ i-end words i = length words₀ - i
+μ-loop words₀ base i₀ i-end words i = length words₀ - i
 
 loop-holds : tie.Need-loop-holds Inv-loop μ-loop
 loop-holds c = search simple

@@ -7,10 +7,10 @@ use Rattle.vectors.proofs.rows.run_all.Statement.{statement}
 use Rattle.vectors.proofs.rows.run_all.Tie as tie
 
 abbrev Inv-loop : tie.InvT-loop
-Inv-loop store cases row₀ built₀ agree₀ at₀ n₀ row built agree at n = (n ≤ at) × (length row ≡ length row₀) × (length built ≡ length built₀) × (length agree ≡ length agree₀)
+Inv-loop store cases width built₀ agree₀ at₀ n₀ built agree at n = (n ≤ at) × (length built ≡ length built₀) × (length agree ≡ length agree₀)
 
 abbrev μ-loop : tie.MeasureT-loop
-μ-loop store cases row₀ built₀ agree₀ at₀ n₀ row built agree at n = length cases - at
+μ-loop store cases width built₀ agree₀ at₀ n₀ built agree at n = length cases - at
 
 loop-holds : tie.Need-loop-holds Inv-loop μ-loop
 loop-holds c = search simple
@@ -18,8 +18,23 @@ loop-holds c = search simple
 add-n : tie.Need-add-n Inv-loop μ-loop
 add-n c = search simple
 
-run-case-requires : tie.Need-run-case-requires Inv-loop μ-loop
-run-case-requires c κs = search simple
+sub-row : tie.Need-sub-row Inv-loop μ-loop
+sub-row c = search simple
+
+part-row-start : tie.Need-part-row-start Inv-loop μ-loop
+part-row-start c = search simple
+
+part-row-end : tie.Need-part-row-end Inv-loop μ-loop
+part-row-end c = search simple
+
+judge-requires : tie.Need-judge-requires Inv-loop μ-loop
+judge-requires c κs = search simple
+
+count-requires : tie.Need-count-requires Inv-loop μ-loop
+count-requires c κs = search simple
+
+start-requires : tie.Need-start-requires Inv-loop μ-loop
+start-requires c κs = search simple
 
 onward-requires : tie.Need-onward-requires Inv-loop μ-loop
 onward-requires c κs = search simple
@@ -36,9 +51,6 @@ same-length c = search simple
 same-length-2 : tie.Need-same-length-2 Inv-loop μ-loop
 same-length-2 c = search simple
 
-same-length-3 : tie.Need-same-length-3 Inv-loop μ-loop
-same-length-3 c = search simple
-
 returns : tie.Need-returns Inv-loop μ-loop
 returns c = search simple
 
@@ -50,11 +62,15 @@ run-all-spec =
     μ-loop
     loop-holds
     add-n
-    run-case-requires
+    sub-row
+    part-row-start
+    part-row-end
+    judge-requires
+    count-requires
+    start-requires
     onward-requires
     loop-less
     loop-again
     same-length
     same-length-2
-    same-length-3
     returns)
