@@ -22,20 +22,15 @@ use words::sets::States;
 use words::tables::ROW;
 use words::tables::TABLE;
 ghost use mathlib.Core.Path.{_≡_};
-ghost use Prim.Native.Nat.{ℕ, _≤_, _<_};
-ghost use lib.ListN.{length, getD};
-ghost use Rattle.rules.specs.Word as W;
-ghost use Rattle.rules.specs.Domain.{Actions, domain};
+ghost use Prim.Native.Nat.{_≤_};
+ghost use lib.ListN.{length};
 ghost use Rattle.rules.specs.Layer.{wordCount};
-ghost use Rattle.rules.specs.Shared.{startLabel, graphWords};
 ghost use Rattle.words.specs.Memory.{putAt};
-ghost use Rattle.layers.specs.Step.{Told, Deletes};
 ghost use Rattle.graph.specs.Verdict.{laid, written};
 ghost use Rattle.graph.specs.Limits.{maxDepth};
 ghost use Rattle.graph.specs.Format.{shapeIn};
 ghost use Rattle.graph.specs.File.{Taken};
 ghost use Rattle.graph.specs.Build.{buildTaken, buildRule, graphOf};
-ghost use Rattle.build.specs.Steps.{Lent};
 ghost use Rattle.build.specs.Rooms.{buildVerdict, Rooms};
 
 pub enum BuildAnswer {

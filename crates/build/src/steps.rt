@@ -1,6 +1,8 @@
 // Layer behind layer, each written into the part of the memory that begins where the one before it ended.
 use graph::layout::layer_size;
+use graph::layout::stride;
 use layers::step::step;
+use rules::Shape;
 ghost use Prim.Native.Nat.{_≤_, _<_};
 ghost use Rattle.rules.specs.Domain.{Actions, domain};
 ghost use Rattle.rules.specs.Together.{layerBy};
@@ -32,8 +34,12 @@ pub fn steps_until(
     requires { ⌜ Lent n width depth (now needs) (now adds) (now dels) (now adders) (now interferers) (now labels) (now live) (now t) (now r) (now mates) (now besides) (now spare) (now words) ⌝ }
     ensures { λ done. ⌜ (done ≤ depth) × (done < depth → 0 < done) × ((A : Actions) → Told A n (now (needs .entry)) (now (adds .entry)) (now (adders .entry)) (now (interferers .entry)) → Deletes A (now (dels .entry)) → Tells A all (now (labels .entry)) (now (t .entry)) → Ended (domain A) all (layerBy (domain A .props) (cell (now (t .entry)))) depth (now (words .entry)) done (now (words .exit))) ⌝ }
 {
-    let act = layer_size(needs.len() + n);
-    let apart = act + layer_size(n);
+    let s = Shape {
+        props: n,
+        vertices: needs.len() + n,
+    };
+    let act = layer_size(s.vertices);
+    let apart = stride(s);
     let mut at = layer_size(n);
     for k in 0..depth {
         let still = step(

@@ -1,11 +1,12 @@
 -- The loop writes one step after the other, until nothing changes or the depth is reached.
-use mathlib.Core.Path.{sym, _∙_}
+use mathlib.Core.Path.{_≡_, sym, _∙_}
 use Prim.Native.Nat.{_-_, _+_}
+use native.Mathlib.Nat.{add-comm}
 use native.Mathlib.Omega.{arith}
 use borrow.Author.Needs.{needs as simple}
 use borrow.Rule.Slice.PartMut.{same-len-mid}
 use lib.ListN.{length}
-use Rattle.words.proofs.Places.{size-small}
+use Rattle.rules.specs.Layer.{size, stride}
 use Rattle.together.proofs.Rows.{parts-le}
 use Rattle.build.proofs.Builds.{Stepping, stepping-none, room, ready, stepping-more, stepping-rest, stepping-all}
 use Rattle.build.proofs.steps.steps_until.Statement.{statement}
@@ -26,11 +27,11 @@ to-start c = c .before .before .before .before .before .before .before .before .
 abbrev to-slice-known8 : tie.After-layer-size Inv-loop μ-loop → tie.After-slice-known8 Inv-loop μ-loop
 to-slice-known8 c = c .before
 
-abbrev to-layer-size : tie.After-layer-size2 Inv-loop μ-loop → tie.After-layer-size Inv-loop μ-loop
+abbrev to-layer-size : tie.After-stride Inv-loop μ-loop → tie.After-layer-size Inv-loop μ-loop
 to-layer-size c = c .before
 
-abbrev to-layer-size2 : tie.At-loop Inv-loop μ-loop → tie.After-layer-size2 Inv-loop μ-loop
-to-layer-size2 c = c .before .before
+abbrev to-stride : tie.At-loop Inv-loop μ-loop → tie.After-stride Inv-loop μ-loop
+to-stride c = c .before .before
 
 abbrev to-loop : tie.In-loop Inv-loop μ-loop → tie.At-loop Inv-loop μ-loop
 to-loop c = c .before
@@ -44,8 +45,8 @@ to-step-of-Else1 c = c .before .before .before .before .before .before .before .
 abbrev to-step-of-Then1 : tie.Then1 Inv-loop μ-loop → tie.After-step Inv-loop μ-loop
 to-step-of-Then1 c = c .before .before .before .before .before .before .before .before .before .before .before .before .before .before .before .before .before
 
-add-layer-size : tie.Need-add-layer-size Inv-loop μ-loop
-add-layer-size c = let start = to-start c in
+add-t26 : tie.Need-add-t26 Inv-loop μ-loop
+add-t26 c = let start = to-start c in
     let w = start .pre .mating .wide in
     omega (arith, w .props, w .actions, parts-le (w .parts))
 
@@ -54,23 +55,26 @@ layer-size-requires c κs = let start = to-start c in
     let w = start .pre .mating .wide in
     omega (arith, w .props, w .actions, parts-le (w .parts))
 
-layer-size-requires-2 : tie.Need-layer-size-requires-2 Inv-loop μ-loop
-layer-size-requires-2 c κs = let start = to-start (to-slice-known8 c) in
+stride-requires : tie.Need-stride-requires Inv-loop μ-loop
+stride-requires c κs = let start = to-start (to-slice-known8 c) in
     let w = start .pre .mating .wide in
-    omega (arith, w .props, parts-le (w .parts))
+    record { props = omega (arith, w .props, parts-le (w .parts)); vertices = omega (arith, w .props, w .actions, parts-le (w .parts)) }
 
-add-apart : tie.Need-add-apart Inv-loop μ-loop
-add-apart c = omega (arith, c .before .layer-size .ensures .1, c .layer-size2 .ensures .1)
+-- from one step to the next
+far-is : (c : tie.After-stride Inv-loop μ-loop) → let a = to-start (to-slice-known8 (to-layer-size c)) .args in
+    c .stride .result ≡ size (length (a .needs .now) + a .n) + size (a .n)
+unfolding stride
+far-is c = c .stride .ensures .0 ∙ add-comm _ _
 
-layer-size-requires-3 : tie.Need-layer-size-requires-3 Inv-loop μ-loop
-layer-size-requires-3 c κs = let start = to-start (to-slice-known8 (to-layer-size c)) in
+layer-size-requires-2 : tie.Need-layer-size-requires-2 Inv-loop μ-loop
+layer-size-requires-2 c κs = let start = to-start (to-slice-known8 (to-layer-size c)) in
     let w = start .pre .mating .wide in
     omega (arith, w .props, parts-le (w .parts))
 
 loop-holds : tie.Need-loop-holds Inv-loop μ-loop
 loop-holds c = let a = (to-start (to-slice-known8 (to-layer-size (c .before)))) .args in
     stepping-none (a .n) (a .width) (a .depth) (a .all) _ (a .needs .now) (a .adds .now) (a .dels .now) (a .adders .now) (a .interferers .now) (a .labels .now) (a .t .now) (a .words .now)
-    (a .live .now) (a .r .now) (a .mates .now) (a .besides .now) (a .spare .now) ((to-start (to-slice-known8 (to-layer-size (c .before)))) .pre) (c .layer-size3 .ensures .0)
+    (a .live .now) (a .r .now) (a .mates .now) (a .besides .now) (a .spare .now) ((to-start (to-slice-known8 (to-layer-size (c .before)))) .pre) (c .layer-size2 .ensures .0)
 
 mul-step : tie.Need-mul-step Inv-loop μ-loop
 mul-step c = omega (arith, room (c .before .loop .inv) (c .loop-test .taken))
@@ -85,35 +89,35 @@ part-step-end : tie.Need-part-step-end Inv-loop μ-loop
 part-step-end c = search simple
 
 step-requires : tie.Need-step-requires Inv-loop μ-loop
-step-requires c κs = ready ((to-loop (c .before .before .before .before .before .before .before .before)) .loop .inv) ((c .before .before .before .before .before .before .before .before) .loop-test .taken) _ ((to-layer-size (to-layer-size2 (to-loop (c .before .before .before .before .before .before .before .before)))) .layer-size .ensures .0)
+step-requires c κs = ready ((to-loop (c .before .before .before .before .before .before .before .before)) .loop .inv) ((c .before .before .before .before .before .before .before .before) .loop-test .taken) _ ((to-layer-size (to-stride (to-loop (c .before .before .before .before .before .before .before .before)))) .layer-size .ensures .0)
 
 add-result : tie.Need-add-result Inv-loop μ-loop
-add-result c = omega (arith, (to-turn (to-step-of-Then1 c)) .loop-test .taken, (to-start (to-slice-known8 (to-layer-size (to-layer-size2 (to-loop (to-turn (to-step-of-Then1 c))))))) .pre .deep)
+add-result c = omega (arith, (to-turn (to-step-of-Then1 c)) .loop-test .taken, (to-start (to-slice-known8 (to-layer-size (to-stride (to-loop (to-turn (to-step-of-Then1 c))))))) .pre .deep)
 
 same-length : tie.Need-same-length Inv-loop μ-loop
 same-length c = let at-loop = to-loop (to-turn (to-step-of-Then1 c)) in
     same-len-mid (at-loop .loop .at) (length (at-loop .loop .words) - at-loop .loop .at) (at-loop .loop .words) ((to-step-of-Then1 c) .step .last .0) ((to-step-of-Then1 c) .step .kept .0) ∙ at-loop .loop .inv .long
 
 same-length-2 : tie.Need-same-length-2 Inv-loop μ-loop
-same-length-2 c = (to-step-of-Then1 c) .step .kept .1 .1 .1 .1 .1 .1 .1 .1 .1 .1 .1 .0 ∙ (to-loop (to-turn (to-step-of-Then1 c))) .loop .inv .lent .labels-long ∙ sym ((to-start (to-slice-known8 (to-layer-size (to-layer-size2 (to-loop (to-turn (to-step-of-Then1 c))))))) .pre .labels-long)
+same-length-2 c = (to-step-of-Then1 c) .step .kept .1 .1 .1 .1 .1 .1 .1 .1 .1 .1 .1 .0 ∙ (to-loop (to-turn (to-step-of-Then1 c))) .loop .inv .lent .labels-long ∙ sym ((to-start (to-slice-known8 (to-layer-size (to-stride (to-loop (to-turn (to-step-of-Then1 c))))))) .pre .labels-long)
 
 same-length-3 : tie.Need-same-length-3 Inv-loop μ-loop
-same-length-3 c = (to-step-of-Then1 c) .step .kept .1 .1 .1 .1 .1 .1 .1 .1 .1 .1 .1 .1 .0 ∙ (to-loop (to-turn (to-step-of-Then1 c))) .loop .inv .lent .mating .live-long ∙ sym ((to-start (to-slice-known8 (to-layer-size (to-layer-size2 (to-loop (to-turn (to-step-of-Then1 c))))))) .pre .mating .live-long)
+same-length-3 c = (to-step-of-Then1 c) .step .kept .1 .1 .1 .1 .1 .1 .1 .1 .1 .1 .1 .1 .0 ∙ (to-loop (to-turn (to-step-of-Then1 c))) .loop .inv .lent .mating .live-long ∙ sym ((to-start (to-slice-known8 (to-layer-size (to-stride (to-loop (to-turn (to-step-of-Then1 c))))))) .pre .mating .live-long)
 
 same-length-4 : tie.Need-same-length-4 Inv-loop μ-loop
-same-length-4 c = (to-step-of-Then1 c) .step .kept .1 .1 .1 .1 .1 .1 .1 .1 .1 .1 .1 .1 .1 .0 ∙ (to-loop (to-turn (to-step-of-Then1 c))) .loop .inv .lent .t-long ∙ sym ((to-start (to-slice-known8 (to-layer-size (to-layer-size2 (to-loop (to-turn (to-step-of-Then1 c))))))) .pre .t-long)
+same-length-4 c = (to-step-of-Then1 c) .step .kept .1 .1 .1 .1 .1 .1 .1 .1 .1 .1 .1 .1 .1 .0 ∙ (to-loop (to-turn (to-step-of-Then1 c))) .loop .inv .lent .t-long ∙ sym ((to-start (to-slice-known8 (to-layer-size (to-stride (to-loop (to-turn (to-step-of-Then1 c))))))) .pre .t-long)
 
 same-length-5 : tie.Need-same-length-5 Inv-loop μ-loop
-same-length-5 c = (to-step-of-Then1 c) .step .kept .1 .1 .1 .1 .1 .1 .1 .1 .1 .1 .1 .1 .1 .1 .0 ∙ (to-loop (to-turn (to-step-of-Then1 c))) .loop .inv .lent .mating .r-long ∙ sym ((to-start (to-slice-known8 (to-layer-size (to-layer-size2 (to-loop (to-turn (to-step-of-Then1 c))))))) .pre .mating .r-long)
+same-length-5 c = (to-step-of-Then1 c) .step .kept .1 .1 .1 .1 .1 .1 .1 .1 .1 .1 .1 .1 .1 .1 .0 ∙ (to-loop (to-turn (to-step-of-Then1 c))) .loop .inv .lent .mating .r-long ∙ sym ((to-start (to-slice-known8 (to-layer-size (to-stride (to-loop (to-turn (to-step-of-Then1 c))))))) .pre .mating .r-long)
 
 same-length-6 : tie.Need-same-length-6 Inv-loop μ-loop
-same-length-6 c = (to-step-of-Then1 c) .step .kept .1 .1 .1 .1 .1 .1 .1 .1 .1 .1 .1 .1 .1 .1 .1 .0 ∙ (to-loop (to-turn (to-step-of-Then1 c))) .loop .inv .lent .mating .mates-long ∙ sym ((to-start (to-slice-known8 (to-layer-size (to-layer-size2 (to-loop (to-turn (to-step-of-Then1 c))))))) .pre .mating .mates-long)
+same-length-6 c = (to-step-of-Then1 c) .step .kept .1 .1 .1 .1 .1 .1 .1 .1 .1 .1 .1 .1 .1 .1 .1 .0 ∙ (to-loop (to-turn (to-step-of-Then1 c))) .loop .inv .lent .mating .mates-long ∙ sym ((to-start (to-slice-known8 (to-layer-size (to-stride (to-loop (to-turn (to-step-of-Then1 c))))))) .pre .mating .mates-long)
 
 same-length-7 : tie.Need-same-length-7 Inv-loop μ-loop
-same-length-7 c = (to-step-of-Then1 c) .step .kept .1 .1 .1 .1 .1 .1 .1 .1 .1 .1 .1 .1 .1 .1 .1 .1 .0 ∙ (to-loop (to-turn (to-step-of-Then1 c))) .loop .inv .lent .mating .besides-long ∙ sym ((to-start (to-slice-known8 (to-layer-size (to-layer-size2 (to-loop (to-turn (to-step-of-Then1 c))))))) .pre .mating .besides-long)
+same-length-7 c = (to-step-of-Then1 c) .step .kept .1 .1 .1 .1 .1 .1 .1 .1 .1 .1 .1 .1 .1 .1 .1 .1 .0 ∙ (to-loop (to-turn (to-step-of-Then1 c))) .loop .inv .lent .mating .besides-long ∙ sym ((to-start (to-slice-known8 (to-layer-size (to-stride (to-loop (to-turn (to-step-of-Then1 c))))))) .pre .mating .besides-long)
 
 same-length-8 : tie.Need-same-length-8 Inv-loop μ-loop
-same-length-8 c = (to-step-of-Then1 c) .step .kept .1 .1 .1 .1 .1 .1 .1 .1 .1 .1 .1 .1 .1 .1 .1 .1 .1 .0 ∙ (to-loop (to-turn (to-step-of-Then1 c))) .loop .inv .lent .mating .spare-long ∙ sym ((to-start (to-slice-known8 (to-layer-size (to-layer-size2 (to-loop (to-turn (to-step-of-Then1 c))))))) .pre .mating .spare-long)
+same-length-8 c = (to-step-of-Then1 c) .step .kept .1 .1 .1 .1 .1 .1 .1 .1 .1 .1 .1 .1 .1 .1 .1 .1 .1 .0 ∙ (to-loop (to-turn (to-step-of-Then1 c))) .loop .inv .lent .mating .spare-long ∙ sym ((to-start (to-slice-known8 (to-layer-size (to-stride (to-loop (to-turn (to-step-of-Then1 c))))))) .pre .mating .spare-long)
 
 returns : tie.Need-returns Inv-loop μ-loop
 returns c = let did = (to-step-of-Then1 c) .step in (
@@ -125,10 +129,10 @@ returns c = let did = (to-step-of-Then1 c) .step in (
 
 add-at : tie.Need-add-at Inv-loop μ-loop
 add-at c = let at-loop = to-loop (to-turn (to-step-of-Else1 c)) in
-    omega (arith, room (at-loop .loop .inv) ((to-turn (to-step-of-Else1 c)) .loop-test .taken), (to-layer-size (to-layer-size2 (to-loop (to-turn (to-step-of-Else1 c))))) .layer-size .ensures .0, (to-layer-size2 (to-loop (to-turn (to-step-of-Else1 c)))) .layer-size2 .ensures .0)
+    omega (arith, room (at-loop .loop .inv) ((to-turn (to-step-of-Else1 c)) .loop-test .taken), far-is (to-stride (to-loop (to-turn (to-step-of-Else1 c)))))
 
 add-k : tie.Need-add-k Inv-loop μ-loop
-add-k c = omega (arith, (to-turn (to-step-of-Else1 c)) .loop-test .taken, (to-start (to-slice-known8 (to-layer-size (to-layer-size2 (to-loop (to-turn (to-step-of-Else1 c))))))) .pre .deep)
+add-k c = omega (arith, (to-turn (to-step-of-Else1 c)) .loop-test .taken, (to-start (to-slice-known8 (to-layer-size (to-stride (to-loop (to-turn (to-step-of-Else1 c))))))) .pre .deep)
 
 loop-less : tie.Need-loop-less Inv-loop μ-loop
 loop-less c = omega (arith, (to-turn (to-step-of-Else1 c)) .loop-test .taken)
@@ -136,32 +140,32 @@ loop-less c = omega (arith, (to-turn (to-step-of-Else1 c)) .loop-test .taken)
 loop-again : tie.Need-loop-again Inv-loop μ-loop
 loop-again c = let did = (to-step-of-Else1 c) .step in
     stepping-more ((to-loop (to-turn (to-step-of-Else1 c))) .loop .inv) ((to-turn (to-step-of-Else1 c)) .loop-test .taken) (did .last .1 .1 .1 .1 .1 .1 .1 .1 .1 .1 .1 .0) (did .last .1 .1 .1 .1 .1 .1 .1 .1 .1 .1 .1 .1 .0) (did .last .1 .1 .1 .1 .1 .1 .1 .1 .1 .1 .1 .1 .1 .0) (did .last .1 .1 .1 .1 .1 .1 .1 .1 .1 .1 .1 .1 .1 .1 .0) (did .last .1 .1 .1 .1 .1 .1 .1 .1 .1 .1 .1 .1 .1 .1 .1 .0) (did .last .1 .1 .1 .1 .1 .1 .1 .1 .1 .1 .1 .1 .1 .1 .1 .1 .0) (did .last .1 .1 .1 .1 .1 .1 .1 .1 .1 .1 .1 .1 .1 .1 .1 .1 .1 .0)
-    (did .last .0) _ (did .ensures) _ (omega (arith, (to-layer-size (to-layer-size2 (to-loop (to-turn (to-step-of-Else1 c))))) .layer-size .ensures .0, (to-layer-size2 (to-loop (to-turn (to-step-of-Else1 c)))) .layer-size2 .ensures .0)) (did .kept .0) (did .kept .1 .1 .1 .1 .1 .1 .1 .1 .1 .1 .1 .0) (did .kept .1 .1 .1 .1 .1 .1 .1 .1 .1 .1 .1 .1 .0) (did .kept .1 .1 .1 .1 .1 .1 .1 .1 .1 .1 .1 .1 .1 .0) (did .kept .1 .1 .1 .1 .1 .1 .1 .1 .1 .1 .1 .1 .1 .1 .0)
+    (did .last .0) _ (did .ensures) _ (omega (arith, far-is (to-stride (to-loop (to-turn (to-step-of-Else1 c)))))) (did .kept .0) (did .kept .1 .1 .1 .1 .1 .1 .1 .1 .1 .1 .1 .0) (did .kept .1 .1 .1 .1 .1 .1 .1 .1 .1 .1 .1 .1 .0) (did .kept .1 .1 .1 .1 .1 .1 .1 .1 .1 .1 .1 .1 .1 .0) (did .kept .1 .1 .1 .1 .1 .1 .1 .1 .1 .1 .1 .1 .1 .1 .0)
     (did .kept .1 .1 .1 .1 .1 .1 .1 .1 .1 .1 .1 .1 .1 .1 .1 .0) (did .kept .1 .1 .1 .1 .1 .1 .1 .1 .1 .1 .1 .1 .1 .1 .1 .1 .0) (did .kept .1 .1 .1 .1 .1 .1 .1 .1 .1 .1 .1 .1 .1 .1 .1 .1 .1 .0)
 
 same-length-9 : tie.Need-same-length-9 Inv-loop μ-loop
 same-length-9 c = c .before .loop .inv .long
 
 same-length-10 : tie.Need-same-length-10 Inv-loop μ-loop
-same-length-10 c = c .before .loop .inv .lent .labels-long ∙ sym ((to-start (to-slice-known8 (to-layer-size (to-layer-size2 (c .before))))) .pre .labels-long)
+same-length-10 c = c .before .loop .inv .lent .labels-long ∙ sym ((to-start (to-slice-known8 (to-layer-size (to-stride (c .before))))) .pre .labels-long)
 
 same-length-11 : tie.Need-same-length-11 Inv-loop μ-loop
-same-length-11 c = c .before .loop .inv .lent .mating .live-long ∙ sym ((to-start (to-slice-known8 (to-layer-size (to-layer-size2 (c .before))))) .pre .mating .live-long)
+same-length-11 c = c .before .loop .inv .lent .mating .live-long ∙ sym ((to-start (to-slice-known8 (to-layer-size (to-stride (c .before))))) .pre .mating .live-long)
 
 same-length-12 : tie.Need-same-length-12 Inv-loop μ-loop
-same-length-12 c = c .before .loop .inv .lent .t-long ∙ sym ((to-start (to-slice-known8 (to-layer-size (to-layer-size2 (c .before))))) .pre .t-long)
+same-length-12 c = c .before .loop .inv .lent .t-long ∙ sym ((to-start (to-slice-known8 (to-layer-size (to-stride (c .before))))) .pre .t-long)
 
 same-length-13 : tie.Need-same-length-13 Inv-loop μ-loop
-same-length-13 c = c .before .loop .inv .lent .mating .r-long ∙ sym ((to-start (to-slice-known8 (to-layer-size (to-layer-size2 (c .before))))) .pre .mating .r-long)
+same-length-13 c = c .before .loop .inv .lent .mating .r-long ∙ sym ((to-start (to-slice-known8 (to-layer-size (to-stride (c .before))))) .pre .mating .r-long)
 
 same-length-14 : tie.Need-same-length-14 Inv-loop μ-loop
-same-length-14 c = c .before .loop .inv .lent .mating .mates-long ∙ sym ((to-start (to-slice-known8 (to-layer-size (to-layer-size2 (c .before))))) .pre .mating .mates-long)
+same-length-14 c = c .before .loop .inv .lent .mating .mates-long ∙ sym ((to-start (to-slice-known8 (to-layer-size (to-stride (c .before))))) .pre .mating .mates-long)
 
 same-length-15 : tie.Need-same-length-15 Inv-loop μ-loop
-same-length-15 c = c .before .loop .inv .lent .mating .besides-long ∙ sym ((to-start (to-slice-known8 (to-layer-size (to-layer-size2 (c .before))))) .pre .mating .besides-long)
+same-length-15 c = c .before .loop .inv .lent .mating .besides-long ∙ sym ((to-start (to-slice-known8 (to-layer-size (to-stride (c .before))))) .pre .mating .besides-long)
 
 same-length-16 : tie.Need-same-length-16 Inv-loop μ-loop
-same-length-16 c = c .before .loop .inv .lent .mating .spare-long ∙ sym ((to-start (to-slice-known8 (to-layer-size (to-layer-size2 (c .before))))) .pre .mating .spare-long)
+same-length-16 c = c .before .loop .inv .lent .mating .spare-long ∙ sym ((to-start (to-slice-known8 (to-layer-size (to-stride (c .before))))) .pre .mating .spare-long)
 
 returns-2 : tie.Need-returns-2 Inv-loop μ-loop
 returns-2 c = (omega arith, λ h. absurd (omega arith), stepping-all (c .before .loop .inv) (c .loop-test .left))
@@ -172,11 +176,10 @@ steps-until-spec =
     (tie.spec
     Inv-loop
     μ-loop
-    add-layer-size
+    add-t26
     layer-size-requires
+    stride-requires
     layer-size-requires-2
-    add-apart
-    layer-size-requires-3
     loop-holds
     mul-step
     sub-step
