@@ -37,7 +37,7 @@ pub fn check_set(states: usize, set: States) -> Check
 }
 
 // Cause 8.
-fn check_goal(props: usize, goal: Props) -> Check
+pub fn check_goal(props: usize, goal: Props) -> Check
     requires { ⌜ props ≤ propWidth ⌝ }
     ensures { λ r. ⌜ C.checkVerdict r ≡ C.goalRule props (goal .0) ⌝ }
 {

@@ -1,7 +1,7 @@
 -- What the two searches answer, and what is known once causes 6 to 9 are passed.
 -- Assumes nothing.
 use mathlib.Core.Path.{_≡_, sym, ap, subst, _∙_}
-use mathlib.Core.Bool.{true, false}
+use mathlib.Core.Bool.{Bool, true, false}
 use mathlib.Core.List.{List}
 use Prim.Native.Nat.{ℕ, suc, _≤_, _<_}
 use native.Mathlib.Omega.{arith}
@@ -10,6 +10,7 @@ use Rattle.rules.specs.Test.{below, choose}
 use Rattle.rules.specs.Level.{firstMet, firstRest, level, never, notByDepth, levelOf, restsAt, none, restOf}
 use Rattle.rules.specs.declared.Shape.{Shape}
 use Rattle.rules.proofs.Tests.{below-of, below-not}
+use Rattle.rules.proofs.Firsts.{first-le}
 use Rattle.graph.specs.Verdict.{Verdict, accepted}
 use Rattle.graph.specs.Format.{shapeIn}
 use Rattle.graph.specs.File.{Ranged}
@@ -17,19 +18,28 @@ use Rattle.graph.specs.Checks.{Room, graphRule}
 use Rattle.graph.specs.declared.format.Counts.{Counts}
 use Rattle.graph.proofs.Ladder.{graph-means, small-of}
 
+-- no layer above k + 1 is the first that meets a goal
+pub met-le : (S : Shape) (k set : ℕ) (words : List ℕ) (goal : ℕ) → firstMet S k set goal words ≤ suc k
+unfolding firstMet
+met-le S k set words goal = first-le _ _
+
 module _ (S : Shape) (k set goal : ℕ) (words : List ℕ) (t : ℕ) (met : t ≡ firstMet S k set goal words) where
   pub level-at : t ≤ k → accepted (level t) ≡ accepted (levelOf S k set goal words)
   unfolding levelOf choose
   level-at h = simp (sym met, below-of {i = t} {j = suc k} (omega arith))
 
+  pub level-none : k < t → accepted (choose (below (firstRest S k words) k) never notByDepth) ≡ accepted (levelOf S k set goal words)
+  unfolding levelOf choose
+  level-none h = simp (sym met, below-not {i = t} {j = suc k} (omega arith))
+
   module _ (above : k < t) where
     pub level-never : below (firstRest S k words) k ≡ true → accepted never ≡ accepted (levelOf S k set goal words)
-    unfolding levelOf choose
-    level-never h = simp (sym met, below-not {i = t} {j = suc k} (omega arith), h)
+    unfolding choose
+    level-never h = ap (λ (b : Bool). accepted (choose b never notByDepth)) (sym h) ∙ level-none above
 
     pub level-not-by-depth : below (firstRest S k words) k ≡ false → accepted notByDepth ≡ accepted (levelOf S k set goal words)
-    unfolding levelOf choose
-    level-not-by-depth h = simp (sym met, below-not {i = t} {j = suc k} (omega arith), h)
+    unfolding choose
+    level-not-by-depth h = ap (λ (b : Bool). accepted (choose b never notByDepth)) (sym h) ∙ level-none above
 
 module _ (S : Shape) (k : ℕ) (words : List ℕ) (t : ℕ) (rest : t ≡ firstRest S k words) where
   pub rest-at : t < k → accepted (restsAt t) ≡ accepted (restOf S k words)

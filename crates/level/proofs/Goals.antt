@@ -10,6 +10,7 @@ use native.Mathlib.Nat.{lt-of-lt-of-le}
 use native.Mathlib.Omega.{arith}
 use lib.Bits.{and-zero-r, and-comm}
 use lib.Count.{trailingZeros}
+use lib.ListN.{getD}
 use lib.Pow.{pow-mono}
 use Rattle.rules.specs.Test.{_and_, _implies_, fails, same, choose}
 use Rattle.rules.specs.Word.{bit, common, without, single, first, within, meets}
@@ -244,14 +245,18 @@ pair-behind : (n p q : ℕ) → n ≤ pairAt n p q
 unfolding pairAt
 pair-behind n p q = omega (arith, size-pairs n, pairs-sub n p)
 
+-- what the label of a goal shows where the goal is met
+pub label-shows : (n set goal : ℕ) (l : List ℕ) (p : ℕ) → So (goalMet n l set goal) → p < n → So (bit p goal) → common (getD l p 0) set ≡ shownAt n set p
+unfolding shownAt labelIn choose
+label-shows n set goal l p m h b = within-all set _ (label-met n set goal l m p h b) ∙ simp (below-of h)
+
 module _ {n set goal : ℕ} {l : List ℕ} where
   -- a goal whose label lacks a state
   pub label-judged : {p : ℕ} → p < n → Found (labelMeets l set) n goal p → Judged n l set goal p
-  unfolding shownAt labelIn choose
   label-judged {p} h f = record {
     met = λ g. absurd (omega (arith, labels-in n));
     not = λ g m. not-so _ (f .not h) (label-met n set goal l m p h (f .one h));
-    shows = λ g other m. within-all set _ (label-met n set goal other m p h (f .one h)) ∙ simp (below-of h);
+    shows = λ g other m. label-shows n set goal other p m h (f .one h);
   }
 
   -- two goals that are mutex

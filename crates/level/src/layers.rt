@@ -21,7 +21,7 @@ const FIRST: usize = 8;
 const BLOCK: usize = 32;
 
 // The place of a word of layer t that keeps the goal from being met, and the layer's size where it is met.
-fn failing_at(words: &[u64], s: Shape, t: usize, set: States, goal: Props) -> usize
+pub fn failing_at(words: &[u64], s: Shape, t: usize, set: States, goal: Props) -> usize
     requires { ⌜ Room s t (now words) × (goal .0 < 2 ^ s .props) ⌝ }
     ensures { λ r. ⌜ Judged (s .props) (propsIn s (now (words .entry)) t) (set .0) (goal .0) r ⌝ }
 {
@@ -31,7 +31,7 @@ fn failing_at(words: &[u64], s: Shape, t: usize, set: States, goal: Props) -> us
 }
 
 // What the word at this place shows of the set in a layer that meets the goal: a label all of it, a mutex word nothing.
-fn shown(n: usize, set: States, place: usize) -> u64
+pub fn shown(n: usize, set: States, place: usize) -> u64
     ensures { λ r. ⌜ r ≡ shownAt n (set .0) place ⌝ }
 {
     if place < n {
@@ -41,7 +41,7 @@ fn shown(n: usize, set: States, place: usize) -> u64
 }
 
 // The first layer from this one on whose word at the place shows that, and depth + 1 where none does: one word a layer is read.
-fn pass_over(
+pub fn pass_over(
     words: &[u64],
     s: Shape,
     depth: usize,

@@ -11,7 +11,7 @@ use Rattle.rules.specs.Word.{single}
 use Rattle.rules.specs.Level.{Level, level, never, notByDepth, firstMet, firstRest, levelOf, restsAt, none, restOf}
 use Rattle.rules.specs.declared.Shape.{Shape}
 use Rattle.rules.proofs.Tests.{choose-held, choose-failed, below-of, below-not, below-at, is-fails}
-use Rattle.rules.proofs.Firsts.{first-le}
+use Rattle.level.proofs.Answers.{met-le}
 use Rattle.graph.specs.Limits.{maxDepth}
 use Rattle.report.specs.Decimal.{decimal}
 use Rattle.report.specs.Text.{restText, restFrom, levelText, cellText, levelFrom, cellsText, lineText, headText, stateText, threeDigits, headRoom}
@@ -68,13 +68,9 @@ module _ (S : Shape) (depth set : ℕ) (words : List ℕ) where
   unfolding levelOf
   level-from goal t u e q = ap₂ (λ (x y : ℕ). levelFrom x y depth) e q
 
-  pub met-le : (goal : ℕ) → firstMet S depth set goal words ≤ suc depth
-  unfolding firstMet
-  met-le goal = first-le _ _
-
   pub cell-short : depth ≤ maxDepth → (goal : ℕ) → length (cellText (levelOf S depth set goal words)) ≤ 4
   unfolding levelOf
-  cell-short h goal = omega (arith, level-short (firstMet S depth set goal words) (firstRest S depth words) depth (omega (arith, met-le goal)))
+  cell-short h goal = omega (arith, level-short (firstMet S depth set goal words) (firstRest S depth words) depth (omega (arith, met-le S depth set words goal)))
 
 -- ---- lines
 

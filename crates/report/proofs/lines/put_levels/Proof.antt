@@ -6,9 +6,10 @@ use native.Mathlib.Omega.{arith}
 use Rattle.rules.specs.Word.{single}
 use Rattle.rules.specs.Level.{Level, firstMet, levelOf}
 use Rattle.words.proofs.Writes.{Runs, run-none}
+use Rattle.level.proofs.Answers.{met-le}
 use Rattle.report.specs.Text.{cellText, cellsText}
 use Rattle.report.proofs.Texts.{more-room, more-text, all-text, wrote-same}
-use Rattle.report.proofs.Marks.{level-from, met-le, cell-short}
+use Rattle.report.proofs.Marks.{level-from, cell-short}
 use Rattle.report.proofs.lines.put_levels.Statement.{statement}
 use Rattle.report.proofs.lines.put_levels.Tie as tie
 
