@@ -15,7 +15,7 @@ unfoldable pub answerOf : {X : Type 0} → (X → List ℕ) → Verdict X → Li
 answerOf says (accepted x) = says x
 answerOf says (refused number place) = 0 ∷ number ∷ place ∷ []
 
--- kind 1: a build, an extract, a run or a text, with how many words, sets or bytes it wrote
+-- kind 1: a build, a page, an extract, a run or a text, with how many words, entries, sets or bytes it wrote
 abbrev pub countSays : ℕ → List ℕ
 countSays count = 1 ∷ count ∷ 0 ∷ []
 

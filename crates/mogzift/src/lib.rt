@@ -9,6 +9,8 @@ use level::LevelAnswer;
 use level::RestAnswer;
 use level::level;
 use level::rest;
+use page::PageAnswer;
+use page::page;
 use plan::PlanAnswer;
 use plan::plan;
 use report::TextAnswer;
@@ -26,6 +28,7 @@ ghost use lib.ListN.{length};
 ghost use Rattle.graph.specs.Verdict.{laid, written};
 ghost use Rattle.graph.specs.Build.{buildRule};
 ghost use Rattle.level.specs.Rule.{levelRule, restRule};
+ghost use Rattle.page.specs.Rule.{pageRule};
 ghost use Rattle.extract.specs.Rule.{extractRule};
 ghost use Rattle.run.specs.Run.{runRule};
 ghost use Rattle.plan.specs.Plan.{made, planRule};
@@ -84,6 +87,26 @@ pub extern "C" fn mogzift_level(
         LevelAnswer::Never => tell(answer, 2, 0, 0),
         LevelAnswer::NotByDepth => tell(answer, 3, 0, 0),
         LevelAnswer::Refused(why) => tell_refusal(answer, why),
+    }
+}
+
+#[no_mangle]
+pub extern "C" fn mogzift_page(
+    file: &[u8],
+    depth: usize,
+    set: u64,
+    goals: &[u32],
+    words: &[u64],
+    out: &mut [u16],
+    answer: &mut [u64; 3],
+) -> usize
+    ensures { λ r. ⌜ (r ≡ codeOf (written (pageRule (now (file .entry)) depth set (now (goals .entry)) (now (words .entry)) (length (now (out .entry))))))
+        × (now (answer .exit) ≡ answerOf countSays (written (pageRule (now (file .entry)) depth set (now (goals .entry)) (now (words .entry)) (length (now (out .entry))))))
+        × (now (out .exit) ≡ laid (pageRule (now (file .entry)) depth set (now (goals .entry)) (now (words .entry)) (length (now (out .entry)))) (now (out .entry))) ⌝ }
+{
+    match page(file, depth, States(set), goals, words, out) {
+        PageAnswer::Paged(count) => tell(answer, 1, count, 0),
+        PageAnswer::Refused(why) => tell_refusal(answer, why),
     }
 }
 

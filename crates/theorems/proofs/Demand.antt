@@ -1,6 +1,7 @@
 -- What the calls promise together, of what they answer and write themselves: for every accepted file, every depth and memory that the build accepts,
 -- every goal over the file's propositions and every non-empty set S of its states, on memory that begins with the words which the build writes.
 -- A call's answer and memory are what its rule says (buildRule, extractRule, levelRule, runRule, planRule). The setting is that of Setting.
+-- What is said of a page of goals (pageRule) holds on any memory.
 -- Assumes nothing.
 use mathlib.Core.Path.{_≡_}
 use mathlib.Core.Bool.{So}
@@ -13,23 +14,25 @@ use Rattle.rules.specs.Level.{Level, level, never, notByDepth}
 use Rattle.rules.specs.Extract.{rank}
 use Rattle.rules.specs.Plan.{relaxedRun}
 use Rattle.rules.specs.Agreement.{OneState}
-use Rattle.graph.specs.Verdict.{accepted, refused, laid}
+use Rattle.graph.specs.Verdict.{accepted, refused, written, laid}
 use Rattle.graph.specs.Format.{actionsOf, startOf, domainOf, withCount, withStates}
 use Rattle.graph.specs.File.{fileRule}
 use Rattle.graph.specs.Build.{buildRule}
 use Rattle.graph.specs.declared.format.Counts.{Counts}
 use Rattle.level.specs.Rule.{levelRule}
+use Rattle.page.specs.Rule.{entryOf, pageRule}
 use Rattle.extract.specs.Rule.{extractRule, statesOf}
 use Rattle.run.specs.Run.{maxSteps, runRule}
 use Rattle.plan.specs.Plan.{planRule}
 use Rattle.plan.proofs.Built.{plan-accepted}
-use Rattle.theorems.specs.Setting.{Exactly, Found, StatesOf, GoalOf, Each, alone, Largest, EndsWith, Reaches}
+use Rattle.theorems.specs.Setting.{Exactly, Found, StatesOf, GoalOf, Each, alone, Largest, EndsWith, Reaches, saidBy}
 use Rattle.theorems.proofs.Founds as founds
 use Rattle.theorems.proofs.Levels as levels
 use Rattle.theorems.proofs.Bounds as bounds
 use Rattle.theorems.proofs.Extracts as extracts
 use Rattle.theorems.proofs.Plans as plans
 use Rattle.theorems.proofs.Leaks as leaks
+use Rattle.theorems.proofs.Pages as pages
 
 -- the memory after an accepted build is of this setting
 pub build-leaves : (file : List ℕ) (c : Counts) (depth : ℕ) (memory words : List ℕ) → fileRule file ≡ accepted c
@@ -146,3 +149,28 @@ module _ (file : List ℕ) (c : Counts) (file' : List ℕ) (c' : Counts) (same :
     -- And so is its plan.
     pub no-leak-plan : (room : ℕ) → depth ≤ room → planRule file depth set goal found room ≡ planRule file' depth set goal found' room
     no-leak-plan = leaks.plan-same file c file' c' same built built' some some' over agree
+
+-- ---- 6: a page of goals
+
+-- For every accepted page, on any words, junk too; `left` is the output after it.
+module _ (file : List ℕ) (depth set : ℕ) (goals words out entries : List ℕ)
+    (paged : pageRule file depth set goals words (length out) ≡ accepted entries) where
+  abbrev left : List ℕ
+  left = laid (pageRule file depth set goals words (length out)) out
+
+  -- It answers the number of goals.
+  pub page-answer : written (pageRule file depth set goals words (length out)) ≡ accepted (length goals)
+  page-answer = pages.answer file depth set goals words out entries paged
+
+  module _ (i : ℕ) where
+    -- Entry i is the entry for what the level call gives for goal i, whatever the other goals are.
+    pub page-entry : i < length goals → getD left i 0 ≡ entryOf (levelRule file depth set (getD goals i 0) words)
+    page-entry = pages.entry file depth set goals words out entries paged i
+
+    -- And it tells all of that: which level, 'never' or 'not by depth', or cause 8, and no other cause.
+    pub page-tells : i < length goals → saidBy (getD left i 0) ≡ levelRule file depth set (getD goals i 0) words
+    page-tells = pages.tells file depth set goals words out entries paged i
+
+    -- Past the entries the output stays.
+    pub page-stays : length goals ≤ i → getD left i 0 ≡ getD out i 0
+    page-stays = pages.stays file depth set goals words out entries paged i

@@ -5,4 +5,5 @@ pub mod Bounds
 pub mod Extracts
 pub mod Plans
 pub mod Leaks
+pub mod Pages
 pub mod Demand

@@ -4,14 +4,17 @@ use mathlib.Core.Bool.{So}
 use mathlib.Core.List.{List, _++_}
 use Prim.Native.Nat.{ℕ, _^_, _≤_, _<_}
 use lib.ListN.{length, getD}
+use Rattle.rules.specs.Test.{same, choose}
 use Rattle.rules.specs.Word.{bit, within}
+use Rattle.rules.specs.Level.{Level, level, never, notByDepth}
 use Rattle.rules.specs.Own.{ownLevel}
 use Rattle.rules.specs.Run.{ended, runOf}
-use Rattle.graph.specs.Verdict.{accepted}
+use Rattle.graph.specs.Verdict.{Verdict, accepted, refused}
 use Rattle.graph.specs.Format.{actionsOf, startOf, domainOf}
 use Rattle.graph.specs.File.{fileRule}
 use Rattle.graph.specs.Build.{buildRule}
 use Rattle.graph.specs.declared.format.Counts.{Counts}
+use Rattle.page.specs.Rule.{neverEntry, notByDepthEntry, goalEntry}
 
 -- the one holds exactly when the other does
 abbrev pub Exactly : Type 0 → Type 0 → Type 0
@@ -61,3 +64,11 @@ pub record Reaches (file : List ℕ) (c : Counts) (set goal : ℕ) (list : List 
   pub ends : List ℕ
   pub ran : runOf (actionsOf file c) (c .states) (startOf file c) set list ≡ ended ends
   pub goals : EndsWith set goal ends
+
+-- what an entry of a page says, read the other way round: 'the level, 256 for never, 257 for not by depth, 258 for its refusal 8'
+unfoldable pub saidBy : ℕ → Verdict Level
+saidBy e =
+    choose (same e neverEntry) (accepted never)
+    (choose (same e notByDepthEntry) (accepted notByDepth)
+    (choose (same e goalEntry) (refused 8 0)
+    (accepted (level e))))

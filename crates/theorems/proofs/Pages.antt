@@ -1,0 +1,124 @@
+-- An accepted page: each entry is the single call's answer, and tells all of it.
+-- Assumes nothing.
+use mathlib.Core.Path.{_≡_, refl, sym, ap, ap₂, _∙_}
+use mathlib.Core.Bool.{Bool, true, false}
+use mathlib.Core.List.{List, _++_}
+use mathlib.Core.Logic.{by-cases}
+use Prim.Native.Nat.{ℕ, suc, _+_, _-_, _^_, _≤_, _<_}
+use native.Mathlib.Decide.{decLe}
+use native.Mathlib.Omega.{arith}
+use lib.ListN.{length, getD, drop, List·getD-append}
+use lib.Seq.{getD-append-add, getD-drop}
+use Rattle.rules.specs.Test.{same, below, choose}
+use Rattle.rules.specs.Level.{Level, level, never, notByDepth, firstMet, firstRest, levelOf}
+use Rattle.rules.proofs.Tests.{same-not, below-not}
+use Rattle.rules.proofs.Layers.{getD-listOver}
+use Rattle.graph.specs.Limits.{maxDepth}
+use Rattle.graph.specs.Verdict.{Verdict, accepted, refused, written, laid}
+use Rattle.graph.specs.Format.{shapeIn}
+use Rattle.graph.specs.declared.format.Counts.{Counts}
+use Rattle.level.specs.Rule.{levelTaken, levelRule}
+use Rattle.level.proofs.Answers.{level-at, level-none}
+use Rattle.page.specs.Rule.{entryOf, entries, pageRule}
+use Rattle.page.proofs.Singles.{single-taken, single-fit, single-wide, entries-long, Paged, page-means}
+use Rattle.theorems.specs.Setting.{saidBy}
+
+-- ---- what an entry tells
+
+-- a level
+told-level : (t : ℕ) → t ≤ maxDepth → saidBy (entryOf (accepted (level t))) ≡ accepted (level t)
+unfolding saidBy choose
+told-level t h = simp (
+  same-not {i = t} {j = 256} (λ e. omega arith),
+  same-not {i = t} {j = 257} (λ e. omega arith),
+  same-not {i = t} {j = 258} (λ e. omega arith),
+)
+
+-- none
+told-none : (b : Bool) → saidBy (entryOf (accepted (choose b never notByDepth))) ≡ accepted (choose b never notByDepth)
+unfolding saidBy choose same
+told-none true = refl
+told-none false = refl
+
+-- cause 8
+told-wide : saidBy (entryOf (refused 8 0)) ≡ refused 8 0
+unfolding saidBy choose same
+told-wide = refl
+
+-- ---- the output after a call that gives these words
+
+module _ (v : Verdict (List ℕ)) (given out : List ℕ) (e : v ≡ accepted given) where
+  left : laid v out ≡ given ++ drop (length given) out
+  unfolding laid
+  left = ap (λ (x : Verdict (List ℕ)). laid x out) e
+
+  front : (i : ℕ) → i < length given → getD (laid v out) i 0 ≡ getD given i 0
+  front i h = ap (λ (l : List ℕ). getD l i 0) left ∙ List·getD-append given _ 0 i h
+
+  behind : (i : ℕ) → length given ≤ i → getD (laid v out) i 0 ≡ getD out i 0
+  behind i h =
+      let past : length given + (i - length given) ≡ i = omega arith in
+      ap₂ (λ (l : List ℕ) (x : ℕ). getD l x 0) left (sym past)
+      ∙ getD-append-add given (drop (length given) out) (i - length given) 0
+      ∙ getD-drop (length given) out (i - length given) 0
+      ∙ ap (λ (x : ℕ). getD out x 0) past
+
+-- ---- an accepted page
+
+module _ {file : List ℕ} {depth set : ℕ} {goals words : List ℕ} {room : ℕ} {given : List ℕ} (m : Paged file depth set goals words room given) where
+  -- an entry for each goal
+  long : length given ≡ length goals
+  long = ap length (m .are) ∙ entries-long _ goals
+
+  entry-is : (i : ℕ) → i < length goals → getD given i 0 ≡ entryOf (levelRule file depth set (getD goals i 0) words)
+  unfolding entries
+  entry-is i h = ap (λ (l : List ℕ). getD l i 0) (m .are) ∙ getD-listOver _ h
+
+  -- what the single call gives for a goal is told by its entry
+  told : (goal : ℕ) → saidBy (entryOf (levelRule file depth set goal words)) ≡ levelRule file depth set goal words
+  told goal = by-cases (decLe (2 ^ m .c .props) goal)
+      (λ h. of (refused 8 0) (single-wide (m .c) depth set words (m .passed) goal h) told-wide)
+      (λ h. of (accepted answer) (single-fit (m .c) depth set words (m .passed) goal (omega arith)) (by-cases (decLe first depth) at none))
+    where
+      first : ℕ
+      first = firstMet (shapeIn (m .c)) depth set goal words
+
+      answer : Level
+      answer = levelOf (shapeIn (m .c)) depth set goal words
+
+      of : (v : Verdict Level) → levelTaken (m .c) depth set goal words ≡ v → saidBy (entryOf v) ≡ v
+          → saidBy (entryOf (levelRule file depth set goal words)) ≡ levelRule file depth set goal words
+      of v e s =
+          let is : levelRule file depth set goal words ≡ v = sym (single-taken file (m .c) depth set words (m .taken) goal) ∙ e in
+          ap (λ (x : Verdict Level). saidBy (entryOf x)) is ∙ s ∙ sym is
+
+      by : (v : Verdict Level) → v ≡ accepted answer → saidBy (entryOf v) ≡ v → saidBy (entryOf (accepted answer)) ≡ accepted answer
+      by v e s = ap (λ (x : Verdict Level). saidBy (entryOf x)) (sym e) ∙ s ∙ e
+
+      at : first ≤ depth → saidBy (entryOf (accepted answer)) ≡ accepted answer
+      at h = by (accepted (level first)) (level-at (shapeIn (m .c)) depth set goal words first refl h) (told-level first (omega (arith, m .passed .deep)))
+
+      none : (first ≤ depth → ⊥) → saidBy (entryOf (accepted answer)) ≡ accepted answer
+      none h =
+          let rests = below (firstRest (shapeIn (m .c)) depth words) depth in
+          by (accepted (choose rests never notByDepth)) (level-none (shapeIn (m .c)) depth set goal words first refl (omega arith)) (told-none rests)
+
+module _ (file : List ℕ) (depth set : ℕ) (goals words out given : List ℕ)
+    (paged : pageRule file depth set goals words (length out) ≡ accepted given) where
+  means : Paged file depth set goals words (length out) given
+  means = page-means file depth set goals words (length out) given paged
+
+  pub answer : written (pageRule file depth set goals words (length out)) ≡ accepted (length goals)
+  unfolding written
+  answer = ap written paged ∙ ap accepted (long means)
+
+  pub entry : (i : ℕ) → i < length goals
+      → getD (laid (pageRule file depth set goals words (length out)) out) i 0 ≡ entryOf (levelRule file depth set (getD goals i 0) words)
+  entry i h = front _ given out paged i (omega (arith, long means)) ∙ entry-is means i h
+
+  pub tells : (i : ℕ) → i < length goals
+      → saidBy (getD (laid (pageRule file depth set goals words (length out)) out) i 0) ≡ levelRule file depth set (getD goals i 0) words
+  tells i h = ap saidBy (entry i h) ∙ told means (getD goals i 0)
+
+  pub stays : (i : ℕ) → length goals ≤ i → getD (laid (pageRule file depth set goals words (length out)) out) i 0 ≡ getD out i 0
+  stays i h = behind _ given out paged i (omega (arith, long means))
