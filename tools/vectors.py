@@ -3,26 +3,27 @@
 
     python3 tools/vectors.py VECTORS_FOLDER crates/vectors/data
 
-VECTORS_FOLDER has a README.md that gives its format: calls.txt, a library call with its answer to a line,
-and levels/NNN.sag, a problem file, with levels/NNN.out, the text that `levels` prints for it.
+VECTORS_FOLDER has calls.txt, a library call with its answer to a line, and levels/NNN.sag, a problem file,
+with levels/NNN.out, the text that `levels` prints for it; a README.md in it or above it gives the format.
 The script reads them as text and knows nothing of what a call does. It writes calls.bin and levels.bin:
 
 - A number is a byte n, 0 to 8, and then n bytes, highest first.
 - A file is: how many cases of each kind it holds, a number for each kind; the store's length, a number;
   the store's bytes; the cases, each a row of numbers. What is no number stands in the store, once, and
   a case has two numbers for it, where it starts in the store and how many bytes it has.
-- calls.bin has six kinds, in the order of KINDS. A case has the values of CALL in their order, 20 numbers,
+- calls.bin has seven kinds, in the order of KINDS. A case has the values of CALL in their order, 20 numbers,
   since `file`, `edits` and `list` are parts of the store. `graph` is 0 where the line has none, 1 for the
   memory as the build left it, 2 for a fill by `base` and `mask`; `edits` is a row of pairs of numbers, a
-  word's index and what is xored to it. `answer` is the answer's place in ANSWERS, `first` and `second`
-  are its numbers. What a line lacks is 0.
+  word's index and what is xored to it; `list` is a run's actions, a byte each, or a page's goals, a row of
+  numbers, how many and then each. `answer` is the answer's place in ANSWERS, `first` and `second` are its
+  numbers. What a line lacks is 0.
 - levels.bin has one kind. A case is three parts of the store: the file's name, its bytes, the text.
 """
 import pathlib
 import re
 import sys
 
-KINDS = ['build', 'rest', 'level', 'extract', 'plan', 'run']
+KINDS = ['build', 'rest', 'level', 'extract', 'plan', 'run', 'page']
 KEYS = {
     'build': 'file depth words fill',
     'rest': 'file depth words graph',
@@ -30,15 +31,16 @@ KEYS = {
     'extract': 'file depth set words graph out fill',
     'plan': 'file depth set goal words graph out fill',
     'run': 'file set list out fill',
+    'page': 'file depth set goals words graph out fill',
 }
 CALL = ['kind', 'file', 'depth', 'set', 'goal', 'words', 'graph', 'base', 'mask', 'edits', 'list', 'out', 'fill',
         'answer', 'first', 'second', 'digest']
 ANSWERS = ['refused # #', 'built #', 'rest #', 'none', 'level #', 'never', 'not by depth', 'extracted #',
-           'plan # count #', 'ran #']
+           'plan # count #', 'ran #', 'paged #']
 
-# The memory that the program has (`WORDS` and `SETS` in crates/vectors/src/calls.rt).
-WORDS, SETS = 40000, 512
-MEMORY = {kind: {'words': WORDS, 'out': WORDS if kind == 'extract' else SETS} for kind in KINDS}
+# The memory that the program has (the same names in crates/vectors/src/calls.rt).
+WORDS, SETS, ENTRIES, GOALS = 40000, 512, 64, 64
+MEMORY = {kind: {'words': WORDS, 'out': {'extract': WORDS, 'page': ENTRIES}.get(kind, SETS)} for kind in KINDS}
 
 
 def number(n):
@@ -82,6 +84,14 @@ def graph(text, words):
     return {'graph': 1, 'edits': b''.join(number(int(i)) + number(int(x, 16)) for i, x in pairs)}
 
 
+def goals(text):
+    """`goals=` as a row of numbers, of which the first says how many there are."""
+    some = [] if text == '-' else [int(goal, 16) for goal in text.split(',')]
+    if len(some) > GOALS or any(goal >= 2 ** 32 for goal in some):
+        raise ValueError(f'the program has not so much room: goals={text}')
+    return b''.join(map(number, [len(some), *some]))
+
+
 def answer(text):
     numbers = [int(n) for n in re.findall(r'\d+', text)]
     place = ANSWERS.index(re.sub(r'\d+', '#', text))
@@ -98,7 +108,8 @@ def call(line, built):
         raise ValueError(f'keys of {line}')
     if given.get('graph', '').startswith('built') and int(given['words']) != built:
         raise ValueError(f'the build above was lent {built} words: {line}')
-    case = {'kind': KINDS.index(kind), 'file': octets(given['file']), 'list': octets(given.get('list', '-'))}
+    case = {'kind': KINDS.index(kind), 'file': octets(given['file'])}
+    case['list'] = goals(given['goals']) if 'goals' in given else octets(given.get('list', '-'))
     case |= {key: int(given[key]) for key in ('depth', 'words', 'out', 'fill') if key in given}
     case |= {key: int(given[key], 16) for key in ('set', 'goal') if key in given}
     if case.get('goal', 0) >= 2 ** 32 or any(case.get(key, 0) > most for key, most in MEMORY[kind].items()):

@@ -16,13 +16,15 @@ use crate::show::LEVEL;
 use crate::show::NEVER;
 use crate::show::NONE;
 use crate::show::NOT_BY_DEPTH;
+use crate::show::OUTPUT;
+use crate::show::PAGED;
 use crate::show::RAN;
 use crate::show::RESTS;
 use crate::show::say_line;
 use crate::show::say_name;
 use crate::show::say_plan;
 use crate::show::say_refusal;
-use crate::show::show_sets;
+use crate::show::show_output;
 use build::BuildAnswer;
 use build::build;
 use extract::ExtractAnswer;
@@ -31,6 +33,8 @@ use level::LevelAnswer;
 use level::RestAnswer;
 use level::level;
 use level::rest;
+use page::PageAnswer;
+use page::page;
 use plan::PlanAnswer;
 use plan::plan;
 use run::RunAnswer;
@@ -38,13 +42,18 @@ use run::run;
 use words::sets::Props;
 use words::sets::States;
 
-// Where the list of a run begins, behind the longest file.
+// Where the list of a run and the goals of a page begin, behind the longest file.
 const LIST: usize = 700;
 
 // How many sets there are for a plan or a run, and what each holds before it.
 const SETS: usize = 3;
 
 const FRESH: u32 = 9;
+
+// How many goals there are for a page, one fewer than entries, and what an entry holds before it.
+const GOALS: usize = 5;
+
+const FRESH_ENTRY: u16 = 9;
 
 fn states(line: &[u8]) -> States {
     States(number(line, SET) as u64)
@@ -140,5 +149,55 @@ pub fn sets_of(letter: u8, line: &[u8], file: &[u8], memory: &[u8], graph: &[u64
     let out = &mut room[0..n];
     sets_to(letter, line, file, memory, graph, &mut *out);
     say_name(show::SETS);
-    show_sets(&out[..]);
+    show_output(&out[..], &[0; 0]);
+}
+
+fn wide(b: u8) -> u32 {
+    b as u32
+}
+
+// Goal i of the list, 0 where there are fewer.
+fn goal(list: &[u8], i: usize) -> u32 {
+    if i < list.len() {
+        return wide(list[i]);
+    }
+    0
+}
+
+fn page_to(line: &[u8], file: &[u8], list: &[u8], graph: &[u64], out: &mut [u16]) {
+    let goals = [
+        goal(list, 0),
+        goal(list, 1),
+        goal(list, 2),
+        goal(list, 3),
+        goal(list, 4),
+    ];
+    let n = fitting(list.len(), GOALS);
+    match page(
+        file,
+        size(line, DEPTH),
+        states(line),
+        &goals[0..n],
+        graph,
+        out,
+    ) {
+        PageAnswer::Paged(n) => say_line(PAGED, n),
+        PageAnswer::Refused(why) => say_refusal(why),
+    }
+}
+
+// A page with its entries.
+pub fn page_of(line: &[u8], file: &[u8], memory: &[u8], graph: &[u64]) {
+    let mut room = [FRESH_ENTRY; OUTPUT];
+    let n = fitting(size(line, OUT), OUTPUT);
+    let out = &mut room[0..n];
+    page_to(
+        line,
+        file,
+        cut(memory, LIST, size(line, GOAL)),
+        graph,
+        &mut *out,
+    );
+    say_name(show::ENTRIES);
+    show_output(&[0; 0], &out[..]);
 }

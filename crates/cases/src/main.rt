@@ -1,9 +1,10 @@
 // The paper's cases that run, a line of standard input for each step: a letter, six numbers in columns of six (see `line`), and from TEXT on
 // a text that is printed before the step's own words. The letters:
-// e puts the byte DEPTH at offset FILE of the byte memory, which holds the file, and from `calls::LIST` on the list of a run;
+// e puts the byte DEPTH at offset FILE of the byte memory, which holds the file, and from `calls::LIST` on the list of a run or the goals of a page;
 // w puts the word DEPTH at index FILE of the graph memory;
-// b build (with no text it prints nothing), r rest, l level, x extract, p plan, n run (of DEPTH steps): a call, whose answer is printed;
-// g, o print the words FILE to DEPTH of the graph memory, of the extract's output. The output of a plan and of a run is printed behind the answer.
+// b build (with no text it prints nothing), r rest, l level, x extract, p plan, n run (of DEPTH steps), m page (of GOAL goals, a byte each):
+// a call, whose answer is printed, and behind that the output of a plan, a run and a page;
+// g, o print the words FILE to DEPTH of the graph memory, of the extract's output.
 mod calls;
 mod line;
 mod show;
@@ -65,6 +66,7 @@ fn reading_step(letter: u8, line: &[u8], memory: &[u8], words: &[u64], out: &mut
         b'r' => calls::rest_of(line, file, graph),
         b'l' => calls::level_of(line, file, graph),
         b'x' => calls::extract_to(line, file, graph, out),
+        b'm' => calls::page_of(line, file, memory, graph),
         b'g' => show_part(line, words),
         b'o' => show_part(line, &out[..]),
         _ => calls::sets_of(letter, line, file, memory, graph),

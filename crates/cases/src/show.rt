@@ -33,7 +33,14 @@ pub const SETS: usize = 10;
 
 pub const NO_STEP: usize = 11;
 
-const NAMES: usize = 12;
+pub const PAGED: usize = 12;
+
+pub const ENTRIES: usize = 13;
+
+const NAMES: usize = 14;
+
+// How many elements an output has at most.
+pub const OUTPUT: usize = 6;
 
 // How wide a name is with the dots behind it.
 const NAME: usize = 14;
@@ -49,7 +56,7 @@ fn say_column(names: &[u8], at: usize) {
 pub fn say_name(name: usize) {
     let at = name % NAMES * NAME;
     say_column(
-        b"built ........rest .........none\n.........level ........never\n........not by depth\n.extracted ....ran ..........refused ......plan .........sets: ........no such step\n.",
+        b"built ........rest .........none\n.........level ........never\n........not by depth\n.extracted ....ran ..........refused ......plan .........sets: ........no such step\n.paged ........entries: .....",
         at,
     );
 }
@@ -93,6 +100,20 @@ fn say_set(x: u32) {
     say_word(x as u64);
 }
 
+fn say_entry(x: u16) {
+    say_word(x as u64);
+}
+
+// Element i of an output, which is sets or entries, the other none; nothing where there are fewer.
+fn say_element(sets: &[u32], entries: &[u16], i: usize) {
+    if i < sets.len() {
+        say_set(sets[i]);
+    }
+    if i < entries.len() {
+        say_entry(entries[i]);
+    }
+}
+
 pub fn show_words(words: &[u64]) {
     for i in 0..words.len() {
         say_word(words[i]);
@@ -100,9 +121,9 @@ pub fn show_words(words: &[u64]) {
     end_line();
 }
 
-pub fn show_sets(sets: &[u32]) {
-    for i in 0..sets.len() {
-        say_set(sets[i]);
+pub fn show_output(sets: &[u32], entries: &[u16]) {
+    for i in 0..OUTPUT {
+        say_element(sets, entries, i);
     }
     end_line();
 }

@@ -1,6 +1,7 @@
 // The library calls of calls.bin. A case is 20 numbers: the kind of the call; the file, a part of the store; depth, set, goal, words of graph memory;
 // the graph (0 none, 1 as the build above left it, 2 a fill), the fill's base and mask, the edits, a part of the store with pairs of numbers,
-// a word's index and what is xored to it; the list, a part of the store; elements of output, base of their fill; what `answers` compares.
+// a word's index and what is xored to it; the list, a part of the store, a run's actions or a page's goals, how many and then each as a number;
+// elements of output, base of their fill; what `answers` compares.
 // What a call does not take is 0. Memory that there is not is none, so that a case that asks for it disagrees.
 ghost use Prim.Native.Nat.{_≤_};
 ghost use mathlib.Core.Path.{_≡_};
@@ -16,24 +17,27 @@ use crate::data::start;
 use crate::data::stored;
 use crate::levels;
 use crate::memory::digest;
-use crate::memory::digest_sets;
 use crate::memory::element;
 use crate::memory::fill;
-use crate::memory::fill_sets;
 use crate::memory::low_u32;
 use build::BuildAnswer;
 use extract::ExtractAnswer;
 use level::LevelAnswer;
 use level::RestAnswer;
+use page::PageAnswer;
 use plan::PlanAnswer;
 use run::RunAnswer;
 use words::sets::Props;
 use words::sets::States;
 
-// The memory that there is: words of a graph and of an extract, sets of a plan and of a run.
+// The memory that there is: words of a graph and of an extract, sets of a plan and of a run, entries and goals of a page.
 pub const WORDS: usize = 40000;
 
 const SETS: usize = 512;
+
+const ENTRIES: usize = 64;
+
+const GOALS: usize = 64;
 
 // Kinds of cases. The last is that of levels.bin, whose rows do not name it.
 pub const BUILD: usize = 0;
@@ -48,7 +52,9 @@ pub const PLAN: usize = 4;
 
 pub const RUN: usize = 5;
 
-pub const LEVELS: usize = 6;
+pub const PAGE: usize = 6;
+
+pub const LEVELS: usize = 7;
 
 // Where a case has what.
 pub const KIND: usize = 0;
@@ -89,6 +95,16 @@ fn fitting(n: usize, room: usize) -> usize
 {
     if n <= room {
         return n;
+    }
+    0
+}
+
+// How many elements of a kind of memory are lent: none of a kind that the call does not write.
+fn lent(row: &[u8], written: bool, room: usize) -> usize
+    ensures { λ r. ⌜ r ≤ room ⌝ }
+{
+    if written {
+        return fitting(index(row, OUT), room);
     }
     0
 }
@@ -203,38 +219,89 @@ fn call_run(file: &[u8], row: &[u8], list: &[u8], out: &mut [u32]) -> Outcome {
     }
 }
 
-// The memory stays as the build left it, for the calls behind it.
-fn build_agrees(file: &[u8], row: &[u8], built: &mut [u64]) -> bool {
-    fill(&mut *built, entry(row, FILL));
-    let came = call_build(file, row, &mut *built);
-    agrees(row, came, digest(&built[..]))
-}
-
-fn extract_agrees(file: &[u8], row: &[u8], graph: &[u64]) -> bool {
-    let mut room = word_room();
-    let n = fitting(index(row, OUT), WORDS);
-    let out = &mut room[0..n];
-    fill(&mut *out, entry(row, FILL));
-    let came = call_extract(file, row, graph, &mut *out);
-    agrees(row, came, digest(&out[..]))
-}
-
-// A call that writes sets; only a run has a list.
-fn call_for_sets(kind: usize, store: &[u8], row: &[u8], graph: &[u64], out: &mut [u32]) -> Outcome {
-    let file = stored(store, row, FILE);
-    match kind {
-        RUN => call_run(file, row, stored(store, row, LIST), out),
-        _ => call_plan(file, row, graph, out),
+fn lay_goals(list: &[u8], goals: &mut [u32]) {
+    for i in 0..goals.len() {
+        goals[i] = low_u32(entry(list, i + 1));
     }
 }
 
-fn sets_agree(kind: usize, store: &[u8], row: &[u8], graph: &[u64]) -> bool {
-    let mut room = [0u32; SETS];
-    let n = fitting(index(row, OUT), SETS);
-    let out = &mut room[0..n];
-    fill_sets(&mut *out, entry(row, FILL));
-    let came = call_for_sets(kind, store, row, graph, &mut *out);
-    agrees(row, came, digest_sets(&out[..]))
+fn call_page(file: &[u8], row: &[u8], list: &[u8], graph: &[u64], out: &mut [u16]) -> Outcome {
+    let mut room = [0u32; GOALS];
+    let n = fitting(index(list, 0), GOALS);
+    let goals = &mut room[0..n];
+    lay_goals(list, &mut *goals);
+    match page::page(file, index(row, DEPTH), states(row), &goals[..], graph, out) {
+        PageAnswer::Paged(n) => said(a::PAGED, n),
+        PageAnswer::Refused(why) => refused(why),
+    }
+}
+
+// A call that writes: words, sets or entries.
+fn call_to_write(
+    kind: usize,
+    store: &[u8],
+    row: &[u8],
+    graph: &[u64],
+    words: &mut [u64],
+    sets: &mut [u32],
+    entries: &mut [u16],
+) -> Outcome {
+    let file = stored(store, row, FILE);
+    let list = stored(store, row, LIST);
+    match kind {
+        BUILD => call_build(file, row, words),
+        EXTRACT => call_extract(file, row, graph, words),
+        PLAN => call_plan(file, row, graph, sets),
+        RUN => call_run(file, row, list, sets),
+        _ => call_page(file, row, list, graph, entries),
+    }
+}
+
+// Of what is lent only that has elements which the call writes.
+fn filled_agrees(
+    kind: usize,
+    store: &[u8],
+    row: &[u8],
+    graph: &[u64],
+    words: &mut [u64],
+    sets: &mut [u32],
+    entries: &mut [u16],
+) -> bool {
+    fill(&mut *words, &mut *sets, &mut *entries, entry(row, FILL));
+    let came = call_to_write(
+        kind,
+        store,
+        row,
+        graph,
+        &mut *words,
+        &mut *sets,
+        &mut *entries,
+    );
+    agrees(row, came, digest(&words[..], &sets[..], &entries[..]))
+}
+
+// Lends sets and entries beside the words.
+fn written_agrees(kind: usize, store: &[u8], row: &[u8], graph: &[u64], words: &mut [u64]) -> bool {
+    let mut sets = [0u32; SETS];
+    let mut entries = [0u16; ENTRIES];
+    let n = lent(row, kind == PLAN || kind == RUN, SETS);
+    let m = lent(row, kind == PAGE, ENTRIES);
+    filled_agrees(
+        kind,
+        store,
+        row,
+        graph,
+        words,
+        &mut sets[0..n],
+        &mut entries[0..m],
+    )
+}
+
+// Lends the words of an extract.
+fn output_agrees(kind: usize, store: &[u8], row: &[u8], graph: &[u64]) -> bool {
+    let mut words = word_room();
+    let n = lent(row, kind == EXTRACT, WORDS);
+    written_agrees(kind, store, row, graph, &mut words[0..n])
 }
 
 // A call on a graph; that of a run has no words.
@@ -243,8 +310,7 @@ fn graph_agrees(kind: usize, store: &[u8], row: &[u8], graph: &[u64]) -> bool {
     match kind {
         REST => agrees(row, call_rest(file, row, graph), 0),
         LEVEL => agrees(row, call_level(file, row, graph), 0),
-        EXTRACT => extract_agrees(file, row, graph),
-        _ => sets_agree(kind, store, row, graph),
+        _ => output_agrees(kind, store, row, graph),
     }
 }
 
@@ -256,11 +322,11 @@ fn laid_agrees(kind: usize, store: &[u8], row: &[u8], built: &[u64]) -> bool {
     graph_agrees(kind, store, row, &graph[..])
 }
 
-// Whether the case agrees. `built` is the graph memory of the last build.
+// Whether the case agrees. `built` is the graph memory of the last build, which stays as that left it, for the calls behind it.
 pub fn case_agrees(kind: usize, store: &[u8], row: &[u8], built: &mut [u64]) -> bool {
     let n = fitting(index(row, LENT), built.len());
     match kind {
-        BUILD => build_agrees(stored(store, row, FILE), row, &mut built[0..n]),
+        BUILD => written_agrees(kind, store, row, &[0; 0], &mut built[0..n]),
         LEVELS => levels::agrees(store, row),
         _ => laid_agrees(kind, store, row, &built[0..n]),
     }

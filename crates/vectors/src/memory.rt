@@ -26,15 +26,61 @@ pub fn low_u32(x: u64) -> u32 {
     (x % HALF) as u32
 }
 
-pub fn fill(words: &mut [u64], base: u64) {
-    for i in 0..words.len() {
-        words[i] = element(base, i);
+fn low_u16(x: u64) -> u16 {
+    (x % 0x1_0000) as u16
+}
+
+fn wide_u32(x: u32) -> u64 {
+    x as u64
+}
+
+fn wide_u16(x: u16) -> u64 {
+    x as u64
+}
+
+// How many elements a call is lent to write: words, sets or entries of a page. All three are passed, two of them empty, so that each loop stands once.
+fn size(words: &[u64], sets: &[u32], entries: &[u16]) -> usize {
+    if 0 < words.len() {
+        return words.len();
+    }
+    if 0 < sets.len() {
+        return sets.len();
+    }
+    entries.len()
+}
+
+// The value of element i.
+fn value_at(words: &[u64], sets: &[u32], entries: &[u16], i: usize) -> u64 {
+    if i < words.len() {
+        return words[i];
+    }
+    if i < sets.len() {
+        return wide_u32(sets[i]);
+    }
+    if i < entries.len() {
+        return wide_u16(entries[i]);
+    }
+    0
+}
+
+// Puts x to element i, cut to its width.
+fn put(words: &mut [u64], sets: &mut [u32], entries: &mut [u16], i: usize, x: u64) {
+    if i < words.len() {
+        words[i] = x;
+        return;
+    }
+    if i < sets.len() {
+        sets[i] = low_u32(x);
+        return;
+    }
+    if i < entries.len() {
+        entries[i] = low_u16(x);
     }
 }
 
-pub fn fill_sets(sets: &mut [u32], base: u64) {
-    for i in 0..sets.len() {
-        sets[i] = low_u32(element(base, i));
+pub fn fill(words: &mut [u64], sets: &mut [u32], entries: &mut [u16], base: u64) {
+    for i in 0..size(&words[..], &sets[..], &entries[..]) {
+        put(&mut *words, &mut *sets, &mut *entries, i, element(base, i));
     }
 }
 
@@ -58,23 +104,11 @@ fn with_word(d: u64, x: u64) -> u64 {
     with_four(with_four(d, x), x / HALF)
 }
 
-// With a set's 4 bytes and 4 zeros, as a word.
-fn with_set(d: u64, x: u32) -> u64 {
-    with_word(d, x as u64)
-}
-
-pub fn digest(words: &[u64]) -> u64 {
+// An element counts as a word, however wide it is.
+pub fn digest(words: &[u64], sets: &[u32], entries: &[u16]) -> u64 {
     let mut d = START;
-    for i in 0..words.len() {
-        d = with_word(d, words[i]);
-    }
-    d
-}
-
-pub fn digest_sets(sets: &[u32]) -> u64 {
-    let mut d = START;
-    for i in 0..sets.len() {
-        d = with_set(d, sets[i]);
+    for i in 0..size(words, sets, entries) {
+        d = with_word(d, value_at(words, sets, entries, i));
     }
     d
 }

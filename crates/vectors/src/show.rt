@@ -51,7 +51,7 @@ pub fn say_other(n: usize) {
 
 // The names of the kinds of cases, in their order, each laid as a number is.
 fn say_kind(kind: usize) {
-    let names = b"\x05build\x04rest\x05level\x07extract\x04plan\x03run\x06levels";
+    let names = b"\x05build\x04rest\x05level\x07extract\x04plan\x03run\x04page\x06levels";
     say(digits(names, kind));
 }
 

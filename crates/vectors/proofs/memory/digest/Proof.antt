@@ -1,39 +1,38 @@
--- `memory::digest` ends: the index stays within the slice.
+-- `memory::digest` ends: it goes on for as many elements as there are.
 use Prim.Native.Nat.{_-_, _≤_}
-use lib.ListN.{length}
-use borrow.Author.Needs.{needs as simple}
+use borrow.Author.Needs.{needs}
 use Rattle.vectors.proofs.memory.digest.Statement.{statement}
 use Rattle.vectors.proofs.memory.digest.Tie as tie
 
 abbrev Inv-loop : tie.InvT-loop
-Inv-loop words d₀ i₀ i-end d i = i ≤ length words
+Inv-loop words sets entries d₀ i₀ i-end d i = i ≤ i-end
 
 abbrev μ-loop : tie.MeasureT-loop
-μ-loop words d₀ i₀ i-end d i = length words - i
+μ-loop words sets entries d₀ i₀ i-end d i = i-end - i
+
+size-requires : tie.Need-size-requires Inv-loop μ-loop
+size-requires c κs = search needs
 
 loop-holds : tie.Need-loop-holds Inv-loop μ-loop
-loop-holds c = search simple
+loop-holds c = search needs
 
-mul-with-word : tie.Need-mul-with-word Inv-loop μ-loop
-mul-with-word c = search simple
-
-shared-slice-read-with-word : tie.Need-shared-slice-read-with-word Inv-loop μ-loop
-shared-slice-read-with-word c = search simple
+value-at-requires : tie.Need-value-at-requires Inv-loop μ-loop
+value-at-requires c κs = search needs
 
 with-word-requires : tie.Need-with-word-requires Inv-loop μ-loop
-with-word-requires c κs = search simple
+with-word-requires c κs = search needs
 
 add-i : tie.Need-add-i Inv-loop μ-loop
-add-i c = search simple
+add-i c = search needs
 
 loop-less : tie.Need-loop-less Inv-loop μ-loop
-loop-less c = search simple
+loop-less c = search needs
 
 loop-again : tie.Need-loop-again Inv-loop μ-loop
-loop-again c = search simple
+loop-again c = search needs
 
 returns : tie.Need-returns Inv-loop μ-loop
-returns c = search simple
+returns c = search needs
 
 pub digest-spec : {M : Type 1} → statement M
 digest-spec =
@@ -41,9 +40,9 @@ digest-spec =
     (tie.spec
     Inv-loop
     μ-loop
+    size-requires
     loop-holds
-    mul-with-word
-    shared-slice-read-with-word
+    value-at-requires
     with-word-requires
     add-i
     loop-less
