@@ -10,6 +10,7 @@
  *   depth             the depth k of the graph, 0 to 255
  *   set               a set of start states, bit s for state s
  *   goal              a set of propositions, bit p for proposition p
+ *   goals, goals_len  a page of goals, each a set of propositions
  *   words, words_len  graph memory, in 64-bit words
  *   list, list_len    a sequence of action numbers, a byte each
  *   out, out_len      output, in elements
@@ -92,6 +93,13 @@ enum {
     MOGZIFT_NONE = 2,
     MOGZIFT_NEVER = 2,
     MOGZIFT_NOT_BY_DEPTH = 3
+};
+
+/* entries of a page that are no level: what mogzift_page writes beside 0 to 255 */
+enum {
+    MOGZIFT_ENTRY_NEVER = 256,
+    MOGZIFT_ENTRY_NOT_BY_DEPTH = 257,
+    MOGZIFT_ENTRY_BAD_GOAL = 258
 };
 
 /* refusals: what a call returns, and answer[1] */
@@ -184,6 +192,16 @@ size_t mogzift_rest(const uint8_t *file, size_t file_len, size_t depth, const ui
  */
 size_t mogzift_level(const uint8_t *file, size_t file_len, size_t depth, uint64_t set, uint32_t goal,
                      const uint64_t *words, size_t words_len, uint64_t answer[3]);
+
+/*
+ * The levels of a page of goals for the states of the set. Entry i of out is what mogzift_level gives for goal i: the
+ * layer, 0 to 255; MOGZIFT_ENTRY_NEVER; MOGZIFT_ENTRY_NOT_BY_DEPTH; or MOGZIFT_ENTRY_BAD_GOAL where that call is turned
+ * away with 8, which leaves the other entries as they are. A page may be empty.
+ * Answered: answer[1] is the number of entries written, goals_len. Refused: 1 to 5, 6, 7, 9, 10 (goals_len entries).
+ */
+size_t mogzift_page(const uint8_t *file, size_t file_len, size_t depth, uint64_t set, const uint32_t *goals,
+                    size_t goals_len, const uint64_t *words, size_t words_len, uint16_t *out, size_t out_len,
+                    uint64_t answer[3]);
 
 /*
  * Writes the graph's words cut to the set into the front of out, bits closed up in order: the lowest state of the set

@@ -37,17 +37,24 @@ static const char LAMP_TEXT[] = "depth 255 rest 2\n0: 0 1 2\n1: - 0 1\nall: - 1 
 
 enum { DOOR = 1, DESK = 2, LIT = 4, WALK = 0, LIGHT = 1, BOTH = 3, MARK = 0xA5 };
 
+/* a page of goals, one of which is no set of the lamp's propositions */
+enum { GOALS = 5 };
+static const uint32_t PAGE[GOALS] = {DOOR, DESK, 8, LIT, DOOR | LIT};
+
 /* What is lent: marked before each call, so that what a call writes is seen. One element more than any call asks for. */
 static uint8_t file[40];
 static uint64_t words[49];
+static uint64_t deeper[69];
 static uint64_t words_out[49];
 static uint32_t sets_out[4];
+static uint16_t levels_out[GOALS + 1];
 static uint8_t text_out[MOGZIFT_TEXT_ROOM + 1];
 static uint64_t answer[3];
 
 static void mark(void) {
     memset(words_out, MARK, sizeof words_out);
     memset(sets_out, MARK, sizeof sets_out);
+    memset(levels_out, MARK, sizeof levels_out);
     memset(text_out, MARK, sizeof text_out);
     memset(answer, MARK, sizeof answer);
 }
@@ -64,10 +71,11 @@ static int marked_from(const void *memory, size_t size, size_t first) {
     return 1;
 }
 
-/* Whether nothing but these first bytes of the three outputs was written. */
-static int wrote(size_t of_words, size_t of_sets, size_t of_text) {
+/* Whether nothing but these first elements of the four outputs was written. */
+static int wrote(size_t of_words, size_t of_sets, size_t of_levels, size_t of_text) {
     return marked_from(words_out, sizeof words_out, of_words * sizeof words_out[0]) &&
            marked_from(sets_out, sizeof sets_out, of_sets * sizeof sets_out[0]) &&
+           marked_from(levels_out, sizeof levels_out, of_levels * sizeof levels_out[0]) &&
            marked_from(text_out, sizeof text_out, of_text);
 }
 
@@ -77,12 +85,18 @@ static int told(uint64_t kind, uint64_t first, uint64_t second) {
 
 /* Whether a call was turned away with this number and place, and wrote the answer only. */
 static int refused(size_t code, size_t number, uint64_t place) {
-    return code == number && told(MOGZIFT_REFUSED, number, place) && wrote(0, 0, 0);
+    return code == number && told(MOGZIFT_REFUSED, number, place) && wrote(0, 0, 0, 0);
 }
 
 /* Whether a call that writes nothing but its answer was accepted with it. */
 static int answered(size_t code, uint64_t kind, uint64_t first, uint64_t second) {
-    return code == 0 && told(kind, first, second) && wrote(0, 0, 0);
+    return code == 0 && told(kind, first, second) && wrote(0, 0, 0, 0);
+}
+
+/* Whether a page of all goals was accepted with these levels. */
+static int paged(size_t code, const uint16_t *levels) {
+    return code == 0 && told(MOGZIFT_ANSWERED, GOALS, 0) && wrote(0, 0, GOALS, 0) &&
+           memcmp(levels_out, levels, GOALS * sizeof levels[0]) == 0;
 }
 
 /* The calls over the lamp's file and what is lent, marked anew. */
@@ -99,6 +113,12 @@ static size_t rest(size_t depth, const uint64_t *graph, size_t len) {
 static size_t level(size_t depth, uint64_t set, uint32_t goal, const uint64_t *graph, size_t len) {
     mark();
     return mogzift_level(file, sizeof file, depth, set, goal, graph, len, answer);
+}
+
+/* a page of so many of the goals */
+static size_t page(size_t depth, uint64_t set, size_t goals, const uint64_t *graph, size_t len, size_t out_len) {
+    mark();
+    return mogzift_page(file, sizeof file, depth, set, PAGE, goals, graph, len, levels_out, out_len, answer);
 }
 
 static size_t extract(size_t depth, uint64_t set, size_t len, size_t out_len) {
@@ -128,9 +148,9 @@ static size_t levels_text(size_t file_len, size_t out_len) {
 
 static void builds(void) {
     CHECK(mogzift_words(3, 2, 2) == 48);
-    CHECK(build(2, 49) == 0 && told(MOGZIFT_ANSWERED, 48, 0) && wrote(48, 0, 0));
+    CHECK(build(2, 49) == 0 && told(MOGZIFT_ANSWERED, 48, 0) && wrote(48, 0, 0, 0));
     CHECK(memcmp(words_out, LAMP_WORDS, sizeof LAMP_WORDS) == 0);
-    CHECK(build(0, 6) == 0 && told(MOGZIFT_ANSWERED, 6, 0) && wrote(6, 0, 0));
+    CHECK(build(0, 6) == 0 && told(MOGZIFT_ANSWERED, 6, 0) && wrote(6, 0, 0, 0));
     CHECK(refused(build(256, 49), MOGZIFT_BAD_DEPTH, 255));
     CHECK(refused(build(2, 47), MOGZIFT_SHORT_MEMORY, 48));
     CHECK(refused(build(2, 0), MOGZIFT_SHORT_MEMORY, 48));
@@ -160,10 +180,6 @@ static void files(void) {
 }
 
 static void rests_and_levels(void) {
-    static uint64_t deeper[69];
-    CHECK(mogzift_words(3, 2, 3) == 69);
-    CHECK(mogzift_build(file, sizeof file, 3, deeper, 69, answer) == 0);
-
     CHECK(answered(rest(2, words, 48), MOGZIFT_NONE, 0, 0));
     CHECK(answered(rest(3, deeper, 69), MOGZIFT_ANSWERED, 2, 0));
     CHECK(refused(rest(2, words, 0), MOGZIFT_SHORT_MEMORY, 48));
@@ -180,9 +196,35 @@ static void rests_and_levels(void) {
     CHECK(refused(level(2, BOTH, LIT, words, 47), MOGZIFT_SHORT_MEMORY, 48));
 }
 
+static void pages(void) {
+    enum { NEVER = MOGZIFT_ENTRY_NEVER, NOT_YET = MOGZIFT_ENTRY_NOT_BY_DEPTH, NO_GOAL = MOGZIFT_ENTRY_BAD_GOAL };
+    static const uint16_t both[GOALS] = {NOT_YET, 1, NO_GOAL, 2, NOT_YET};
+    static const uint16_t both_deeper[GOALS] = {NEVER, 1, NO_GOAL, 2, NEVER};
+    static const uint16_t door[GOALS] = {0, 1, NO_GOAL, 2, NOT_YET};
+    static const uint16_t desk_deeper[GOALS] = {NEVER, 0, NO_GOAL, 1, NEVER};
+    CHECK(paged(page(2, BOTH, GOALS, words, 48, GOALS), both));
+    CHECK(paged(page(3, BOTH, GOALS, deeper, 69, GOALS), both_deeper));
+    CHECK(paged(page(2, DOOR, GOALS, words, 48, GOALS), door));
+    CHECK(paged(page(3, DESK, GOALS, deeper, 69, GOALS), desk_deeper));
+
+    CHECK(paged(page(2, BOTH, GOALS, words, 48, GOALS + 1), both));
+    CHECK(page(2, BOTH, 2, words, 48, GOALS) == 0 && told(MOGZIFT_ANSWERED, 2, 0) && wrote(0, 0, 2, 0));
+    CHECK(levels_out[0] == NOT_YET && levels_out[1] == 1);
+    CHECK(answered(page(2, BOTH, 0, words, 48, GOALS), MOGZIFT_ANSWERED, 0, 0));
+    CHECK(answered(page(2, BOTH, 0, words, 48, 0), MOGZIFT_ANSWERED, 0, 0));
+
+    CHECK(refused(page(2, BOTH, GOALS, words, 48, GOALS - 1), MOGZIFT_SHORT_OUTPUT, GOALS));
+    CHECK(refused(page(2, BOTH, GOALS, words, 48, 0), MOGZIFT_SHORT_OUTPUT, GOALS));
+    CHECK(refused(page(256, 0, GOALS, words, 48, 0), MOGZIFT_BAD_DEPTH, 255));
+    CHECK(refused(page(2, 0, GOALS, words, 47, 0), MOGZIFT_BAD_STATE_SET, 0));
+    CHECK(refused(page(2, 4, 0, words, 48, 0), MOGZIFT_BAD_STATE_SET, 0));
+    CHECK(refused(page(2, BOTH, GOALS, words, 47, GOALS - 1), MOGZIFT_SHORT_MEMORY, 48));
+    CHECK(refused(page(2, BOTH, 0, words, 0, 0), MOGZIFT_SHORT_MEMORY, 48));
+}
+
 static void extracts(void) {
     size_t i;
-    CHECK(extract(2, DESK, 48, 49) == 0 && told(MOGZIFT_ANSWERED, 48, 0) && wrote(48, 0, 0));
+    CHECK(extract(2, DESK, 48, 49) == 0 && told(MOGZIFT_ANSWERED, 48, 0) && wrote(48, 0, 0, 0));
     for (i = 0; i < 48; i++) {
         CHECK(words_out[i] == (LAMP_WORDS[i] >> 1 & 1));
     }
@@ -196,9 +238,9 @@ static void extracts(void) {
 static void runs(void) {
     static const uint8_t list[3] = {WALK, LIGHT, 2};
     static uint8_t longest[65536];
-    CHECK(run(DOOR, list, 2, 3) == 0 && told(MOGZIFT_ANSWERED, 2, 0) && wrote(0, 2, 0));
+    CHECK(run(DOOR, list, 2, 3) == 0 && told(MOGZIFT_ANSWERED, 2, 0) && wrote(0, 2, 0, 0));
     CHECK(sets_out[0] == (DESK | LIT) && sets_out[1] == DESK);
-    CHECK(run(BOTH, list, 0, 2) == 0 && told(MOGZIFT_ANSWERED, 2, 0) && wrote(0, 2, 0));
+    CHECK(run(BOTH, list, 0, 2) == 0 && told(MOGZIFT_ANSWERED, 2, 0) && wrote(0, 2, 0, 0));
     CHECK(sets_out[0] == DOOR && sets_out[1] == DESK);
     CHECK(refused(run(0, list, 2, 3), MOGZIFT_BAD_STATE_SET, 0));
     CHECK(refused(run(DOOR, list, 2, 1), MOGZIFT_SHORT_OUTPUT, 2));
@@ -210,9 +252,9 @@ static void runs(void) {
 }
 
 static void plans(void) {
-    CHECK(plan(2, BOTH, LIT, 48, 3) == 0 && told(MOGZIFT_ANSWERED, 2, 3) && wrote(0, 2, 0));
+    CHECK(plan(2, BOTH, LIT, 48, 3) == 0 && told(MOGZIFT_ANSWERED, 2, 3) && wrote(0, 2, 0, 0));
     CHECK(sets_out[0] == (1 << WALK | 1 << LIGHT) && sets_out[1] == 1 << LIGHT);
-    CHECK(plan(2, DESK, LIT, 48, 2) == 0 && told(MOGZIFT_ANSWERED, 1, 1) && wrote(0, 1, 0));
+    CHECK(plan(2, DESK, LIT, 48, 2) == 0 && told(MOGZIFT_ANSWERED, 1, 1) && wrote(0, 1, 0, 0));
     CHECK(sets_out[0] == 1 << LIGHT);
     CHECK(answered(plan(0, DOOR, DOOR, 48, 0), MOGZIFT_ANSWERED, 0, 0));
     CHECK(refused(plan(256, BOTH, LIT, 48, 3), MOGZIFT_BAD_DEPTH, 255));
@@ -240,11 +282,11 @@ static void depths(void) {
 
 static void texts(void) {
     size_t len = sizeof LAMP_TEXT - 1;
-    CHECK(levels_text(40, MOGZIFT_TEXT_ROOM) == 0 && told(MOGZIFT_ANSWERED, len, 0) && wrote(0, 0, len));
+    CHECK(levels_text(40, MOGZIFT_TEXT_ROOM) == 0 && told(MOGZIFT_ANSWERED, len, 0) && wrote(0, 0, 0, len));
     CHECK(memcmp(text_out, LAMP_TEXT, len) == 0);
-    CHECK(levels_text(39, MOGZIFT_TEXT_ROOM) == 0 && told(MOGZIFT_ANSWERED, 13, 0) && wrote(0, 0, 13));
+    CHECK(levels_text(39, MOGZIFT_TEXT_ROOM) == 0 && told(MOGZIFT_ANSWERED, 13, 0) && wrote(0, 0, 0, 13));
     CHECK(memcmp(text_out, "refused 4 40\n", 13) == 0);
-    CHECK(levels_text(0, MOGZIFT_TEXT_ROOM) == 0 && told(MOGZIFT_ANSWERED, 12, 0) && wrote(0, 0, 12));
+    CHECK(levels_text(0, MOGZIFT_TEXT_ROOM) == 0 && told(MOGZIFT_ANSWERED, 12, 0) && wrote(0, 0, 0, 12));
     CHECK(memcmp(text_out, "refused 1 0\n", 12) == 0);
     CHECK(refused(levels_text(40, MOGZIFT_TEXT_ROOM - 1), MOGZIFT_SHORT_OUTPUT, MOGZIFT_TEXT_ROOM));
     CHECK(refused(levels_text(0, 0), MOGZIFT_SHORT_OUTPUT, MOGZIFT_TEXT_ROOM));
@@ -266,9 +308,13 @@ int main(void) {
     memcpy(file, LAMP, sizeof file);
     memset(words, MARK, sizeof words);
     memcpy(words, LAMP_WORDS, sizeof LAMP_WORDS);
+    /* with one layer more the graph rests */
+    CHECK(mogzift_words(3, 2, 3) == 69);
+    CHECK(mogzift_build(file, sizeof file, 3, deeper, 69, answer) == 0);
     builds();
     files();
     rests_and_levels();
+    pages();
     extracts();
     runs();
     plans();
@@ -278,6 +324,6 @@ int main(void) {
     /* what was lent for reading only */
     CHECK(memcmp(file, LAMP, sizeof file) == 0);
     CHECK(memcmp(words, LAMP_WORDS, sizeof LAMP_WORDS) == 0 && marked_from(words, sizeof words, sizeof LAMP_WORDS));
-    printf("the lamp through 8 calls: %d checks, %d failed\n", checks, failures);
+    printf("the lamp through 9 calls: %d checks, %d failed\n", checks, failures);
     return failures == 0 ? 0 : 1;
 }

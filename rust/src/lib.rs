@@ -17,6 +17,10 @@
 //! assert_eq!(mogzift::build(&file, 2, &mut words), Ok(48));
 //! assert_eq!(mogzift::level(&file, 2, 0b11, 1 << 2, &words), Ok(mogzift::Level::At(2)));
 //!
+//! let mut levels = [0; 2];
+//! assert_eq!(mogzift::page(&file, 2, 0b11, &[1 << 1, 1 << 2], &words, &mut levels), Ok(2));
+//! assert_eq!(levels.map(mogzift::entry), [Ok(mogzift::Level::At(1)), Ok(mogzift::Level::At(2))]);
+//!
 //! let mut out = [0; 2];
 //! let plan = mogzift::plan(&file, 2, 0b11, 1 << 2, &words, &mut out);
 //! assert_eq!(plan, Ok(mogzift::Plan { level: 2, count: 3 }));
@@ -105,6 +109,19 @@ mod proved {
             words_len: usize,
             answer: *mut [u64; 3],
         ) -> usize;
+        pub fn mogzift_page(
+            file: *const u8,
+            file_len: usize,
+            depth: usize,
+            set: u64,
+            goals: *const u32,
+            goals_len: usize,
+            words: *const u64,
+            words_len: usize,
+            out: *mut u16,
+            out_len: usize,
+            answer: *mut [u64; 3],
+        ) -> usize;
         pub fn mogzift_extract(
             file: *const u8,
             file_len: usize,
@@ -154,6 +171,11 @@ const REFUSED: u64 = 0;
 const ANSWERED: u64 = 1;
 const NONE: u64 = 2;
 const NOT_BY_DEPTH: u64 = 3;
+
+/// The entries of a page that are no level.
+const ENTRY_NEVER: u16 = 256;
+const ENTRY_NOT_BY_DEPTH: u16 = 257;
+const ENTRY_GOAL: u16 = 258;
 
 /// Makes a call with room for its answer, and gives the answer's kind and two numbers, or the refusal.
 fn told(call: impl FnOnce(*mut [u64; 3]) -> usize) -> Result<(u64, usize, usize), Refusal> {
@@ -210,6 +232,48 @@ pub fn level(file: &[u8], depth: usize, set: u64, goal: u32, words: &[u64]) -> R
         (NOT_BY_DEPTH, 0, 0) => Level::NotByDepth,
         _ => unreachable!("{answer:?} of a level"),
     })
+}
+
+/// The levels of a page of goals for a set of states; answers the number of entries written, which is that of the goals.
+///
+/// Entry i is what [`level`] answers for goal i, as a number that [`entry`] reads. A goal with bit P or above has an entry
+/// of its own and leaves the others as they are. A page may be empty.
+pub fn page(
+    file: &[u8],
+    depth: usize,
+    set: u64,
+    goals: &[u32],
+    words: &[u64],
+    out: &mut [u16],
+) -> Result<usize, Refusal> {
+    told(|answer| unsafe {
+        proved::mogzift_page(
+            file.as_ptr(),
+            file.len(),
+            depth,
+            set,
+            goals.as_ptr(),
+            goals.len(),
+            words.as_ptr(),
+            words.len(),
+            out.as_mut_ptr(),
+            out.len(),
+            answer,
+        )
+    })
+    .map(count)
+}
+
+/// What an entry of a [`page`] says, which is what [`level`] answers for its goal: up to 255 the layer, 256
+/// [`Level::Never`], 257 [`Level::NotByDepth`], 258 [`Refusal::Goal`]. It panics above that, which no page writes.
+pub fn entry(code: u16) -> Result<Level, Refusal> {
+    match code {
+        0..=255 => Ok(Level::At(code as usize)),
+        ENTRY_NEVER => Ok(Level::Never),
+        ENTRY_NOT_BY_DEPTH => Ok(Level::NotByDepth),
+        ENTRY_GOAL => Err(Refusal::Goal),
+        _ => panic!("no page has the entry {code}"),
+    }
 }
 
 /// The graph's words cut to a set of states, bits closed up in order; answers the number of words written.

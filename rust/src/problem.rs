@@ -1,6 +1,6 @@
 //! A problem file put together, and a graph with memory of its own.
 
-use crate::{build, extract, fitting_depth, level, plan, rest, word_count, Level, Plan, Refusal, Rest};
+use crate::{build, entry, extract, fitting_depth, level, page, plan, rest, word_count, Level, Plan, Refusal, Rest};
 
 /// A problem that is put together: so many propositions, then actions and start states in the order of their numbers.
 ///
@@ -150,6 +150,13 @@ impl Graph {
         level(&self.file, self.depth, set, goal, &self.words)
     }
 
+    /// The levels of a page of goals for a set of states: of each goal what [`level`](Graph::level) answers.
+    pub fn page(&self, set: u64, goals: &[u32]) -> Result<Vec<Result<Level, Refusal>>, Refusal> {
+        let mut out = vec![0; goals.len()];
+        page(&self.file, self.depth, set, goals, &self.words, &mut out)?;
+        Ok(out.into_iter().map(entry).collect())
+    }
+
     /// The words of the graph that is built for the states of a set only.
     pub fn extract(&self, set: u64) -> Result<Vec<u64>, Refusal> {
         let mut out = vec![0; self.words.len()];
@@ -272,12 +279,17 @@ mod tests {
         assert_eq!(graph.rest(), Ok(Rest::None));
         assert_eq!(graph.level(0b11, 0b100), Ok(Level::At(2)));
         assert_eq!(graph.level(0b01, 0b101), Ok(Level::NotByDepth));
+        let levels = [Ok(Level::At(2)), Err(Refusal::Goal), Ok(Level::NotByDepth)];
+        assert_eq!(graph.page(0b11, &[0b100, 0b1000, 0b101]), Ok(levels.to_vec()));
+        assert_eq!(graph.page(0b11, &[]), Ok(vec![]));
+        assert_eq!(graph.page(0, &[]), Err(Refusal::StateSet));
         assert_eq!(graph.extract(0b10).unwrap()[42..], [0, 1, 1, 0, 0, 0]);
         assert_eq!(graph.plan(0b11, 0b100), Ok((Plan { level: 2, count: 3 }, vec![3, 2])));
         assert_eq!(graph.plan(0b10, 0b100), Ok((Plan { level: 1, count: 1 }, vec![2])));
         assert_eq!(graph.plan(0b01, 0b101), Err(Refusal::NoLevel(2)));
         assert_eq!(graph.level(0, 0), Err(Refusal::StateSet));
         assert_eq!(lamp().graph(3).unwrap().rest(), Ok(Rest::At(2)));
+        assert_eq!(lamp().graph(3).unwrap().page(0b01, &[0b101, 0]), Ok(vec![Ok(Level::Never), Ok(Level::At(0))]));
         assert_eq!(lamp().graph(256), Err(Refusal::Depth));
         assert_eq!(Graph::new(LAMP[..39].to_vec(), 2), Err(Refusal::Length(40)));
     }

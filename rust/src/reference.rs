@@ -13,12 +13,13 @@
 //!   made one by one. Once a layer equals the one before, all further ones are copied.
 //! - Extract cuts out runs of states by shifts where they are few, and else copies what repeats.
 //! - Level looks first at the word that stood in the goal's way one layer before, and for a rest from the top.
+//! - Page remembers in which layers such a word stands in the way, for all goals to come, and looks for a rest once.
 //! - Plan goes over the propositions that are needed only, and over the actions that add one as a set.
 //! - Run follows a sequence once, for all states, and asks whether all preconditions held after many steps at a time.
 
 #![allow(clippy::needless_range_loop)] // an index that several rows share
 
-use crate::{word_count, Level, Plan, Refusal, Rest, TEXT_ROOM};
+use crate::{word_count, Level, Plan, Refusal, Rest, ENTRY_GOAL, ENTRY_NEVER, ENTRY_NOT_BY_DEPTH, TEXT_ROOM};
 use std::fmt::Write;
 
 /// The members of a set of up to R actions or propositions, rising. R is a power of two, up to 32.
@@ -151,7 +152,7 @@ fn check_depth(depth: usize) -> Result<(), Refusal> {
 }
 
 /// The words of a layer of n elements.
-fn size(n: usize) -> usize {
+const fn size(n: usize) -> usize {
     n * (n + 1) / 2
 }
 
@@ -656,6 +657,18 @@ impl<'a> Layers<'a> {
         None
     }
 
+    /// The first layer from this one on in which the word is not in the way, or the one behind the last.
+    fn passed(&self, from: usize, set: u64, obstacle: &Obstacle) -> usize {
+        let mut at = from * self.stride + obstacle.at;
+        for t in from..self.depth + 1 {
+            if self.words[at] & set == obstacle.wanted {
+                return t;
+            }
+            at += self.stride;
+        }
+        self.depth + 1
+    }
+
     fn rests_at(&self, t: usize) -> bool {
         self.layer(t) == self.layer(t + 1)
     }
@@ -690,6 +703,92 @@ pub fn level(file: &[u8], depth: usize, set: u64, goal: u32, words: &[u64]) -> R
         None if layers.rests() => Level::Never,
         None => Level::NotByDepth,
     })
+}
+
+/// The words of the widest layer of propositions.
+const PLACES: usize = size(32);
+
+/// What the goals before have shown of the words for a set of states. What a word would have to have in common with the
+/// set goes by its place, so it holds for every goal.
+struct Known<'a> {
+    layers: Layers<'a>,
+    set: u64,
+    /// Of each label a layer before which it is in the way.
+    firsts: [u16; 32],
+    /// Of each other word a row of layers in which it is: from one on, up to another in which it is not.
+    rows: [[u16; 2]; PLACES],
+}
+
+impl<'a> Known<'a> {
+    fn nothing(layers: Layers<'a>, set: u64) -> Self {
+        Known { layers, set, firsts: [0; 32], rows: [[0; 2]; PLACES] }
+    }
+
+    /// The first layer that meets the goal: none before its labels are as wanted.
+    fn first_met(&mut self, goal: u32) -> Option<usize> {
+        let mut t = Members::<32>(goal).fold(0, |t, p| t.max(self.firsts[p])) as usize;
+        while t <= self.layers.depth {
+            match self.layers.obstacle(self.layers.layer(t), self.set, goal) {
+                Some(obstacle) if obstacle.at < self.layers.props => t = self.next_label(t, &obstacle),
+                Some(obstacle) => t = self.next_pair(t + 1, &obstacle),
+                None => return Some(t),
+            }
+        }
+        None
+    }
+
+    /// The first layer behind t in which the label is not in the way.
+    fn next_label(&mut self, t: usize, label: &Obstacle) -> usize {
+        let first = self.layers.passed(self.firsts[label.at] as usize, self.set, label);
+        self.firsts[label.at] = first as u16;
+        // in altered words a label may be in the way again
+        if t < first {
+            first
+        } else {
+            self.layers.passed(t + 1, self.set, label)
+        }
+    }
+
+    /// The first layer from this one on in which the mutex word is not in the way.
+    fn next_pair(&mut self, next: usize, word: &Obstacle) -> usize {
+        let [from, upto] = &mut self.rows[word.at];
+        if !(*from as usize..=*upto as usize).contains(&next) {
+            *from = next as u16;
+            *upto = self.layers.passed(next, self.set, word) as u16;
+        }
+        *upto as usize
+    }
+}
+
+/// The levels of a page of goals for a set of states; answers the number of entries written, which is that of the goals.
+pub fn page(
+    file: &[u8],
+    depth: usize,
+    set: u64,
+    goals: &[u32],
+    words: &[u64],
+    out: &mut [u16],
+) -> Result<usize, Refusal> {
+    let problem = Problem::open(file)?;
+    check_depth(depth)?;
+    problem.check_set(set)?;
+    let layers = problem.layers(depth, words)?;
+    if out.len() < goals.len() {
+        return Err(Refusal::Output(goals.len()));
+    }
+    let mut known = Known::nothing(layers, set);
+    // the entry of a goal without a level, once there is one
+    let mut unmet = None;
+    for (entry, &goal) in out.iter_mut().zip(goals) {
+        *entry = if problem.check_goal(goal).is_err() {
+            ENTRY_GOAL
+        } else if let Some(t) = known.first_met(goal) {
+            t as u16
+        } else {
+            *unmet.get_or_insert_with(|| if known.layers.rests() { ENTRY_NEVER } else { ENTRY_NOT_BY_DEPTH })
+        };
+    }
+    Ok(goals.len())
 }
 
 // ---- extract

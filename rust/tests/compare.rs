@@ -1,5 +1,6 @@
 //! Makes each call of the proved library and of the plain Rust version on the same input, and compares the answers and
-//! all lent memory: many problems, short and long, whole and damaged, over built, altered and junk words.
+//! all lent memory: many problems, short and long, whole and damaged, over built, altered and junk words. What a page of
+//! goals says of each is held to the single call for it, too.
 //!
 //! Prints how often each kind of answer came up, and fails where one that the paper has never did.
 
@@ -228,6 +229,19 @@ impl Kind for usize {
     }
 }
 
+/// The entries that were written for a page of goals.
+#[derive(Debug, PartialEq)]
+struct Entries(usize);
+
+impl Kind for Entries {
+    fn kind(&self) -> &'static str {
+        match self.0 {
+            0 => "empty page",
+            _ => "written",
+        }
+    }
+}
+
 /// The greatest depth that fits.
 #[derive(Debug, PartialEq)]
 struct Fits(usize);
@@ -281,7 +295,11 @@ impl Tally {
     ) {
         assert!(proved == plain, "{call}: proved {proved:?}, plain {plain:?}; {}", input());
         self.calls += 1;
-        let kind = match &proved {
+        self.count(call, &proved);
+    }
+
+    fn count<T: Kind>(&mut self, call: &'static str, answer: &Result<T, Refusal>) {
+        let kind = match answer {
             Ok(answer) => answer.kind(),
             Err(why) => {
                 *self.places.entry((why.number(), why.place())).or_default() += 1;
@@ -325,6 +343,25 @@ impl Tally {
         let input = || format!("depth {depth}, set {set:x}, goal {goal:x}, file {file:02x?}, words {words:x?}");
         let proved = mogzift::level(file, depth, set, goal, words);
         self.compare("level", proved, reference::level(file, depth, set, goal, words), input);
+    }
+
+    fn page(&mut self, file: &[u8], depth: usize, set: u64, goals: &[u32], words: &[u64], before: Vec<u16>) {
+        let input = || {
+            let room = before.len();
+            format!("depth {depth}, set {set:x}, goals {goals:x?}, {room} out, file {file:02x?}, words {words:x?}")
+        };
+        let (mut proved, mut plain) = (before.clone(), before.clone());
+        let answer = mogzift::page(file, depth, set, goals, words, &mut proved);
+        let other = reference::page(file, depth, set, goals, words, &mut plain);
+        self.compare("page", answer.map(Entries), other.map(Entries), input);
+        self.memory("page", &before, &proved, &plain, answer.unwrap_or(0), input);
+        if answer.is_ok() {
+            for (&goal, &code) in goals.iter().zip(&proved) {
+                let (entry, single) = (mogzift::entry(code), mogzift::level(file, depth, set, goal, words));
+                assert!(entry == single, "goal {goal:x} in a page {entry:?}, by itself {single:?}; {}", input());
+                self.count("entry", &entry);
+            }
+        }
     }
 
     fn depth(&mut self, file: &[u8], room: usize) {
@@ -401,6 +438,17 @@ fn goal_set(random: &mut Random, props: usize) -> u32 {
         12..=16 => 1 << random.below(props) | 1 << random.below(props),
         _ => random.bits(props, 3) as u32,
     }
+}
+
+/// Mostly a few goals, at times none, one, or some hundreds.
+fn goal_page(random: &mut Random, props: usize) -> Vec<u32> {
+    let goals = match random.below(12) {
+        0 => 0,
+        1 => 1,
+        2 => random.from(100, 500),
+        _ => random.from(2, 16),
+    };
+    (0..goals).map(|_| goal_set(random, props)).collect()
 }
 
 fn call_depth(random: &mut Random, depth: usize) -> usize {
@@ -489,7 +537,7 @@ fn list(random: &mut Random, problem: &Problem, set: u64) -> Vec<u8> {
     list
 }
 
-/// One of the eight calls, over a file whose problem was this before it was damaged, if it was.
+/// One of the nine calls, over a file whose problem was this before it was damaged, if it was.
 fn any_call(tally: &mut Tally, random: &mut Random, problem: &Problem, file: &[u8], depth: usize, built: &[u64]) {
     let depth = call_depth(random, depth);
     // a deeper call than was built wants more words than there are; they are not made, so that it is turned away
@@ -498,7 +546,13 @@ fn any_call(tally: &mut Tally, random: &mut Random, problem: &Problem, file: &[u
     let goal = goal_set(random, problem.props);
     let mut words = graph_words(random, problem, built);
     words.truncate(random.room(needed).min(words.len()));
-    match random.below(14) {
+    match random.below(16) {
+        14..=15 => {
+            let goals = goal_page(random, problem.props);
+            let room = random.room(goals.len());
+            let before = (0..room).map(|_| random.word() as u16).collect();
+            tally.page(file, depth, set, &goals, &words, before);
+        }
         13 => {
             let room = random.room(TEXT_ROOM);
             tally.text(file, (0..room).map(|_| random.word() as u8).collect());
@@ -582,7 +636,8 @@ fn main() {
             .map(|(_, n)| n)
             .sum()
     };
-    let calls = ["build", "rest", "level", "extract", "run", "plan", "depth", "text"];
+    // an entry is no call: these are the goals of the pages that were accepted
+    let calls = ["build", "rest", "level", "page", "entry", "extract", "run", "plan", "depth", "text"];
     println!("{:<24} {}", "", calls.map(|call| format!("{call:>8}")).concat());
     let mut kinds: Vec<&str> =
         tally.kinds.keys().map(|(_, kind)| *kind).filter(|kind| !REFUSED.contains(kind)).collect();
@@ -617,6 +672,14 @@ fn main() {
         ("level", "level above 0"),
         ("level", "never"),
         ("level", "not by depth"),
+        ("page", "written"),
+        ("page", "empty page"),
+        ("page", REFUSED[9]),
+        ("entry", "level 0"),
+        ("entry", "level above 0"),
+        ("entry", "never"),
+        ("entry", "not by depth"),
+        ("entry", REFUSED[7]),
         ("extract", "written"),
         ("run", "written"),
         ("plan", "plan of level 0"),

@@ -1,6 +1,6 @@
 //! The C header beside the Rust library: the refusals' numbers and texts, the other numbers, and the C test.
 
-use mogzift::{Plan, Problem, Refusal};
+use mogzift::{Level, Plan, Problem, Refusal};
 use std::path::Path;
 use std::process::Command;
 use std::thread;
@@ -59,6 +59,18 @@ fn refusals_have_the_headers_numbers_and_texts() {
 fn the_other_numbers_are_the_headers() {
     assert_eq!(number("MOGZIFT_TEXT_ROOM"), mogzift::TEXT_ROOM);
     assert_eq!(number("MOGZIFT_STACK"), mogzift::STACK);
+}
+
+#[test]
+fn entries_of_a_page_have_the_headers_numbers() {
+    for (name, entry) in [
+        ("MOGZIFT_ENTRY_NEVER", Ok(Level::Never)),
+        ("MOGZIFT_ENTRY_NOT_BY_DEPTH", Ok(Level::NotByDepth)),
+        ("MOGZIFT_ENTRY_BAD_GOAL", Err(Refusal::Goal)),
+    ] {
+        assert_eq!(mogzift::entry(number(name) as u16), entry);
+    }
+    assert_eq!([0, 255].map(mogzift::entry), [0, 255].map(|layer| Ok(Level::At(layer))));
 }
 
 #[test]

@@ -24,6 +24,9 @@ const SEED: u64 = 2024;
 /// The steps of a long run.
 const STEPS: usize = 1000;
 
+/// The goals of a page.
+const GOALS: usize = 500;
+
 // ---- problems
 
 /// SplitMix64.
@@ -132,6 +135,25 @@ impl Case {
             }
         });
         (set, goal)
+    }
+
+    /// A page of goals, of one to four propositions each.
+    fn goals(&self, seed: u64) -> Vec<u32> {
+        // numbers of its own, so that what is drawn for other calls does not depend on it
+        let mut random = Random(!seed);
+        let mut goal = || {
+            let members = 1 + random.below(4);
+            random.set(self.file[5] as usize, members)
+        };
+        (0..GOALS).map(|_| goal()).collect()
+    }
+
+    /// What a page of goals is for a set of states.
+    fn page(&self, set: u64, goals: &[u32]) -> String {
+        let mut levels = vec![0; goals.len()];
+        reference::page(&self.file, self.depth, set, goals, &self.words, &mut levels).unwrap();
+        let met = levels.iter().filter(|&&code| matches!(mogzift::entry(code), Ok(Level::At(_)))).count();
+        format!("{} states, {GOALS} goals, {met} with a level", set.count_ones())
     }
 
     /// Half of the states, drawn one by one: many short runs where there are many states.
@@ -249,7 +271,7 @@ fn builds(case: &Case) {
     times.print("build", case, format!("{count} words, {rest}"));
 }
 
-fn reads(case: &Case, random: &mut Random) {
+fn reads(case: &Case, seed: u64, random: &mut Random) {
     let Case { file, depth, words, .. } = case;
     let depth = *depth;
     let all = case.states();
@@ -264,6 +286,12 @@ fn reads(case: &Case, random: &mut Random) {
     let every = u32::MAX >> (32 - file[5]);
     let (answer, times) = race!(level(file, depth, all, every, words));
     times.print("level", case, format!("all states, all goals, {answer:?}"));
+
+    let goals = case.goals(seed);
+    for set in [set, 1] {
+        let (_, times) = race!(page(file, depth, set, &goals, words => vec![0; GOALS]));
+        times.print("page", case, case.page(set, &goals));
+    }
 
     let middle = 1 << (file[7] / 2);
     // all states but the first and one in the middle; of the lamp's two states nothing would be left
@@ -336,6 +364,43 @@ fn alone(version: &str, build: Build, case: &Case) {
     times.print(version, case, format!("{} states", files.len()));
 }
 
+type SingleLevel = fn(&[u8], usize, u64, u32, &[u64]) -> Result<Level, Refusal>;
+type Page = fn(&[u8], usize, u64, &[u32], &[u64], &mut [u16]) -> Result<usize, Refusal>;
+
+/// A call for each goal by itself, against one page of them. Both must say the same.
+fn goal_by_goal(version: &str, level: SingleLevel, page: Page, case: &Case, set: u64, goals: &[u32]) {
+    let Case { file, depth, words, .. } = case;
+    let mut levels = vec![0; GOALS];
+    page(file, *depth, set, goals, words, &mut levels).unwrap();
+    for (&goal, &code) in goals.iter().zip(&levels) {
+        assert_eq!(mogzift::entry(code), level(file, *depth, set, goal, words));
+    }
+    let times = Race::run(
+        || {
+            for &goal in goals {
+                let _ = black_box(level(
+                    black_box(file),
+                    black_box(*depth),
+                    black_box(set),
+                    black_box(goal),
+                    black_box(words),
+                ));
+            }
+        },
+        || {
+            let _ = black_box(page(
+                black_box(file),
+                black_box(*depth),
+                black_box(set),
+                black_box(goals),
+                black_box(words),
+                black_box(&mut levels),
+            ));
+        },
+    );
+    times.print(version, case, case.page(set, goals));
+}
+
 fn heading(what: &str, first: &str, second: &str) {
     println!("{what:<80} {first:>13} {second:>13} {:>9} {:>7}", "ratio", "rounds");
 }
@@ -364,7 +429,7 @@ fn main() {
         builds(case);
     }
     for case in &cases {
-        reads(case, &mut random);
+        reads(case, seed, &mut random);
     }
     println!();
     heading("build", "each alone ns", "all in one ns");
@@ -372,6 +437,15 @@ fn main() {
         agree(case);
         alone("proved", mogzift::build, case);
         alone("plain", reference::build, case);
+    }
+    println!();
+    heading("page", "each alone ns", "all in one ns");
+    for case in &cases {
+        let goals = case.goals(seed);
+        for set in [case.task(4).0, 1] {
+            goal_by_goal("proved", mogzift::level, mogzift::page, case, set, &goals);
+            goal_by_goal("plain", reference::level, reference::page, case, set, &goals);
+        }
     }
     println!();
     heading("build", "proved ns", "its words ns");

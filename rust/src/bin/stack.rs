@@ -12,7 +12,7 @@ use mogzift::{word_count, STACK, TEXT_ROOM};
 use std::process::{Command, Stdio};
 use std::{arch, env, hint, thread};
 
-const CALLS: [&str; 8] = ["build", "rest", "level", "extract", "run", "plan", "fitting_depth", "levels_text"];
+const CALLS: [&str; 9] = ["build", "rest", "level", "page", "extract", "run", "plan", "fitting_depth", "levels_text"];
 
 /// P, A and N of the problems, and the depth of their graphs.
 const SIZES: [(usize, usize, usize); 4] = [(3, 2, 2), (8, 8, 8), (16, 16, 16), (32, 32, 64)];
@@ -42,6 +42,7 @@ struct Case {
     words: Vec<u64>,
     out: Vec<u64>,
     sets: Vec<u32>,
+    levels: Vec<u16>,
     text: Vec<u8>,
 }
 
@@ -57,7 +58,7 @@ impl Case {
         let mut words = vec![0; word_count(props, actions, DEPTH)];
         mogzift::build(&file, DEPTH, &mut words).expect("a file that is in order");
         let out = words.clone();
-        Case { file, words, out, sets: vec![0; 64], text: vec![0; TEXT_ROOM] }
+        Case { file, words, out, sets: vec![0; 64], levels: vec![0; 3], text: vec![0; TEXT_ROOM] }
     }
 
     fn all((props, actions, states): (usize, usize, usize)) -> Vec<Case> {
@@ -66,7 +67,7 @@ impl Case {
 
     /// Makes the call for each single goal and for several sets of states, accepted or turned away.
     fn call(&mut self, name: &str) {
-        let Case { file, words, out, sets, text } = self;
+        let Case { file, words, out, sets, levels, text } = self;
         let all = u64::MAX >> (64 - file[7]);
         for (p, set) in (0..file[5]).flat_map(|p| [1, all, all / 3, all & 0x1234_5678_9ABC_DEF1].map(|set| (p, set))) {
             let goal = 1 << p;
@@ -74,6 +75,7 @@ impl Case {
                 "build" => mogzift::build(file, DEPTH, out).map(drop),
                 "rest" => mogzift::rest(file, DEPTH, words).map(drop),
                 "level" => mogzift::level(file, DEPTH, set, goal, words).map(drop),
+                "page" => mogzift::page(file, DEPTH, set, &[goal, goal | 1, u32::MAX], words, levels).map(drop),
                 "extract" => mogzift::extract(file, DEPTH, set, words, out).map(drop),
                 "run" => mogzift::run(file, set, &[p % file[6]], sets).map(drop),
                 "plan" => mogzift::plan(file, DEPTH, set, goal, words, sets).map(drop),
