@@ -152,6 +152,12 @@ module _ (file : List ℕ) (c : Counts) (file' : List ℕ) (c' : Counts) (same :
 
 -- ---- 6: a page of goals
 
+-- A page is accepted exactly when the level call is for no goal, and the output has room: no goal turns it away, and with none no room is needed.
+pub page-accepted-exactly : (file : List ℕ) (depth set : ℕ) (goals words : List ℕ) (room : ℕ)
+    → Exactly ((entries : List ℕ) × (pageRule file depth set goals words room ≡ accepted entries))
+    (((a : Level) × (levelRule file depth set 0 words ≡ accepted a)) × (length goals ≤ room))
+page-accepted-exactly = pages.accepted-exactly
+
 -- For every accepted page, on any words, junk too; `left` is the output after it.
 module _ (file : List ℕ) (depth set : ℕ) (goals words out entries : List ℕ)
     (paged : pageRule file depth set goals words (length out) ≡ accepted entries) where

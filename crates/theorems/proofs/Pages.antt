@@ -9,6 +9,7 @@ use native.Mathlib.Decide.{decLe}
 use native.Mathlib.Omega.{arith}
 use lib.ListN.{length, getD, drop, List·getD-append}
 use lib.Seq.{getD-append-add, getD-drop}
+use lib.Pow.{pow-pos}
 use Rattle.rules.specs.Test.{same, below, choose}
 use Rattle.rules.specs.Level.{Level, level, never, notByDepth, firstMet, firstRest, levelOf}
 use Rattle.rules.proofs.Tests.{same-not, below-not}
@@ -16,12 +17,15 @@ use Rattle.rules.proofs.Layers.{getD-listOver}
 use Rattle.graph.specs.Limits.{maxDepth}
 use Rattle.graph.specs.Verdict.{Verdict, accepted, refused, written, laid}
 use Rattle.graph.specs.Format.{shapeIn}
-use Rattle.graph.specs.declared.format.Counts.{Counts}
+use Rattle.graph.specs.Checks.{setRule, askedRule}
+use Rattle.graph.proofs.Links.{long-output}
+use Rattle.graph.proofs.Ladder.{passed-then, asked-means, graph-means, graph-of}
+use Rattle.graph.proofs.Verdicts.{then-accepted}
 use Rattle.level.specs.Rule.{levelTaken, levelRule}
 use Rattle.level.proofs.Answers.{level-at, level-none}
-use Rattle.page.specs.Rule.{entryOf, entries, pageRule}
+use Rattle.page.specs.Rule.{entryOf, entries, pageTaken, pageRule}
 use Rattle.page.proofs.Singles.{single-taken, single-fit, single-wide, entries-long, Paged, page-means}
-use Rattle.theorems.specs.Setting.{saidBy}
+use Rattle.theorems.specs.Setting.{Exactly, saidBy}
 
 -- ---- what an entry tells
 
@@ -102,6 +106,36 @@ module _ {file : List ℕ} {depth set : ℕ} {goals words : List ℕ} {room : �
       none h =
           let rests = below (firstRest (shapeIn (m .c)) depth words) depth in
           by (accepted (choose rests never notByDepth)) (level-none (shapeIn (m .c)) depth set goal words first refl (omega arith)) (told-none rests)
+
+-- ---- which pages are accepted
+
+module _ (file : List ℕ) (depth set : ℕ) (goals words : List ℕ) (room : ℕ) where
+  -- then the single call for no goal is accepted, too
+  single-accepted : {given : List ℕ} → Paged file depth set goals words room given → (a : Level) × (levelRule file depth set 0 words ≡ accepted a)
+  single-accepted m = (
+    levelOf (shapeIn (m .c)) depth set 0 words,
+    sym (single-taken file (m .c) depth set words (m .taken) 0) ∙ single-fit (m .c) depth set words (m .passed) 0 (pow-pos (m .c .props)),
+  )
+
+  -- and where it is and the output is long enough, the page is
+  page-accepted : (a : Level) → levelRule file depth set 0 words ≡ accepted a → length goals ≤ room
+      → pageRule file depth set goals words room ≡ accepted (entries (λ goal. levelRule file depth set goal words) goals)
+  unfolding levelRule levelTaken pageRule pageTaken
+  page-accepted a e enough =
+      let (c, taken, e₁) = passed-then _ _ a e in
+      let (u, graph, e₂) = passed-then _ _ a e₁ in
+      let p = graph-means c depth (askedRule c set 0) (length words) graph in
+      then-accepted _ _ c taken
+      ∙ then-accepted _ _ tt (graph-of c depth (setRule (c .states) set) (length words)
+      (record { deep = p .deep; fine = asked-means c set 0 (p .fine) .0; fits = p .fits }))
+      ∙ then-accepted _ _ tt (sym (long-output (length goals) room enough))
+
+  pub accepted-exactly : Exactly ((given : List ℕ) × (pageRule file depth set goals words room ≡ accepted given))
+      (((a : Level) × (levelRule file depth set 0 words ≡ accepted a)) × (length goals ≤ room))
+  accepted-exactly = (
+    λ (given, e). let m = page-means file depth set goals words room given e in (single-accepted m, m .fits),
+    λ ((a, e), enough). (_, page-accepted a e enough),
+  )
 
 module _ (file : List ℕ) (depth set : ℕ) (goals words out given : List ℕ)
     (paged : pageRule file depth set goals words (length out) ≡ accepted given) where
