@@ -39,7 +39,7 @@
  * No heap, no file, no other library than the C library's memcpy and memset. Of the stack, whatever the problem:
  *   mogzift_levels_text    108 KiB (64 KiB of graph words, and a build)
  *   mogzift_build          43 KiB
- *   mogzift_plan           under 4 KiB
+ *   mogzift_page, _plan    under 4 KiB
  *   each other call        under 2 KiB
  * These are measured and not proved; `cargo run --release --offline --bin stack` in rust/ measures them again. To them comes
  * what a thread needs for itself, and, in a program that looks memset up at its first use, up to 4 KiB for that: such a
