@@ -4,7 +4,7 @@ use mathlib.Core.Path.{_≡_, refl, sym, ap, _∙_}
 use mathlib.Core.Bool.{Bool, true, false}
 use mathlib.Core.List.{List}
 use mathlib.Core.Logic.{by-cases}
-use Prim.Native.Nat.{ℕ, suc, _^_, _≤_, _<_}
+use Prim.Native.Nat.{ℕ, _^_, _≤_, _<_}
 use native.Mathlib.Decide.{decLe}
 use native.Mathlib.Omega.{arith}
 use lib.ListN.{length, getD}
@@ -15,7 +15,7 @@ use Rattle.rules.proofs.Layers.{length-listOver, listOver-eq}
 use Rattle.graph.specs.Verdict.{Verdict, accepted, refused, andThen}
 use Rattle.graph.specs.Format.{shapeIn}
 use Rattle.graph.specs.File.{fileRule}
-use Rattle.graph.specs.Checks.{setRule, goalRule, outputRule, askedRule, graphRule, Passed}
+use Rattle.graph.specs.Checks.{setRule, outputRule, askedRule, graphRule, Passed}
 use Rattle.graph.specs.declared.format.Counts.{Counts}
 use Rattle.graph.proofs.Ladder.{passed-then, accepted-is, output-means, asked-of, graph-means, graph-of}
 use Rattle.graph.proofs.Links.{deep-enough, wide-goal, fit-goal}
@@ -23,7 +23,7 @@ use Rattle.graph.proofs.Verdicts.{then-refused, then-accepted}
 use Rattle.level.specs.Rule.{levelTaken, levelRule}
 use Rattle.level.proofs.Answers.{level-at, level-none, met-le}
 use Rattle.page.specs.Rule.{neverEntry, notByDepthEntry, entryOf, entries, pageTaken, pageRule}
-use Rattle.page.specs.Memo.{metLayer, unmetEntry, entryBy, entryIn}
+use Rattle.page.specs.Memo.{unmetEntry, entryBy, entryIn}
 use Rattle.page.proofs.Entries.{layer-wide, layer-fit, entry-unmet, entry-met}
 
 -- once the file is taken

@@ -16,7 +16,7 @@ use Rattle.page.specs.Rule.{neverEntry, notByDepthEntry, goalEntry}
 
 -- ---- what is remembered of the words of the proposition layers
 
--- of each label a layer, before which it contains the set in none
+-- of each label a layer, before which there is none where it contains the set
 pub record Firsts (S : Shape) (words : List ℕ) (k set : ℕ) (firsts : List ℕ) : Type 0 where
   pub long : length firsts ≡ propWidth
   pub each : (p : ℕ) → p < S .props → PassedOver S words k set p (shownAt (S .props) set p) 0 (getD firsts p 0)
@@ -25,7 +25,8 @@ pub record Firsts (S : Shape) (words : List ℕ) (k set : ℕ) (firsts : List �
 abbrev pub rowsLength : ℕ
 rowsLength = 1056
 
--- of each word a row of layers, from one on up to another, in none of which it shows what it does where a goal is met
+-- of each word a row of layers, from one on up to another, in none of which it shows what it does where a goal is met: the first number is where the row
+-- begins, the second where it ends
 pub record Rows (S : Shape) (words : List ℕ) (k set : ℕ) (rows : List ℕ) : Type 0 where
   pub long : length rows ≡ rowsLength
   pub each : (place : ℕ) → place < size (S .props)

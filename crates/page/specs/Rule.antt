@@ -12,6 +12,7 @@ use Rattle.level.specs.Rule.{levelRule}
 use Rattle.page.specs.declared.PageAnswer.{PageAnswer}
 use Rattle.page.specs.declared.PageAnswer.the-variants as answer
 
+-- the entries that are no level
 abbrev pub neverEntry : ℕ
 neverEntry = 256
 

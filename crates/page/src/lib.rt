@@ -18,7 +18,7 @@ use words::sets::PROP_WIDTH;
 use words::sets::Props;
 use words::sets::States;
 ghost use mathlib.Core.Path.{_≡_};
-ghost use Prim.Native.Nat.{suc, _≤_};
+ghost use Prim.Native.Nat.{_≤_};
 ghost use lib.ListN.{length, getD};
 ghost use Rattle.rules.specs.Lists.{listOver};
 ghost use Rattle.words.specs.Memory.{putAt};

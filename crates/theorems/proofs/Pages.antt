@@ -4,7 +4,7 @@ use mathlib.Core.Path.{_≡_, refl, sym, ap, ap₂, _∙_}
 use mathlib.Core.Bool.{Bool, true, false}
 use mathlib.Core.List.{List, _++_}
 use mathlib.Core.Logic.{by-cases}
-use Prim.Native.Nat.{ℕ, suc, _+_, _-_, _^_, _≤_, _<_}
+use Prim.Native.Nat.{ℕ, _+_, _-_, _^_, _≤_, _<_}
 use native.Mathlib.Decide.{decLe}
 use native.Mathlib.Omega.{arith}
 use lib.ListN.{length, getD, drop, List·getD-append}
@@ -12,7 +12,7 @@ use lib.Seq.{getD-append-add, getD-drop}
 use lib.Pow.{pow-pos}
 use Rattle.rules.specs.Test.{same, below, choose}
 use Rattle.rules.specs.Level.{Level, level, never, notByDepth, firstMet, firstRest, levelOf}
-use Rattle.rules.proofs.Tests.{same-not, below-not}
+use Rattle.rules.proofs.Tests.{same-not}
 use Rattle.rules.proofs.Layers.{getD-listOver}
 use Rattle.graph.specs.Limits.{maxDepth}
 use Rattle.graph.specs.Verdict.{Verdict, accepted, refused, written, laid}

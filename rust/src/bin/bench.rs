@@ -153,7 +153,11 @@ impl Case {
         let mut levels = vec![0; goals.len()];
         reference::page(&self.file, self.depth, set, goals, &self.words, &mut levels).unwrap();
         let met = levels.iter().filter(|&&code| matches!(mogzift::entry(code), Ok(Level::At(_)))).count();
-        format!("{} states, {GOALS} goals, {met} with a level", set.count_ones())
+        let states = match set.count_ones() {
+            1 => "1 state".to_string(),
+            n => format!("{n} states"),
+        };
+        format!("{states}, {GOALS} goals, {met} with a level")
     }
 
     /// Half of the states, drawn one by one: many short runs where there are many states.

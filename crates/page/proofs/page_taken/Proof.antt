@@ -7,7 +7,7 @@ use Rattle.rules.specs.Lists.{listOver}
 use Rattle.rules.specs.declared.Shape.{Shape}
 use Rattle.words.specs.Memory.{putAt}
 use Rattle.graph.specs.Verdict.{Verdict, accepted}
-use Rattle.graph.specs.Checks.{checkVerdict, setRule, outputRule, graphRule, Passed}
+use Rattle.graph.specs.Checks.{checkVerdict, setRule, outputRule, graphRule}
 use Rattle.graph.proofs.Ladder.{output-means, graph-means}
 use Rattle.graph.proofs.Verdicts.{told, then-refused, then-accepted, laid-refused, laid-accepted}
 use Rattle.level.proofs.Answers.{room-of}
