@@ -20,7 +20,7 @@ abbrev pub frontWords : ℕ
 frontWords = 8
 
 abbrev pub blockWords : ℕ
-blockWords = 32
+blockWords = 16
 
 -- a test that is false does not hold
 pub not-so : (b : Bool) → b ≡ false → So b → ⊥

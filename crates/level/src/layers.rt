@@ -18,7 +18,7 @@ ghost use Rattle.level.specs.Meets.{Judged, shownAt, PassedOver, sameAt,
 // How many words are compared at once: at the front of two layers, and behind it.
 const FIRST: usize = 8;
 
-const BLOCK: usize = 32;
+const BLOCK: usize = 16;
 
 // The place of a word of layer t that keeps the goal from being met, and the layer's size where it is met.
 pub fn failing_at(words: &[u64], s: Shape, t: usize, set: States, goal: Props) -> usize
