@@ -39,7 +39,7 @@ ANSWERS = ['refused # #', 'built #', 'rest #', 'none', 'level #', 'never', 'not 
            'plan # count #', 'ran #', 'paged #']
 
 # The memory that the program has (the same names in crates/vectors/src/calls.rt).
-WORDS, SETS, ENTRIES, GOALS = 40000, 512, 64, 64
+WORDS, SETS, ENTRIES, GOALS = 60000, 512, 64, 64
 MEMORY = {kind: {'words': WORDS, 'out': {'extract': WORDS, 'page': ENTRIES}.get(kind, SETS)} for kind in KINDS}
 
 

@@ -13,7 +13,7 @@ use Rattle.rules.proofs.Tests.{fails-of, fails-at, or-left, or-right, same-of, 
 use Rattle.graph.specs.Limits.{maxDepth}
 use Rattle.graph.specs.Verdict.{Verdict, accepted, refused, andThen}
 use Rattle.graph.specs.Format.{headBytes, setBytes, setAt, letters, version, countsIn, rightLength, setCount, shapeIn}
-use Rattle.graph.specs.File.{Ranged, Taken, headRule, versionRule, countsRule, lengthRule, setsFrom, setsRule, fileRule}
+use Rattle.graph.specs.File.{Ranged, Taken, headRule, versionRule, countsRule, lengthRule, setsFrom, setsRule, equalRule, fileRule}
 use Rattle.graph.specs.Checks.{Small, Passed, depthRule, setRule, goalRule, memoryRule, outputRule, askedRule, graphRule}
 use Rattle.graph.specs.declared.format.Counts.{Counts}
 use Rattle.graph.proofs.Verdicts.{then-refused, then-accepted}
@@ -137,6 +137,13 @@ module _ (file : List ℕ) (n p : ℕ) where
           by-sets e =
               then-accepted _ _ tt h ∙ then-accepted _ _ tt v ∙ then-accepted _ _ tt k ∙ then-accepted _ _ tt l ∙ then-refused _ _ n p e
 
+          module _ (s : setsRule file (countsIn file) ≡ accepted tt) where
+            pub by-equal : equalRule file (countsIn file) ≡ refused n p → fileRule file ≡ refused n p
+            unfolding fileRule
+            by-equal e =
+                then-accepted _ _ tt h ∙ then-accepted _ _ tt v ∙ then-accepted _ _ tt k ∙ then-accepted _ _ tt l ∙ then-accepted _ _ tt s
+                ∙ then-refused _ _ n p e
+
 -- ---- a file that was taken
 
 -- its links, one by one
@@ -146,6 +153,7 @@ pub record Linked (file : List ℕ) (c : Counts) : Type 0 where
   pub counts : countsRule (countsIn file) ≡ accepted tt
   pub length : lengthRule file (countsIn file) ≡ accepted tt
   pub sets : setsRule file (countsIn file) ≡ accepted tt
+  pub equal : equalRule file (countsIn file) ≡ accepted tt
   pub are : c ≡ countsIn file
 
 pub taken-linked : (file : List ℕ) (c : Counts) → fileRule file ≡ accepted c → Linked file c
@@ -156,14 +164,15 @@ taken-linked file c e =
     let (u₃, n, e₃) = passed-then _ _ c e₂ in
     let (u₄, l, e₄) = passed-then _ _ c e₃ in
     let (u₅, s, e₅) = passed-then _ _ c e₄ in
-    record { head = h; version = v; counts = n; length = l; sets = s; are = sym (accepted-is _ _ e₅) }
+    let (u₆, q, e₆) = passed-then _ _ c e₅ in
+    record { head = h; version = v; counts = n; length = l; sets = s; equal = q; are = sym (accepted-is _ _ e₆) }
 
 -- a file whose links are all passed is taken
 pub linked-taken : (file : List ℕ) (c : Counts) → Linked file c → fileRule file ≡ accepted c
 unfolding fileRule
 linked-taken file c l =
     then-accepted _ _ tt (l .head) ∙ then-accepted _ _ tt (l .version) ∙ then-accepted _ _ tt (l .counts)
-    ∙ then-accepted _ _ tt (l .length) ∙ then-accepted _ _ tt (l .sets) ∙ ap accepted (sym (l .are))
+    ∙ then-accepted _ _ tt (l .length) ∙ then-accepted _ _ tt (l .sets) ∙ then-accepted _ _ tt (l .equal) ∙ ap accepted (sym (l .are))
 
 pub taken-means : (file : List ℕ) (c : Counts) → fileRule file ≡ accepted c → Taken file c
 taken-means file c e =

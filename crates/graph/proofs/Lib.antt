@@ -3,5 +3,6 @@ pub mod Links
 pub mod Ladder
 pub mod Verdicts
 pub mod Files
+pub mod Equals
 pub mod Graphs
 pub mod WithStates

@@ -24,12 +24,13 @@ use Rattle.graph.specs.Limits.{maxDepth}
 use Rattle.graph.specs.Verdict.{accepted}
 use Rattle.graph.specs.Format.{headBytes, setBytes, statesOffset, setAt, bytesOf, letters, version, countsIn, preAt, addAt, delAt, statesAt}
 use Rattle.graph.specs.Format.{stateAt, rightLength, setCount, actionsOf, startOf, domainOf, shapeIn, withCount, beforeStates, withStates}
-use Rattle.graph.specs.File.{Ranged, Taken, countsRule, lengthRule, setsRule, fileRule}
+use Rattle.graph.specs.File.{Ranged, Taken, countsRule, lengthRule, setsRule, equalRule, fileRule}
 use Rattle.graph.specs.Build.{graphOf, buildTaken, buildRule}
 use Rattle.graph.specs.declared.format.Counts.{Counts}
 use Rattle.graph.proofs.Verdicts.{then-accepted}
 use Rattle.graph.proofs.Links.{headed, right-version, counted, right-length}
 use Rattle.graph.proofs.Files.{each-passes}
+use Rattle.graph.proofs.Equals.{equal-same}
 use Rattle.graph.proofs.Ladder.{head-means, version-means, taken-linked, linked-taken, taken-means, graph-of}
 
 -- ---- the same actions
@@ -227,6 +228,7 @@ module _ (file : List ℕ) (c : Counts) (sets : List ℕ) (e : fileRule file ≡
             counts = ap countsRule (sym counts-are) ∙ sym (counted n ranged);
             length = ap (lengthRule f) (sym counts-are) ∙ sym (right-length f n (with-length file c sets (taken .long)));
             sets = ap (setsRule f) (sym counts-are) ∙ sym (each-passes f n sets-fit);
+            equal = ap (equalRule f) (sym counts-are) ∙ equal-same f n file c with-actions ∙ ap (equalRule file) (l .are) ∙ l .equal;
             are = counts-are;
           })
 

@@ -16,6 +16,6 @@ graphOf file c depth = graphWords (domainOf file c) (c .states) (startOf file c)
 unfoldable pub buildTaken : List ℕ → Counts → ℕ → ℕ → Verdict (List ℕ)
 buildTaken file c depth room = andThen (graphRule c depth (accepted tt) room) (λ _. accepted (graphOf file c depth))
 
--- 'The build takes file, depth and memory': causes 1 to 5, and then that
+-- 'The build takes file, depth and memory': the file's causes, and then that
 unfoldable pub buildRule : List ℕ → ℕ → ℕ → Verdict (List ℕ)
 buildRule file depth room = andThen (fileRule file) (λ c. buildTaken file c depth room)

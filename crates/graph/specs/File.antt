@@ -1,9 +1,12 @@
 -- The rule by which a file is taken or turned away: a chain of causes, each a link of its own.
 use Prim.Native.Nat.{ℕ, zero, suc, _+_, _*_, _^_, _≤_, _<_}
 use mathlib.Core.Path.{_≡_}
+use mathlib.Core.Bool.{Bool}
 use mathlib.Core.List.{List}
 use lib.ListN.{length}
-use Rattle.rules.specs.Test.{_or_, fails, same, below, choose}
+use Rattle.rules.specs.Test.{_and_, _or_, fails, same, below, choose}
+use Rattle.rules.specs.Over.{anyBelow, firstBelow}
+use Rattle.rules.specs.Domain.{Actions}
 use Rattle.words.specs.Width.{propWidth, stateWidth}
 use Rattle.graph.specs.Limits.{maxActions}
 use Rattle.graph.specs.Verdict.{Verdict, accepted, refused, turnedAway, andThen}
@@ -41,7 +44,25 @@ setsFrom file props (suc left) at =
 unfoldable pub setsRule : List ℕ → Counts → Verdict (Unit {0})
 setsRule file c = setsFrom file (c .props) (F.setCount c) F.headBytes
 
--- 'The file's writer': causes 1 to 5, in order
+-- request Two: 'Two actions with the same three sets'
+unfoldable pub equalActions : Actions → ℕ → ℕ → Bool
+equalActions A b a = same (A .pre b) (A .pre a) and same (A .add b) (A .add a) and same (A .del b) (A .del a)
+
+-- an action that equals an earlier one
+unfoldable pub equalsEarlier : Actions → ℕ → Bool
+equalsEarlier A a = anyBelow a (λ b. equalActions A b a)
+
+-- 'the later of the first such pair, ordered by the later one', and the number of actions where there is none
+unfoldable pub firstEqual : Actions → ℕ
+firstEqual A = firstBelow (A .count) (equalsEarlier A)
+
+-- 15: 'place the offset of the later of the first such pair'
+unfoldable pub equalRule : List ℕ → Counts → Verdict (Unit {0})
+equalRule file c =
+    let a = firstEqual (F.actionsOf file c) in
+    choose (below a (c .actions)) (refused 15 (F.preAt a)) (accepted tt)
+
+-- 'The file's writer': causes 1 to 5, in order, then 15: 'after 5, before 6'
 unfoldable pub fileRule : List ℕ → Verdict Counts
 fileRule file =
     andThen (headRule file) (λ _.
@@ -49,7 +70,8 @@ fileRule file =
     andThen (countsRule (F.countsIn file)) (λ _.
     andThen (lengthRule file (F.countsIn file)) (λ _.
     andThen (setsRule file (F.countsIn file)) (λ _.
-    accepted (F.countsIn file))))))
+    andThen (equalRule file (F.countsIn file)) (λ _.
+    accepted (F.countsIn file)))))))
 
 -- what a file's answer says
 abbrev pub fileVerdict : FileAnswer → Verdict Counts

@@ -3,5 +3,6 @@ pub mod Limits
 pub mod Verdict
 pub mod Format
 pub mod File
+pub mod Marks
 pub mod Checks
 pub mod Build

@@ -27,6 +27,7 @@ numberOf (cause.Sequence i) = 11
 numberOf (cause.Precondition i) = 12
 numberOf (cause.NoLevel i) = 13
 numberOf (cause.Uncovered i) = 14
+numberOf (cause.EqualAction i) = 15
 
 -- and its place
 abbrev pub placeOf : Refusal → ℕ
@@ -44,6 +45,7 @@ placeOf (cause.Sequence i) = i
 placeOf (cause.Precondition i) = i
 placeOf (cause.NoLevel i) = i
 placeOf (cause.Uncovered i) = i
+placeOf (cause.EqualAction i) = i
 
 -- a call turned away for this cause
 abbrev pub turnedAway : {X : Type 0} → Refusal → Verdict X

@@ -1,4 +1,5 @@
 // Any bytes of any length are taken as a problem file, with their counts, or turned away: a chain of causes, each a check of its own.
+use crate::equal::check_equal;
 use crate::format::ACTIONS_OFFSET;
 use crate::format::Counts;
 use crate::format::HEAD_BYTES;
@@ -172,7 +173,7 @@ fn check_sets(file: &[u8], c: Counts) -> Check
     find_set(file, c)
 }
 
-// Causes 1 to 5, in order.
+// Causes 1 to 5 and 15, in order.
 pub fn check_file(file: &[u8]) -> FileAnswer
     ensures { λ r. ⌜ R.fileVerdict r ≡ R.fileRule (now (file .entry)) ⌝ }
 {
@@ -195,6 +196,10 @@ pub fn check_file(file: &[u8]) -> FileAnswer
     }
     let sets = check_sets(file, c);
     if let Check::Refused(why) = sets {
+        return FileAnswer::Refused(why);
+    }
+    let equal = check_equal(file, c);
+    if let Check::Refused(why) = equal {
         return FileAnswer::Refused(why);
     }
     FileAnswer::Taken(c)

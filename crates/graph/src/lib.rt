@@ -5,6 +5,7 @@ pub mod refusal;
 
 // For the other crates of this repository, which meet what each function asks.
 pub mod checks;
+mod equal;
 pub mod file;
 pub mod format;
 pub mod layout;

@@ -3,7 +3,7 @@ use crate::limits::MAX_DEPTH;
 ghost use mathlib.Core.Path.{_≡_};
 ghost use Rattle.graph.specs.Verdict.{numberOf, placeOf};
 
-// The causes in the order of their numbers, 1 to 14, with the place where it varies.
+// The causes in the order of their numbers, 1 to 15, with the place where it varies.
 pub enum Refusal {
     Head,
     Version,
@@ -19,6 +19,7 @@ pub enum Refusal {
     Precondition(usize),
     NoLevel(usize),
     Uncovered(usize),
+    EqualAction(usize),
 }
 
 // What a single check comes to.
@@ -45,6 +46,7 @@ pub fn number(r: Refusal) -> usize
         Refusal::Precondition(_) => 12,
         Refusal::NoLevel(_) => 13,
         Refusal::Uncovered(_) => 14,
+        Refusal::EqualAction(_) => 15,
     }
 }
 
@@ -66,5 +68,6 @@ pub fn place(r: Refusal) -> usize
         Refusal::Precondition(i) => i,
         Refusal::NoLevel(i) => i,
         Refusal::Uncovered(i) => i,
+        Refusal::EqualAction(i) => i,
     }
 }

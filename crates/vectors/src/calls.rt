@@ -31,7 +31,7 @@ use words::sets::Props;
 use words::sets::States;
 
 // The memory that there is: words of a graph and of an extract, sets of a plan and of a run, entries and goals of a page.
-pub const WORDS: usize = 40000;
+pub const WORDS: usize = 60000;
 
 const SETS: usize = 512;
 
@@ -111,7 +111,7 @@ fn lent(row: &[u8], written: bool, room: usize) -> usize
 
 // Room for words; that its length is known here spares the callers to count it.
 pub fn word_room() -> [u64; WORDS]
-    ensures { λ r. ⌜ length r ≡ 40000 ⌝ }
+    ensures { λ r. ⌜ length r ≡ 60000 ⌝ }
 {
     [0; WORDS]
 }

@@ -4,11 +4,11 @@ use mathlib.Core.List.{List}
 use Prim.Native.Nat.{ℕ}
 use borrow.Author.Needs.{needs}
 use Rattle.graph.specs.Format.{countsIn}
-use Rattle.graph.specs.File.{headRule, versionRule, countsRule, lengthRule, setsRule}
+use Rattle.graph.specs.File.{headRule, versionRule, countsRule, lengthRule, setsRule, equalRule}
 use Rattle.graph.specs.Checks.{checkVerdict}
 use Rattle.graph.specs.Verdict.{accepted}
 use Rattle.graph.proofs.Verdicts.{told}
-use Rattle.graph.proofs.Ladder.{head-means, counts-mean, length-means, linked-taken, by-head, by-version, by-counts, by-length, by-sets}
+use Rattle.graph.proofs.Ladder.{head-means, counts-mean, length-means, linked-taken, by-head, by-version, by-counts, by-length, by-sets, by-equal}
 use Rattle.graph.proofs.file.check_file.Statement.{statement}
 use Rattle.graph.proofs.file.check_file.Tie as tie
 
@@ -53,6 +53,14 @@ inside : (c : tie.After-enum-told5) → setsRule (file (at-ranged (at-long c))) 
 inside c =
     ap (setsRule (file (at-ranged (at-long c)))) (sym (are (at-ranged (at-long c))))
     ∙ told checkVerdict (c .before .before .check-sets .ensures) (c .enum-told5 .given .1)
+
+abbrev at-inside : tie.After-enum-told6 → tie.After-enum-told5
+at-inside c = c .before .before .before
+
+unequal : (c : tie.After-enum-told6) → let r = at-ranged (at-long (at-inside c)) in equalRule (file r) (countsIn (file r)) ≡ accepted tt
+unequal c =
+    ap (equalRule (file (at-ranged (at-long (at-inside c))))) (sym (are (at-ranged (at-long (at-inside c)))))
+    ∙ told checkVerdict (c .before .before .check-equal .ensures) (c .enum-told6 .given .1)
 
 check-head-requires : tie.Need-check-head-requires
 check-head-requires c κs = search needs
@@ -140,15 +148,41 @@ returns-5 c =
 enum-told-5 : tie.Need-enum-told-5
 enum-told-5 c = search needs
 
+check-equal-requires : tie.Need-check-equal-requires
+check-equal-requires c κs =
+    let l : tie.After-enum-told4 = at-long c in
+    let r : tie.After-enum-told3 = at-ranged l in (
+      counts-mean _ (told checkVerdict (r .before .before .check-counts .ensures) (r .enum-told3 .given .1)),
+      length-means _ _ (told checkVerdict (l .before .before .check-length .ensures) (l .enum-told4 .given .1)),
+    )
+
+enum-known-equal : tie.Need-enum-known-equal
+enum-known-equal c = search needs
+
 returns-6 : tie.Need-returns-6
 returns-6 c =
-    let r : tie.After-enum-told3 = at-ranged (at-long c) in
+    let at-before = c .before .before .before in
+    let i : tie.After-enum-told5 = at-before .before in
+    let l : tie.After-enum-told4 = at-long i in
+    let r : tie.After-enum-told3 = at-ranged l in
+    sym (by-equal _ _ _ (headed (at-head (at-version r))) (versioned (at-version r)) (ranged r) (long l) (inside i)
+    (ap (equalRule (file r)) (sym (are r))
+    ∙ told checkVerdict (at-before .check-equal .ensures) (c .before .equal .given .1)))
+
+enum-told-6 : tie.Need-enum-told-6
+enum-told-6 c = search needs
+
+returns-7 : tie.Need-returns-7
+returns-7 c =
+    let i : tie.After-enum-told5 = at-inside c in
+    let r : tie.After-enum-told3 = at-ranged (at-long i) in
     sym (linked-taken _ _ (record {
       head = headed (at-head (at-version r));
       version = versioned (at-version r);
       counts = ranged r;
-      length = long (at-long c);
-      sets = inside c;
+      length = long (at-long i);
+      sets = inside i;
+      equal = unequal c;
       are = are r;
     }))
 
@@ -177,4 +211,8 @@ check-file-spec =
     enum-known-sets
     returns-5
     enum-told-5
-    returns-6)
+    check-equal-requires
+    enum-known-equal
+    returns-6
+    enum-told-6
+    returns-7)
