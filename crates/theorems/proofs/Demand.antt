@@ -1,7 +1,7 @@
 -- What the calls promise together, of what they answer and write themselves: for every accepted file, every depth and memory that the build accepts,
 -- every goal over the file's propositions and every non-empty set S of its states, on memory that begins with the words which the build writes.
 -- A call's answer and memory are what its rule says (buildRule, extractRule, levelRule, runRule, planRule). The setting is that of Setting.
--- What is said of a page of goals (pageRule) holds on any memory.
+-- What is said of a page of goals (pageRule) holds on any memory, and what is said of equal actions of any file.
 -- Assumes nothing.
 use mathlib.Core.Path.{_≡_}
 use mathlib.Core.Bool.{So}
@@ -15,7 +15,7 @@ use Rattle.rules.specs.Extract.{rank}
 use Rattle.rules.specs.Plan.{relaxedRun}
 use Rattle.rules.specs.Agreement.{OneState}
 use Rattle.graph.specs.Verdict.{accepted, refused, written, laid}
-use Rattle.graph.specs.Format.{actionsOf, startOf, domainOf, withCount, withStates}
+use Rattle.graph.specs.Format.{countsIn, actionsOf, startOf, domainOf, withCount, withStates}
 use Rattle.graph.specs.File.{fileRule}
 use Rattle.graph.specs.Build.{buildRule}
 use Rattle.graph.specs.declared.format.Counts.{Counts}
@@ -25,7 +25,7 @@ use Rattle.extract.specs.Rule.{extractRule, statesOf}
 use Rattle.run.specs.Run.{maxSteps, runRule}
 use Rattle.plan.specs.Plan.{planRule}
 use Rattle.plan.proofs.Built.{plan-accepted}
-use Rattle.theorems.specs.Setting.{Exactly, Found, StatesOf, GoalOf, Each, alone, Largest, EndsWith, Reaches, saidBy}
+use Rattle.theorems.specs.Setting.{Exactly, Found, StatesOf, GoalOf, Each, alone, Largest, EndsWith, Reaches, saidBy, EqualPair, FirstPair, Passes}
 use Rattle.theorems.proofs.Founds as founds
 use Rattle.theorems.proofs.Levels as levels
 use Rattle.theorems.proofs.Bounds as bounds
@@ -33,6 +33,7 @@ use Rattle.theorems.proofs.Extracts as extracts
 use Rattle.theorems.proofs.Plans as plans
 use Rattle.theorems.proofs.Leaks as leaks
 use Rattle.theorems.proofs.Pages as pages
+use Rattle.theorems.proofs.Pairs as pairs
 
 -- the memory after an accepted build is of this setting
 pub build-leaves : (file : List ℕ) (c : Counts) (depth : ℕ) (memory words : List ℕ) → fileRule file ≡ accepted c
@@ -180,3 +181,18 @@ module _ (file : List ℕ) (depth set : ℕ) (goals words out entries : List ℕ
     -- Past the entries the output stays.
     pub page-stays : length goals ≤ i → getD left i 0 ≡ getD out i 0
     page-stays = pages.stays file depth set goals words out entries paged i
+
+-- ---- 7: equal actions
+
+-- A file that a call takes has no two actions with the same three sets.
+pub taken-unequal : (file : List ℕ) (c : Counts) → fileRule file ≡ accepted c → (b a : ℕ) → EqualPair file c b a → ⊥
+taken-unequal = pairs.taken-none
+
+-- Cause 15 is answered exactly for the files that have such a pair and pass the causes 1 to 5.
+pub unequal-exactly : (file : List ℕ)
+    → Exactly ((place : ℕ) × (fileRule file ≡ refused 15 place)) (Passes file × ((b : ℕ) × (a : ℕ) × EqualPair file (countsIn file) b a))
+unequal-exactly = pairs.exactly
+
+-- And its place is the offset of the later action of the pair whose later action comes first.
+pub unequal-place : (file : List ℕ) (place : ℕ) → fileRule file ≡ refused 15 place → FirstPair file (countsIn file) place
+unequal-place = pairs.names-first

@@ -6,4 +6,5 @@ pub mod Extracts
 pub mod Plans
 pub mod Leaks
 pub mod Pages
+pub mod Pairs
 pub mod Demand

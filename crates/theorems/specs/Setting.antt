@@ -10,8 +10,8 @@ use Rattle.rules.specs.Level.{Level, level, never, notByDepth}
 use Rattle.rules.specs.Own.{ownLevel}
 use Rattle.rules.specs.Run.{ended, runOf}
 use Rattle.graph.specs.Verdict.{Verdict, accepted, refused}
-use Rattle.graph.specs.Format.{actionsOf, startOf, domainOf}
-use Rattle.graph.specs.File.{fileRule}
+use Rattle.graph.specs.Format.{preAt, countsIn, actionsOf, startOf, domainOf}
+use Rattle.graph.specs.File.{headRule, versionRule, countsRule, lengthRule, setsRule, fileRule}
 use Rattle.graph.specs.Build.{buildRule}
 use Rattle.graph.specs.declared.format.Counts.{Counts}
 use Rattle.page.specs.Rule.{neverEntry, notByDepthEntry, goalEntry}
@@ -72,3 +72,27 @@ saidBy e =
     (choose (same e notByDepthEntry) (accepted notByDepth)
     (choose (same e goalEntry) (refused 8 0)
     (accepted (level e))))
+
+-- Request Two: 'Two actions with the same three sets', the earlier one b and the later one a
+pub record EqualPair (file : List ℕ) (c : Counts) (b a : ℕ) : Type 0 where
+  pub earlier : b < a
+  pub later : a < c .actions
+  pub pre : actionsOf file c .pre b ≡ actionsOf file c .pre a
+  pub add : actionsOf file c .add b ≡ actionsOf file c .add a
+  pub del : actionsOf file c .del b ≡ actionsOf file c .del a
+
+-- 'place the offset of the later of the first such pair, ordered by the later one'
+pub record FirstPair (file : List ℕ) (c : Counts) (place : ℕ) : Type 0 where
+  pub b : ℕ
+  pub a : ℕ
+  pub pair : EqualPair file c b a
+  pub offset : place ≡ preAt a
+  pub first : (b' a' : ℕ) → EqualPair file c b' a' → a ≤ a'
+
+-- a file that none of the causes 1 to 5 turns away
+pub record Passes (file : List ℕ) : Type 0 where
+  pub head : headRule file ≡ accepted tt
+  pub version : versionRule file ≡ accepted tt
+  pub counts : countsRule (countsIn file) ≡ accepted tt
+  pub length : lengthRule file (countsIn file) ≡ accepted tt
+  pub sets : setsRule file (countsIn file) ≡ accepted tt
