@@ -20,7 +20,7 @@ extractTaken c depth set words room =
     andThen (outputRule (wordCount (shapeIn c) depth) room) (λ _.
     accepted (extractOf (shapeIn c) (c .states) depth set words)))
 
--- causes 1 to 5, and then that
+-- the file's causes, and then that
 unfoldable pub extractRule : List ℕ → ℕ → ℕ → List ℕ → ℕ → Verdict (List ℕ)
 extractRule file depth set words room = andThen (fileRule file) (λ c. extractTaken c depth set words room)
 

@@ -39,6 +39,6 @@ levelRule file depth set goal words = andThen (fileRule file) (λ c. levelTaken 
 unfoldable pub restTaken : Counts → ℕ → List ℕ → Verdict Rest
 restTaken c depth words = andThen (graphRule c depth (accepted tt) (length words)) (λ _. accepted (restOf (shapeIn c) depth words))
 
--- 1 to 5, 6 and 9 for a rest
+-- the file's causes, 6 and 9 for a rest
 unfoldable pub restRule : List ℕ → ℕ → List ℕ → Verdict Rest
 restRule file depth words = andThen (fileRule file) (λ c. restTaken c depth words)

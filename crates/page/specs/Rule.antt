@@ -40,7 +40,7 @@ pageTaken single c depth set goals have room =
     andThen (outputRule (length goals) room) (λ _.
     accepted (entries single goals)))
 
--- causes 1 to 5, and then that: 'what the single call gives' is the rule of the level
+-- the file's causes, and then that: 'what the single call gives' is the rule of the level
 unfoldable pub pageRule : List ℕ → ℕ → ℕ → List ℕ → List ℕ → ℕ → Verdict (List ℕ)
 pageRule file depth set goals words room =
     andThen (fileRule file) (λ c. pageTaken (λ goal. levelRule file depth set goal words) c depth set goals (length words) room)

@@ -36,6 +36,6 @@ depthVerdict (answer.Refused why) = turnedAway why
 unfoldable pub fittingTaken : Counts → ℕ → Verdict ℕ
 fittingTaken c room = andThen (memoryRule (wordCount (shapeIn c) 0) room) (λ _. accepted (depthFor (shapeIn c) room))
 
--- causes 1 to 5 and 9, or the depth
+-- the file's causes and 9, or the depth
 unfoldable pub fittingRule : List ℕ → ℕ → Verdict ℕ
 fittingRule file room = andThen (fileRule file) (λ c. fittingTaken c room)

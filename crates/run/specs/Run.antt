@@ -47,7 +47,7 @@ runTaken file c set list room =
     andThen (sequenceRule (c .actions) list) (λ _.
     endRule file c set list)))
 
--- 'a run takes the file, S, its list and its output only': 1 to 5, then the former
+-- 'a run takes the file, S, its list and its output only': the file's causes, then the former
 unfoldable pub runRule : List ℕ → ℕ → List ℕ → ℕ → Verdict (List ℕ)
 runRule file set list room = andThen (fileRule file) (λ c. runTaken file c set list room)
 

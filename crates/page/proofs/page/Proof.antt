@@ -1,4 +1,4 @@
--- Causes 1 to 5, or what comes after them.
+-- The file's causes, or what comes after them.
 use mathlib.Core.Path.{sym, _∙_}
 use borrow.Author.Needs.{needs}
 use Rattle.graph.specs.File.{fileVerdict}
