@@ -23,7 +23,7 @@
  * writes what another reads or writes.
  *
  * WHAT A CALL RETURNS AND TELLS
- * It returns 0 if it is accepted, else the number of its refusal, 1 to 14. Every call writes all three numbers of the
+ * It returns 0 if it is accepted, else the number of its refusal, 1 to 15. Every call writes all three numbers of the
  * answer. answer[0] is the kind:
  *   MOGZIFT_REFUSED       answer[1] is the number returned, answer[2] the place
  *   MOGZIFT_ANSWERED      answer[1] and answer[2] are the call's, as said there; 0 where nothing is said
@@ -37,18 +37,19 @@
  *
  * WHAT A CALL NEEDS
  * No heap, no file, no other library than the C library's memcpy and memset. Of the stack, whatever the problem:
- *   mogzift_levels_text    108 KiB (64 KiB of graph words, and a build)
- *   mogzift_build          43 KiB
- *   mogzift_page, _plan    under 4 KiB
- *   each other call        under 2 KiB
+ *   mogzift_levels_text    109 KiB (64 KiB of graph words, and a build)
+ *   mogzift_build          44 KiB
+ *   mogzift_page, _plan    under 5 KiB
+ *   each other call        under 3 KiB
  * These are measured and not proved; `cargo run --release --offline --bin stack` in rust/ measures them again. To them comes
  * what a thread needs for itself, and, in a program that looks memset up at its first use, up to 4 KiB for that: such a
- * program's build ran in a thread of 52 KiB and failed in 48, its text ran in 116 and failed in 112. Give a thread
- * MOGZIFT_STACK bytes, 256 KiB, which is more than twice the largest.
+ * program's build ran in a thread of 52 KiB and failed in 48, its text ran in 116 and failed in 112, when both needed 1 KiB
+ * less. Give a thread MOGZIFT_STACK bytes, 256 KiB, which is more than twice the largest.
  *
  * THE PROBLEM FILE (little-endian; a set of propositions is 4 bytes)
  *   offset 0 the letters SAG; 3 version, 2 bytes, 1; 5 P propositions (1 to 32); 6 A actions (0 to 32); 7 N start states
  *   (1 to 64); 8 A actions of 12 bytes: precondition, add, delete; then N start states of 4 bytes. Length 8 + 12A + 4N.
+ *   No two actions have the same three sets. Start states may repeat.
  *
  * THE GRAPH'S WORDS
  * Proposition layer 0, action layer 0, proposition layer 1, .., proposition layer k; in each the labels by number, then
@@ -57,14 +58,16 @@
  * mogzift_words below.
  *
  * REFUSALS
- * The first cause that holds, in rising number, of those that the call can have. 1 to 5 are for the file's writer to mend,
- * 6 to 11 for the caller; 12 and 13 lie in the problem; at 14 someone altered the graph's words.
+ * The first cause that holds, in the order of this list, of those that the call can have: rising numbers, but 15 behind 5.
+ * 1 to 5 and 15 are for the file's writer to mend, 6 to 11 for the caller; 12 and 13 lie in the problem; at 14 someone
+ * altered the graph's words.
  *   number                          cause                                                        place
  *    1 MOGZIFT_BAD_HEAD             under 8 bytes, or no SAG                                     0
  *    2 MOGZIFT_BAD_VERSION          another version                                              3
  *    3 MOGZIFT_BAD_COUNT            P, A or N outside its range                                  5, 6 or 7, the lowest
  *    4 MOGZIFT_BAD_LENGTH           length                                                       the right length
  *    5 MOGZIFT_BAD_PROP_SET         a set in the file with bit P or above                        the first such set's offset
+ *   15 MOGZIFT_EQUAL_ACTION         an action with the same three sets as an earlier one         the first such one's offset
  *    6 MOGZIFT_BAD_DEPTH            depth above 255                                              255
  *    7 MOGZIFT_BAD_STATE_SET        set empty, or with bit N or above                            0
  *    8 MOGZIFT_BAD_GOAL             goal with bit P or above                                     0
@@ -117,7 +120,8 @@ enum {
     MOGZIFT_BAD_SEQUENCE = 11,
     MOGZIFT_NO_PRECONDITION = 12,
     MOGZIFT_NO_LEVEL = 13,
-    MOGZIFT_UNCOVERED = 14
+    MOGZIFT_UNCOVERED = 14,
+    MOGZIFT_EQUAL_ACTION = 15
 };
 
 /* The bytes of output that mogzift_levels_text asks for: the longest text's. */
@@ -165,6 +169,8 @@ static inline const char *mogzift_message(size_t number) {
         return "the goal has no level up to the depth, so there is no plan: build deeper, unless the level is never";
     case MOGZIFT_UNCOVERED:
         return "the graph's words were altered, seen at the layer that the place says: build the graph again";
+    case MOGZIFT_EQUAL_ACTION:
+        return "an action, at the place, has the same three sets as an earlier one: leave it out, and count A down";
     default:
         return "no call returns this number";
     }
@@ -172,14 +178,14 @@ static inline const char *mogzift_message(size_t number) {
 
 /*
  * Builds the file's graph to the depth, into the front of words.
- * Answered: answer[1] is the number of words written. Refused: 1 to 5, 6, 9.
+ * Answered: answer[1] is the number of words written. Refused: 1 to 5, 15, 6, 9.
  */
 size_t mogzift_build(const uint8_t *file, size_t file_len, size_t depth, uint64_t *words, size_t words_len,
                      uint64_t answer[3]);
 
 /*
  * The layer at which the graph rests: the first below the depth whose labels and mutex words are those of the next layer.
- * Answered: answer[1] is the layer. None: no layer is like that. Refused: 1 to 5, 6, 9.
+ * Answered: answer[1] is the layer. None: no layer is like that. Refused: 1 to 5, 15, 6, 9.
  */
 size_t mogzift_rest(const uint8_t *file, size_t file_len, size_t depth, const uint64_t *words, size_t words_len,
                     uint64_t answer[3]);
@@ -188,7 +194,7 @@ size_t mogzift_rest(const uint8_t *file, size_t file_len, size_t depth, const ui
  * The level of the goal for the states of the set: the first layer where each goal's label contains the set and no mutex
  * word of two goals meets it. An empty goal has level 0.
  * Answered: answer[1] is the layer. Never: there is no such layer, and the graph rests. Not by depth: there is none, and
- * the graph does not rest. Refused: 1 to 5, 6, 7, 8, 9.
+ * the graph does not rest. Refused: 1 to 5, 15, 6, 7, 8, 9.
  */
 size_t mogzift_level(const uint8_t *file, size_t file_len, size_t depth, uint64_t set, uint32_t goal,
                      const uint64_t *words, size_t words_len, uint64_t answer[3]);
@@ -197,7 +203,7 @@ size_t mogzift_level(const uint8_t *file, size_t file_len, size_t depth, uint64_
  * The levels of a page of goals for the states of the set. Entry i of out is what mogzift_level gives for goal i: the
  * layer, 0 to 255; MOGZIFT_ENTRY_NEVER; MOGZIFT_ENTRY_NOT_BY_DEPTH; or MOGZIFT_ENTRY_BAD_GOAL where that call is turned
  * away with 8, which leaves the other entries as they are. A page may be empty.
- * Answered: answer[1] is the number of entries written, goals_len. Refused: 1 to 5, 6, 7, 9, 10 (goals_len entries).
+ * Answered: answer[1] is the number of entries written, goals_len. Refused: 1 to 5, 15, 6, 7, 9, 10 (goals_len entries).
  */
 size_t mogzift_page(const uint8_t *file, size_t file_len, size_t depth, uint64_t set, const uint32_t *goals,
                     size_t goals_len, const uint64_t *words, size_t words_len, uint16_t *out, size_t out_len,
@@ -206,7 +212,7 @@ size_t mogzift_page(const uint8_t *file, size_t file_len, size_t depth, uint64_t
 /*
  * Writes the graph's words cut to the set into the front of out, bits closed up in order: the lowest state of the set
  * becomes bit 0. On built words this is the graph built for these states only.
- * Answered: answer[1] is the number of words written. Refused: 1 to 5, 6, 7, 9, 10 (as many words as the graph has).
+ * Answered: answer[1] is the number of words written. Refused: 1 to 5, 15, 6, 7, 9, 10 (as many words as the graph has).
  */
 size_t mogzift_extract(const uint8_t *file, size_t file_len, size_t depth, uint64_t set, const uint64_t *words,
                        size_t words_len, uint64_t *out, size_t out_len, uint64_t answer[3]);
@@ -214,7 +220,7 @@ size_t mogzift_extract(const uint8_t *file, size_t file_len, size_t depth, uint6
 /*
  * Runs the sequence from each state of the set and writes the N states' sets of propositions after it into the front of
  * out; states outside the set keep their start. A step joins its adds, then removes its deletes.
- * Answered: answer[1] is the number of sets written, N. Refused: 1 to 5, 7, 10 (N sets), 11, 12.
+ * Answered: answer[1] is the number of sets written, N. Refused: 1 to 5, 15, 7, 10 (N sets), 11, 12.
  */
 size_t mogzift_run(const uint8_t *file, size_t file_len, uint64_t set, const uint8_t *list, size_t list_len,
                    uint32_t *out, size_t out_len, uint64_t answer[3]);
@@ -223,14 +229,14 @@ size_t mogzift_run(const uint8_t *file, size_t file_len, uint64_t set, const uin
  * The relaxed plan that supports the goal for the states of the set. Word j of out, for j below the level, is the set of the
  * actions marked at action layer j.
  * Answered: answer[1] is the level, which is the number of words written, answer[2] how many actions are marked in all.
- * Refused: 1 to 5, 6, 7, 8, 9, 10 (as many words as the depth), 13, 14.
+ * Refused: 1 to 5, 15, 6, 7, 8, 9, 10 (as many words as the depth), 13, 14.
  */
 size_t mogzift_plan(const uint8_t *file, size_t file_len, size_t depth, uint64_t set, uint32_t goal,
                     const uint64_t *words, size_t words_len, uint32_t *out, size_t out_len, uint64_t answer[3]);
 
 /*
  * The greatest depth up to 255 whose graph for the file fits room words.
- * Answered: answer[1] is the depth. Refused: 1 to 5, 9 (not even depth 0 fits; the words that it needs).
+ * Answered: answer[1] is the depth. Refused: 1 to 5, 15, 9 (not even depth 0 fits; the words that it needs).
  */
 size_t mogzift_depth(const uint8_t *file, size_t file_len, size_t room, uint64_t answer[3]);
 

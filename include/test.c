@@ -177,6 +177,83 @@ static void files(void) {
     CHECK(refused(build_other(39, 0, 'S'), MOGZIFT_BAD_LENGTH, 40));
     CHECK(refused(build_other(40, 36, 8), MOGZIFT_BAD_PROP_SET, 36));
     CHECK(build_other(40, 36, 4) == 0);
+    CHECK(build_other(40, 36, DOOR) == 0); /* states may repeat */
+}
+
+/* A file of four actions, each one of these by its letter, and one state. Of b, c and d each has one set other than a. */
+enum { FOUR = 8 + 4 * 12 + 4 };
+static const uint8_t NAMED[4][3] = {{1, 2, 1}, {3, 2, 1}, {1, 6, 1}, {1, 2, 0}};
+static uint8_t four[FOUR];
+
+static void put_four(const char *letters) {
+    static const uint8_t head[8] = {'S', 'A', 'G', 1, 0, 3, 4, 1};
+    size_t i;
+    memset(four, 0, sizeof four);
+    memcpy(four, head, sizeof head);
+    for (i = 0; i < 12; i++) {
+        four[8 + 4 * i] = NAMED[letters[i / 3] - 'a'][i % 3];
+    }
+}
+
+static size_t build_four(size_t len, size_t depth) {
+    mark();
+    return mogzift_build(four, len, depth, words_out, 49, answer);
+}
+
+static size_t build_named(const char *letters) {
+    put_four(letters);
+    return build_four(FOUR, 0);
+}
+
+static void equal_actions(void) {
+    static const uint8_t list[1] = {WALK};
+    CHECK(build_named("abcd") == 0 && told(MOGZIFT_ANSWERED, 6, 0) && wrote(6, 0, 0, 0));
+    CHECK(refused(build_named("aabc"), MOGZIFT_EQUAL_ACTION, 20));
+    CHECK(refused(build_named("abac"), MOGZIFT_EQUAL_ACTION, 32));
+    CHECK(refused(build_named("abca"), MOGZIFT_EQUAL_ACTION, 44));
+    CHECK(refused(build_named("abcc"), MOGZIFT_EQUAL_ACTION, 44));
+    /* of several the first that equals an earlier one, whichever that is */
+    CHECK(refused(build_named("aabb"), MOGZIFT_EQUAL_ACTION, 20));
+    CHECK(refused(build_named("abab"), MOGZIFT_EQUAL_ACTION, 32));
+    CHECK(refused(build_named("abba"), MOGZIFT_EQUAL_ACTION, 32));
+    CHECK(refused(build_named("aaab"), MOGZIFT_EQUAL_ACTION, 20));
+    CHECK(refused(build_named("baaa"), MOGZIFT_EQUAL_ACTION, 32));
+    CHECK(refused(build_named("dddd"), MOGZIFT_EQUAL_ACTION, 20));
+
+    /* behind 1 to 5, also where their place lies behind the pair, and before 6 */
+    put_four("aabc");
+    CHECK(refused(build_four(FOUR, 256), MOGZIFT_EQUAL_ACTION, 20));
+    CHECK(refused(build_four(FOUR - 1, 256), MOGZIFT_BAD_LENGTH, FOUR));
+    four[FOUR - 4] = 8;
+    CHECK(refused(build_four(FOUR, 256), MOGZIFT_BAD_PROP_SET, FOUR - 4));
+    four[52] = 8; /* what the last action deletes */
+    CHECK(refused(build_four(FOUR, 256), MOGZIFT_BAD_PROP_SET, 52));
+    put_four("aabc");
+    four[8] = four[20] = 8;
+    CHECK(refused(build_four(FOUR, 256), MOGZIFT_BAD_PROP_SET, 8));
+
+    /* every call, over the lamp with a second walk in the place of the light */
+    memcpy(file + 20, file + 8, 12);
+    CHECK(refused(build(2, 49), MOGZIFT_EQUAL_ACTION, 20));
+    CHECK(refused(build(256, 0), MOGZIFT_EQUAL_ACTION, 20));
+    CHECK(refused(rest(2, words, 48), MOGZIFT_EQUAL_ACTION, 20));
+    CHECK(refused(rest(256, words, 0), MOGZIFT_EQUAL_ACTION, 20));
+    CHECK(refused(level(2, BOTH, LIT, words, 48), MOGZIFT_EQUAL_ACTION, 20));
+    CHECK(refused(level(256, 0, 8, words, 0), MOGZIFT_EQUAL_ACTION, 20));
+    CHECK(refused(page(2, BOTH, GOALS, words, 48, GOALS), MOGZIFT_EQUAL_ACTION, 20));
+    CHECK(refused(page(256, 0, GOALS, words, 0, 0), MOGZIFT_EQUAL_ACTION, 20));
+    CHECK(refused(extract(2, DESK, 48, 49), MOGZIFT_EQUAL_ACTION, 20));
+    CHECK(refused(extract(256, 0, 0, 0), MOGZIFT_EQUAL_ACTION, 20));
+    CHECK(refused(run(DOOR, list, 1, 3), MOGZIFT_EQUAL_ACTION, 20));
+    CHECK(refused(run(0, list, 1, 0), MOGZIFT_EQUAL_ACTION, 20));
+    CHECK(refused(plan(2, BOTH, LIT, 48, 3), MOGZIFT_EQUAL_ACTION, 20));
+    CHECK(refused(plan(256, 0, 8, 0, 0), MOGZIFT_EQUAL_ACTION, 20));
+    CHECK(refused(fitting_depth(48), MOGZIFT_EQUAL_ACTION, 20));
+    CHECK(refused(fitting_depth(0), MOGZIFT_EQUAL_ACTION, 20));
+    CHECK(levels_text(40, MOGZIFT_TEXT_ROOM) == 0 && told(MOGZIFT_ANSWERED, 14, 0) && wrote(0, 0, 0, 14));
+    CHECK(memcmp(text_out, "refused 15 20\n", 14) == 0);
+    CHECK(refused(levels_text(40, 0), MOGZIFT_SHORT_OUTPUT, MOGZIFT_TEXT_ROOM));
+    memcpy(file, LAMP, sizeof file);
 }
 
 static void rests_and_levels(void) {
@@ -295,13 +372,13 @@ static void texts(void) {
 static void messages(void) {
     size_t i, j;
     CHECK(strcmp(mogzift_message(0), "accepted") == 0);
-    for (i = 0; i <= MOGZIFT_UNCOVERED + 1; i++) {
+    for (i = 0; i <= MOGZIFT_EQUAL_ACTION + 1; i++) {
         CHECK(strlen(mogzift_message(i)) > 0);
         for (j = 0; j < i; j++) {
             CHECK(strcmp(mogzift_message(i), mogzift_message(j)) != 0);
         }
     }
-    CHECK(strcmp(mogzift_message((size_t)-1), mogzift_message(MOGZIFT_UNCOVERED + 1)) == 0);
+    CHECK(strcmp(mogzift_message((size_t)-1), mogzift_message(MOGZIFT_EQUAL_ACTION + 1)) == 0);
 }
 
 int main(void) {
@@ -313,6 +390,7 @@ int main(void) {
     CHECK(mogzift_build(file, sizeof file, 3, deeper, 69, answer) == 0);
     builds();
     files();
+    equal_actions();
     rests_and_levels();
     pages();
     extracts();

@@ -5,7 +5,8 @@ use crate::{build, entry, extract, fitting_depth, level, page, plan, rest, word_
 /// A problem that is put together: so many propositions, then actions and start states in the order of their numbers.
 ///
 /// What no problem file may have is turned away as the library turns it away, with the same number and place: the offset
-/// of a set is the one that it would have in the file as it is by then.
+/// of a set or an action is the one that it would have in the file as it is by then. Start states may repeat, actions may
+/// not.
 ///
 /// ```
 /// use mogzift::{Level, Problem, Refusal};
@@ -24,7 +25,8 @@ use crate::{build, entry, extract, fitting_depth, level, page, plan, rest, word_
 /// assert_eq!(graph.level(0b11, 0b100)?, Level::At(2));
 /// assert_eq!(graph.plan(0b11, 0b100)?.1, [3, 2]);
 ///
-/// assert_eq!(lamp.state(0b1000), Err(Refusal::PropSet(40)));
+/// assert_eq!(lamp.clone().state(0b1000), Err(Refusal::PropSet(40)));
+/// assert_eq!(lamp.action(0b001, 0b010, 0b001), Err(Refusal::EqualAction(32))); // another walk
 /// # Ok(())
 /// # }
 /// ```
@@ -44,15 +46,20 @@ impl Problem {
         Ok(Problem { props, actions: Vec::new(), states: Vec::new() })
     }
 
-    /// With one more action: what it needs, what it adds and what it deletes, bit p for proposition p.
+    /// With one more action: what it needs, what it adds and what it deletes, bit p for proposition p. It differs from
+    /// each one before in one of these at least.
     pub fn action(mut self, pre: u32, add: u32, del: u32) -> Result<Problem, Refusal> {
         if self.actions.len() == 32 {
             return Err(Refusal::Count(6));
         }
-        for (i, set) in [pre, add, del].into_iter().enumerate() {
-            self.check(set, 8 + 12 * self.actions.len() + 4 * i)?;
+        let (action, offset) = ([pre, add, del], 8 + 12 * self.actions.len());
+        for (i, set) in action.into_iter().enumerate() {
+            self.check(set, offset + 4 * i)?;
         }
-        self.actions.push([pre, add, del]);
+        if self.actions.contains(&action) {
+            return Err(Refusal::EqualAction(offset));
+        }
+        self.actions.push(action);
         Ok(self)
     }
 
@@ -189,6 +196,12 @@ mod tests {
         lamp().unwrap()
     }
 
+    /// An action for each number below 32, all different: its bits, dealt out to the three sets.
+    fn numbered(a: usize, props: usize) -> [u32; 3] {
+        let every = u32::MAX >> (32 - props);
+        [0, 1, 2].map(|kind| (a >> (kind * props.min(5))) as u32 & every)
+    }
+
     /// What the library says of a file.
     fn judged(file: &[u8]) -> Result<usize, Refusal> {
         fitting_depth(file, usize::MAX)
@@ -204,10 +217,12 @@ mod tests {
 
     #[test]
     fn the_words_are_those_that_the_library_asks_for() {
-        for (props, actions) in [(1, 0), (1, 32), (3, 2), (16, 16), (32, 0), (32, 32)] {
+        // of one proposition there are no more than eight different actions
+        for (props, actions) in [(1, 0), (1, 8), (2, 32), (3, 2), (16, 16), (32, 0), (32, 32)] {
             let mut problem = Problem::new(props).and_then(|problem| problem.state(1)).unwrap();
             for a in 0..actions {
-                problem = problem.action(1, 1 << (a % props), 0).unwrap();
+                let [pre, add, del] = numbered(a, props);
+                problem = problem.action(pre, add, del).unwrap();
             }
             let file = problem.bytes().unwrap();
             for depth in [0, 1, 2, 100, 255] {
@@ -230,10 +245,11 @@ mod tests {
         let mut problem = Problem::new(32).unwrap();
         assert_eq!(problem.bytes(), Err(Refusal::Count(7)));
         assert_eq!(judged(b"SAG\x01\x00\x20\x00\x00"), Err(Refusal::Count(7)));
-        for _ in 0..32 {
-            problem = problem.action(u32::MAX, u32::MAX, u32::MAX).unwrap();
+        for a in 0..32 {
+            problem = problem.action(u32::MAX, u32::MAX, a).unwrap();
         }
         assert_eq!(problem.clone().action(0, 0, 0), Err(Refusal::Count(6)));
+        assert_eq!(problem.clone().action(u32::MAX, u32::MAX, 0), Err(Refusal::Count(6)));
         for _ in 0..64 {
             problem = problem.state(u32::MAX).unwrap();
         }
@@ -268,6 +284,28 @@ mod tests {
         }
         let whole = Problem::new(32).unwrap().action(u32::MAX, 0, u32::MAX).unwrap();
         assert!(judged(&whole.state(u32::MAX).unwrap().bytes().unwrap()).is_ok());
+    }
+
+    #[test]
+    fn an_equal_action_is_turned_away_as_in_a_file() {
+        let walks = |[pre, add, del]: [u32; 3]| Problem::new(3)?.action(1, 2, 1)?.action(pre, add, del);
+        let judged_walks = |sets: [u32; 3]| {
+            let mut file = LAMP;
+            file[20..32].copy_from_slice(&sets.map(u32::to_le_bytes).concat());
+            judged(&file)
+        };
+        assert_eq!(walks([1, 2, 1]), Err(Refusal::EqualAction(20)));
+        assert_eq!(judged_walks([1, 2, 1]), Err(Refusal::EqualAction(20)));
+        for other in [[3, 2, 1], [1, 6, 1], [1, 2, 0]] {
+            assert!(walks(other).is_ok() && judged_walks(other).is_ok());
+        }
+        // the lamp with a third action
+        assert_eq!(lamp().action(2, 4, 0), Err(Refusal::EqualAction(32)));
+        assert_eq!(lamp().action(1, 2, 1), Err(Refusal::EqualAction(32)));
+        assert_eq!(lamp().action(1, 2, 9), Err(Refusal::PropSet(40)));
+        // states may repeat
+        let twice = lamp().state(1).unwrap().state(1).unwrap();
+        assert_eq!(judged(&twice.bytes().unwrap()), Ok(255));
     }
 
     #[test]

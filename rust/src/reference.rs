@@ -3,6 +3,7 @@
 //!
 //! It uses no unsafe code and no instruction that a processor may lack. What makes it quick:
 //!
+//! - The check of the file looks for equal actions in a table, and compares one only with the few that its mark leads to.
 //! - The build keeps no mutex words but the states in which two elements are together: both there and not mutex, an
 //!   element with itself where it is there. An action is together with what all its needs are together with, a
 //!   proposition with what one of its adders is together with: rows of words are met and joined, and one adder of both
@@ -60,7 +61,7 @@ struct Problem<'a> {
 }
 
 impl<'a> Problem<'a> {
-    /// Causes 1 to 5.
+    /// Causes 1 to 5, and 15.
     fn open(file: &'a [u8]) -> Result<Self, Refusal> {
         let Some((&[b'S', b'A', b'G', v0, v1, p, a, n], sets)) = file.split_first_chunk::<8>() else {
             return Err(Refusal::Head);
@@ -88,6 +89,9 @@ impl<'a> Problem<'a> {
         if outside != 0 && sets.chunks_exact(4).fold(0, |any, bytes| any | set_of(bytes)) & outside != 0 {
             let first = sets.chunks_exact(4).position(|bytes| set_of(bytes) & outside != 0).unwrap();
             return Err(Refusal::PropSet(8 + 4 * first));
+        }
+        if let Some(a) = first_equal(problem.parts().0) {
+            return Err(Refusal::EqualAction(8 + 12 * a));
         }
         Ok(problem)
     }
@@ -142,6 +146,35 @@ impl<'a> Problem<'a> {
         let words = &words[..self.check_memory(depth, words.len())?];
         Ok(Layers { words, props: self.props, depth, size: size(self.props), stride: self.stride() })
     }
+}
+
+/// The first action that equals one before it. Each takes the first free slot of a table from its mark on, and meets an
+/// equal one on the way there.
+#[inline(never)] // within a call its loop may be short of registers
+fn first_equal(actions: &[u8]) -> Option<usize> {
+    // of each slot the action that took it, counted from 1; to clear more of them costs more than it saves
+    let mut slots = [0u8; 1 << u8::BITS];
+    for (a, action) in actions.chunks_exact(12).enumerate() {
+        let mut at = mark(action);
+        while slots[at as usize] != 0 {
+            let before = 12 * (slots[at as usize] as usize - 1);
+            if actions[before..before + 12] == *action {
+                return Some(a);
+            }
+            at = at.wrapping_add(1);
+        }
+        slots[at as usize] = a as u8 + 1;
+    }
+    None
+}
+
+/// A number that goes by all three sets of an action, and that few others have: the top of a product.
+#[inline(always)]
+fn mark(action: &[u8]) -> u8 {
+    let needs_and_adds = u64::from_le_bytes(*action.first_chunk().unwrap());
+    let deletes = set_of(&action[8..]) as u64;
+    // in the middle of the others, so that a proposition has a place of its own in each
+    ((needs_and_adds ^ deletes << 16).wrapping_mul(0x9E37_79B9_7F4A_7C15) >> (u64::BITS - u8::BITS)) as u8
 }
 
 fn check_depth(depth: usize) -> Result<(), Refusal> {

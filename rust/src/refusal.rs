@@ -3,7 +3,7 @@
 use std::fmt;
 
 /// The texts of `mogzift_message` in include/mogzift.h, from number 1 on.
-const MESSAGES: [&str; 14] = [
+const MESSAGES: [&str; 15] = [
     "not a problem file: begin it with SAG, the version and the three counts, 8 bytes in all",
     "another version: write 1 and 0 at offsets 3 and 4",
     "a count is out of range, at the place: 1 to 32 propositions, 0 to 32 actions, 1 to 64 start states",
@@ -18,9 +18,12 @@ const MESSAGES: [&str; 14] = [
     "the step at the place lacks its precondition in some state of the set: take another, or a smaller set",
     "the goal has no level up to the depth, so there is no plan: build deeper, unless the level is never",
     "the graph's words were altered, seen at the layer that the place says: build the graph again",
+    "an action, at the place, has the same three sets as an earlier one: leave it out, and count A down",
 ];
 
 /// Why a call is turned away: the paper's causes in the order of their numbers, with the place where it varies.
+///
+/// The first cause that holds is told. They are looked for in the order of their numbers, but 15 right behind 5.
 ///
 /// It displays as its [`message`](Refusal::message), number and place.
 #[derive(Clone, Copy, Debug, PartialEq, Eq, Hash)]
@@ -53,10 +56,12 @@ pub enum Refusal {
     NoLevel(usize),
     /// The graph's words were altered: states are left uncovered at this layer, or a need lies outside its label at 0.
     Uncovered(usize),
+    /// An action has the same three sets as an earlier one, with the offset of the first that does.
+    EqualAction(usize),
 }
 
 impl Refusal {
-    /// The paper's number, 1 to 14.
+    /// The paper's number, 1 to 15.
     pub fn number(self) -> usize {
         match self {
             Refusal::Head => 1,
@@ -73,6 +78,7 @@ impl Refusal {
             Refusal::Precondition(_) => 12,
             Refusal::NoLevel(_) => 13,
             Refusal::Uncovered(_) => 14,
+            Refusal::EqualAction(_) => 15,
         }
     }
 
@@ -90,7 +96,8 @@ impl Refusal {
             | Refusal::Sequence(place)
             | Refusal::Precondition(place)
             | Refusal::NoLevel(place)
-            | Refusal::Uncovered(place) => place,
+            | Refusal::Uncovered(place)
+            | Refusal::EqualAction(place) => place,
         }
     }
 
@@ -115,6 +122,7 @@ impl Refusal {
             12 => Refusal::Precondition(place),
             13 => Refusal::NoLevel(place),
             14 => Refusal::Uncovered(place),
+            15 => Refusal::EqualAction(place),
             _ => unreachable!("no refusal has the number {number}"),
         };
         assert_eq!(refusal.place(), place, "the place of refusal {number}");

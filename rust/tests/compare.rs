@@ -1,6 +1,6 @@
 //! Makes each call of the proved library and of the plain Rust version on the same input, and compares the answers and
-//! all lent memory: many problems, short and long, whole and damaged, over built, altered and junk words. What a page of
-//! goals says of each is held to the single call for it, too.
+//! all lent memory: many problems, short and long, whole, damaged and with equal actions, over built, altered and junk
+//! words. What a page of goals says of each is held to the single call for it, too.
 //!
 //! Prints how often each kind of answer came up, and fails where one that the paper has never did.
 
@@ -96,11 +96,33 @@ fn counts(random: &mut Random) -> (usize, usize, usize) {
     }
 }
 
+/// So many actions, no two of them equal: one that equals an earlier one is changed until it does not, a bit at a time.
+fn different(
+    random: &mut Random,
+    props: usize,
+    actions: usize,
+    draw: impl Fn(&mut Random, usize) -> [u32; 3],
+) -> Vec<[u32; 3]> {
+    // with one proposition there are no more than eight
+    let most = if props == 1 { 8 } else { 32 };
+    let mut drawn = Vec::new();
+    for i in 0..actions.min(most) {
+        let mut action = draw(random, i);
+        while drawn.contains(&action) {
+            action[random.below(3)] ^= 1 << random.below(props);
+        }
+        drawn.push(action);
+    }
+    drawn
+}
+
 /// Sets at random, as dense as was drawn for each kind of them.
 fn scattered(random: &mut Random) -> Problem {
     let (props, actions, states) = counts(random);
     let dense: [usize; 4] = std::array::from_fn(|_| random.pick(&[0, 1, 2, 2, 4, 4, 8, 13, 16]));
-    let actions = (0..actions).map(|_| std::array::from_fn(|kind| random.bits(props, dense[kind]) as u32)).collect();
+    let actions = different(random, props, actions, |random, _| {
+        std::array::from_fn(|kind| random.bits(props, dense[kind]) as u32)
+    });
     let starts = (0..states).map(|_| random.bits(props, dense[3]) as u32).collect();
     Problem { props, actions, starts }
 }
@@ -109,19 +131,17 @@ fn scattered(random: &mut Random) -> Problem {
 fn chained(random: &mut Random) -> Problem {
     let (props, actions, states) = counts(random);
     let tidy = random.one_in(2);
-    let actions = (0..actions)
-        .map(|i| {
-            let from = if tidy { i % props } else { random.below(props) };
-            let to = if tidy { (i + 1) % props } else { random.below(props) };
-            let more = random.bits(props, 1) as u32;
-            match random.below(6) {
-                0 => [1 << from | more, 1 << to, 1 << from],
-                1 => [1 << from, 1 << to | more, 1 << from],
-                2 => [1 << from, 1 << to, more],
-                _ => [1 << from, 1 << to, 1 << from],
-            }
-        })
-        .collect();
+    let actions = different(random, props, actions, |random, i| {
+        let from = if tidy { i % props } else { random.below(props) };
+        let to = if tidy { (i + 1) % props } else { random.below(props) };
+        let more = random.bits(props, 1) as u32;
+        match random.below(6) {
+            0 => [1 << from | more, 1 << to, 1 << from],
+            1 => [1 << from, 1 << to | more, 1 << from],
+            2 => [1 << from, 1 << to, more],
+            _ => [1 << from, 1 << to, 1 << from],
+        }
+    });
     let starts = (0..states)
         .map(|_| if random.one_in(4) { random.bits(props, 3) as u32 } else { 1 << random.below(props) })
         .collect();
@@ -170,9 +190,35 @@ fn damaged(random: &mut Random, mut file: Vec<u8>) -> Vec<u8> {
     file
 }
 
+/// The file with equal actions: up to three copies, each before an action or in the place of one. At times the last copy
+/// has a bit changed, or something else is wrong too.
+fn repeated(random: &mut Random, problem: &Problem) -> Vec<u8> {
+    let mut actions = problem.actions.clone();
+    for left in (0..random.from(1, 3)).rev() {
+        if actions.is_empty() {
+            break;
+        }
+        let (mut copy, at) = (random.pick(&actions), random.below(actions.len()));
+        if left == 0 && random.one_in(4) {
+            copy[random.below(3)] ^= 1 << random.below(problem.props);
+        }
+        if actions.len() < 32 && random.one_in(3) {
+            actions.insert(at, copy);
+        } else {
+            actions[at] = copy;
+        }
+    }
+    let file = Problem { props: problem.props, actions, starts: problem.starts.clone() }.file();
+    if random.one_in(4) {
+        damaged(random, file)
+    } else {
+        file
+    }
+}
+
 // ---- the two versions side by side
 
-const REFUSED: [&str; 14] = [
+const REFUSED: [&str; 15] = [
     "refused 1",
     "refused 2",
     "refused 3",
@@ -187,6 +233,7 @@ const REFUSED: [&str; 14] = [
     "refused 12",
     "refused 13",
     "refused 14",
+    "refused 15",
 ];
 
 /// What an answer is counted as.
@@ -268,7 +315,9 @@ impl Text {
 
 impl Kind for Text {
     fn kind(&self) -> &'static str {
-        if self.0.starts_with("refused") {
+        if self.0.starts_with("refused 15 ") {
+            "text of refusal 15"
+        } else if self.0.starts_with("refused") {
             "text of a refusal"
         } else if self.0.contains("rest ?") {
             "text, no rest"
@@ -537,7 +586,7 @@ fn list(random: &mut Random, problem: &Problem, set: u64) -> Vec<u8> {
     list
 }
 
-/// One of the nine calls, over a file whose problem was this before it was damaged, if it was.
+/// One of the nine calls, over a file whose problem was this before it was changed, if it was.
 fn any_call(tally: &mut Tally, random: &mut Random, problem: &Problem, file: &[u8], depth: usize, built: &[u64]) {
     let depth = call_depth(random, depth);
     // a deeper call than was built wants more words than there are; they are not made, so that it is turned away
@@ -601,12 +650,17 @@ fn problem_calls(tally: &mut Tally, random: &mut Random) {
         let file = damaged(random, file.clone());
         any_call(tally, random, &problem, &file, depth, &built);
     }
+    for _ in 0..1 + calls / 15 {
+        let file = repeated(random, &problem);
+        any_call(tally, random, &problem, &file, depth, &built);
+    }
 }
 
 /// As wide and as deep as can be.
 fn widest(tally: &mut Tally, random: &mut Random) {
     for dense in [2, 8] {
-        let actions = (0..32).map(|_| std::array::from_fn(|_| random.bits(32, dense) as u32)).collect();
+        let draw = |random: &mut Random, _| std::array::from_fn(|_| random.bits(32, dense) as u32);
+        let actions = different(random, 32, 32, draw);
         let starts = (0..64).map(|_| random.bits(32, dense) as u32).collect();
         let problem = Problem { props: 32, actions, starts };
         let (file, depth) = (problem.file(), 255);
@@ -658,6 +712,8 @@ fn main() {
         ("12, not the first step", places(12, &|place| place > 0)),
         ("14 at layer 0", places(14, &|place| place == 0)),
         ("14 above layer 0", places(14, &|place| place > 0)),
+        ("15, the second action", places(15, &|place| place == 20)),
+        ("15, a later one", places(15, &|place| place > 20)),
     ];
     for (what, count) in special {
         println!("{what:<24} {count:>8}");
@@ -690,12 +746,16 @@ fn main() {
         ("text", "text, a rest"),
         ("text", "text, no rest"),
         ("text", "text of a refusal"),
+        ("text", "text of refusal 15"),
         ("text", REFUSED[9]),
     ] {
         assert!(count(Some(call), kind) > 0, "no {call} was answered by: {kind}");
     }
     for kind in REFUSED {
         assert!(count(None, kind) > 0, "no call was {kind}");
+    }
+    for call in ["build", "rest", "level", "page", "extract", "run", "plan", "depth"] {
+        assert!(count(Some(call), REFUSED[14]) > 0, "no {call} was refused for equal actions");
     }
     for (what, count) in special {
         assert!(count > 0, "nothing was refused by {what}");

@@ -8,7 +8,7 @@ use std::thread;
 const HEADER: &str = include_str!("../../include/mogzift.h");
 
 /// The refusals by the header's names, in the order of their numbers, each with a place that it can have.
-const REFUSALS: [(&str, Refusal); 14] = [
+const REFUSALS: [(&str, Refusal); 15] = [
     ("MOGZIFT_BAD_HEAD", Refusal::Head),
     ("MOGZIFT_BAD_VERSION", Refusal::Version),
     ("MOGZIFT_BAD_COUNT", Refusal::Count(5)),
@@ -23,6 +23,7 @@ const REFUSALS: [(&str, Refusal); 14] = [
     ("MOGZIFT_NO_PRECONDITION", Refusal::Precondition(7)),
     ("MOGZIFT_NO_LEVEL", Refusal::NoLevel(2)),
     ("MOGZIFT_UNCOVERED", Refusal::Uncovered(1)),
+    ("MOGZIFT_EQUAL_ACTION", Refusal::EqualAction(20)),
 ];
 
 /// What stands in the header between these two, once.
@@ -50,7 +51,7 @@ fn refusals_have_the_headers_numbers_and_texts() {
     }
     assert_eq!(
         HEADER.matches("        return \"").count(),
-        16,
+        17,
         "a text for 0, one for each number, one for all others"
     );
 }

@@ -62,11 +62,24 @@ fn lamp() -> Vec<u8> {
     file(3, &[[1, 2, 1], [2, 4, 0]], &[1, 2])
 }
 
+/// So many actions, drawn in turn. One that equals an earlier one is drawn again.
+fn different(actions: usize, mut draw: impl FnMut(usize) -> [u32; 3]) -> Vec<[u32; 3]> {
+    // all of its room at once, so that where other memory lies, and how fast that is, does not depend on it
+    let mut drawn = Vec::with_capacity(actions);
+    while drawn.len() < actions {
+        let action = draw(drawn.len());
+        if !drawn.contains(&action) {
+            drawn.push(action);
+        }
+    }
+    drawn
+}
+
 /// Sparse: an action needs, adds and deletes one or two propositions, and a state has a few.
 fn sparse(random: &mut Random, props: usize, actions: usize, states: usize) -> Vec<u8> {
     let mut few = || random.below(2) + 1;
     let sizes: Vec<[usize; 3]> = (0..actions).map(|_| [few(), few(), few()]).collect();
-    let actions: Vec<_> = sizes.iter().map(|sizes| sizes.map(|size| random.set(props, size))).collect();
+    let actions = different(actions, |a| sizes[a].map(|size| random.set(props, size)));
     let starts: Vec<_> = (0..states).map(|_| random.set(props, 2 + props / 8)).collect();
     file(props, &actions, &starts)
 }
@@ -75,7 +88,7 @@ fn sparse(random: &mut Random, props: usize, actions: usize, states: usize) -> V
 /// about half.
 fn dense(random: &mut Random, props: usize, actions: usize, states: usize) -> Vec<u8> {
     let sizes = [props / 4, props / 2, props / 4];
-    let actions: Vec<_> = (0..actions).map(|_| sizes.map(|size| random.set(props, size))).collect();
+    let actions = different(actions, |_| sizes.map(|size| random.set(props, size)));
     let starts: Vec<_> = (0..states).map(|_| random.set(props, 3 * props / 4)).collect();
     file(props, &actions, &starts)
 }
@@ -170,7 +183,8 @@ impl Case {
         set
     }
 
-    /// The problem with an action that brings every proposition, the last one, so that long lists work.
+    /// The problem with an action that brings every proposition, the last one, so that long lists work. It equals no
+    /// other: all others need something.
     fn refilled(&self) -> Vec<u8> {
         let mut file = self.file.clone();
         let last = 8 + 12 * (file[6] as usize - 1);

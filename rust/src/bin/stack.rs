@@ -50,11 +50,18 @@ impl Case {
     /// A problem of this size whose sets have so many members at most.
     fn new((props, actions, states): (usize, usize, usize), members: usize) -> Case {
         let mut random = Random(members as u64);
-        let mut file = vec![b'S', b'A', b'G', 1, 0, props as u8, actions as u8, states as u8];
-        for _ in 0..3 * actions + states {
-            let set = (0..members).fold(0u32, |set, _| set | 1 << (random.word() % props as u64));
-            file.extend(set.to_le_bytes());
+        let mut set = || (0..members).fold(0u32, |set, _| set | 1 << (random.word() % props as u64));
+        let mut drawn = Vec::new();
+        while drawn.len() < actions {
+            let action = [set(), set(), set()];
+            // one that equals an earlier one is drawn again
+            if !drawn.contains(&action) {
+                drawn.push(action);
+            }
         }
+        let starts: Vec<u32> = (0..states).map(|_| set()).collect();
+        let mut file = vec![b'S', b'A', b'G', 1, 0, props as u8, actions as u8, states as u8];
+        file.extend(drawn.iter().flatten().chain(&starts).flat_map(|set| set.to_le_bytes()));
         let mut words = vec![0; word_count(props, actions, DEPTH)];
         mogzift::build(&file, DEPTH, &mut words).expect("a file that is in order");
         let out = words.clone();
