@@ -1,10 +1,10 @@
--- Equal actions: when the rule turns a file away for them, that it asks only for the actions, and that equal actions have equal marks.
+-- Equal actions: when the rule turns a file away for them, that files with the same actions have the same verdict, and how they are found by their marks.
 -- Assumes nothing.
 use mathlib.Core.Path.{_≡_, sym, ap, ap₂, subst, _∙_}
 use mathlib.Core.Bool.{Bool, So, false}
 use mathlib.Core.Logic.{⊎-elim, by-cases}
 use mathlib.Core.List.{List}
-use Prim.Native.Nat.{ℕ, _+_, _*_, _/_, _%_, _≤_, _<_}
+use Prim.Native.Nat.{ℕ, _+_, _≤_, _<_}
 use borrow.Author.Count.{below-more}
 use native.Mathlib.Decide.{decLe}
 use native.Mathlib.Omega.{arith}
@@ -20,7 +20,7 @@ use Rattle.rules.proofs.Firsts.{first-eq, first-unique}
 use Rattle.graph.specs.Verdict.{accepted, refused}
 use Rattle.graph.specs.Format.{preAt, addAt, delAt, setAt, actionsOf}
 use Rattle.graph.specs.File.{equalActions, equalsEarlier, firstEqual, equalRule}
-use Rattle.graph.specs.Marks.{marks, markOf, AllLone, Marked, After}
+use Rattle.graph.specs.Marks.{marks, spread, markOf, AllLone, Marked, After}
 use Rattle.graph.specs.declared.format.Counts.{Counts}
 
 -- ---- the rule, given the first action that equals an earlier one
@@ -71,7 +71,7 @@ unfolding equalActions markOf
 equal-marks A b a t =
     let p : A .pre b ≡ A .pre a = same-at (and-left _ t) in
     let q : A .add b ≡ A .add a = same-at (and-left _ (and-right _ t)) in
-    ap₂ (λ (x y : ℕ). (x + 5 * y) % 4294967296 * 2654435769 % 4294967296 / 4194304) p q
+    ap₂ spread p q
 
 -- so where no two marks meet there are no equal actions
 pub all-lone : (file : List ℕ) (c : Counts) → AllLone (actionsOf file c) (c .actions) → c .actions ≡ firstEqual (actionsOf file c)

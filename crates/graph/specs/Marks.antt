@@ -12,8 +12,11 @@ abbrev pub marks : ℕ
 marks = 1024
 
 -- the mark of an action: what it needs and adds, spread over the marks
+unfoldable pub spread : ℕ → ℕ → ℕ
+spread needs adds = (needs + 5 * adds) % 4294967296 * 2654435769 % 4294967296 / 4194304
+
 unfoldable pub markOf : Actions → ℕ → ℕ
-markOf A a = (A .pre a + 5 * A .add a) % 4294967296 * 2654435769 % 4294967296 / 4194304
+markOf A a = spread (A .pre a) (A .add a)
 
 -- no earlier action has its mark
 abbrev pub Lone : Actions → ℕ → Type 0

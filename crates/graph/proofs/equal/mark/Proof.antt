@@ -1,10 +1,9 @@
 -- `equal::mark` meets its contract: no number on the way is too large, and the mark is one of the marks.
-use Prim.Native.Nat.{ℕ, _+_, _*_, _/_, _%_}
 use mathlib.Core.Path.{ap, ap₂, _∙_}
 use native.Mathlib.Omega.{arith}
 use borrow.Author.Needs.{needs}
 use Rattle.graph.specs.Format.{setAt, actionsOf}
-use Rattle.graph.specs.Marks.{markOf}
+use Rattle.graph.specs.Marks.{spread, markOf}
 use Rattle.graph.proofs.equal.mark.Statement.{statement}
 use Rattle.graph.proofs.equal.mark.Tie as tie
 use Rattle.graph.proofs.equal.mark.Reads as reads
@@ -41,10 +40,10 @@ mul-spread : tie.Need-mul-spread
 mul-spread c = search needs
 
 returns : tie.Need-returns
-unfolding markOf actionsOf
+unfolding spread markOf actionsOf
 returns c =
     let file = c .before .before .before .before .before .args .file .now in (
-      ap₂ (λ (x y : ℕ). (x + 5 * y) % 4294967296 * 2654435769 % 4294967296 / 4194304)
+      ap₂ spread
           (c .before .before .set-at .ensures ∙ ap (setAt file) (c .before .before .before .pre-at .ensures))
           (c .set-at2 .ensures ∙ ap (setAt file) (c .before .add-at .ensures)),
       omega arith,
