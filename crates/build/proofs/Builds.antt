@@ -134,7 +134,7 @@ pub record Stepping (n width depth all : ℕ) (needs adds dels adders interferer
 pub told-sizes : (A : Actions) (n : ℕ) (needs adds adders interferers : List ℕ) → Told A n needs adds adders interferers
     → (size (domain A .vertices) ≡ size (length needs + n)) × (size (domain A .props) ≡ size n)
 unfolding domain
-told-sizes A n needs adds adders interferers told = (ap₂ (λ (x y : ℕ). size (x + y)) (told .count) (told .props), ap size (told .props))
+told-sizes A n needs adds adders interferers told = (ap₂ (λ (x y : ℕ). size (x + y)) (told .effects) (told .props), ap size (told .props))
 
 pub stepping-none : (n width depth all at : ℕ) (needs adds dels adders interferers labels t w live r mates besides spare : List ℕ)
     → Lent n width depth needs adds dels adders interferers labels live t r mates besides spare w → at ≡ size n
@@ -160,8 +160,6 @@ module _ {n width depth all : ℕ} {needs adds dels adders interferers labels₀
       → Ready n width act needs adds dels adders interferers labels live t r mates besides spare (take (length w - at) (drop at w))
   ready act e = record {
     mating = s .lent .mating;
-    dels-long = s .lent .dels-long;
-    deletes = s .lent .deletes;
     labels-long = s .lent .labels-long;
     t-long = s .lent .t-long;
     place = e;
@@ -188,6 +186,7 @@ module _ {n width depth all : ℕ} {needs adds dels adders interferers labels₀
             mating = record {
               wide = m .wide;
               adds-long = m .adds-long;
+              dels-long = m .dels-long;
               adders-long = m .adders-long;
               adders-inside = m .adders-inside;
               interferers-long = m .interferers-long;
@@ -198,8 +197,6 @@ module _ {n width depth all : ℕ} {needs adds dels adders interferers labels₀
               besides-long = lb ∙ m .besides-long;
               spare-long = ls ∙ m .spare-long;
             };
-            dels-long = s .lent .dels-long;
-            deletes = s .lent .deletes;
             labels-long = ll ∙ s .lent .labels-long;
             t-long = lt ∙ s .lent .t-long;
             deep = s .lent .deep;

@@ -1,32 +1,31 @@
--- The lists that the build reads tell the file's actions.
+-- The lists that the build reads tell the effects of the file's actions.
 -- Assumes nothing.
 use Prim.Native.Nat.{ℕ, _+_, _*_, _≤_, _<_, _^_}
 use mathlib.Core.Path.{_≡_, refl, sym, ap, ap₂, subst, _∙_}
-use mathlib.Core.Bool.{Bool, So}
-use mathlib.Core.List.{List, _++_}
+use mathlib.Core.Bool.{So}
+use mathlib.Core.List.{List}
 use native.Mathlib.Nat.{lt-of-lt-of-le}
 use native.Mathlib.Omega.{arith}
-use lib.ListN.{length, getD, List·getD-append}
+use lib.ListN.{length, getD}
 use lib.Pow.{pow-mono}
-use Rattle.rules.specs.Test.{_or_}
+use Rattle.rules.specs.Test.{_and_, _or_, fails, same, below}
 use Rattle.rules.specs.Word.{bit, union, single, meets, first}
 use Rattle.rules.specs.Over.{keep}
-use Rattle.rules.specs.Lists.{listOver}
-use Rattle.rules.specs.Domain.{Actions, needsOf, addsOf, deletesOf, clobbers}
+use Rattle.rules.specs.Domain.{Actions, condition, siblings, clobbers, interfereOf}
 use Rattle.rules.specs.Shared.{startLabel}
 use Rattle.rules.proofs.Overs.{joinOver-eq, joinOver-lt, keep-lt}
 use Rattle.rules.proofs.Words.{single-lt, bit-below, bit-first}
-use Rattle.rules.proofs.Tests.{below-of}
+use Rattle.rules.proofs.Tests.{and-right, test-eq, same-at, below-of}
 use Rattle.rules.proofs.Members.{bit-those, startLabel-lt}
 use Rattle.rules.proofs.Layers.{getD-listOver, length-listOver}
-use Rattle.rules.proofs.Domains.{needs-action, adds-action, deletes-action}
+use Rattle.rules.proofs.Domains.{needs-effect, adds-effect, deletes-effect, siblings-of, condition-lt}
 use Rattle.words.specs.Rows.{rowLength, InParts, Inside, columnsOf}
-use Rattle.together.specs.Interference.{clobbersIn, interferersOf}
+use Rattle.together.specs.Interference.{clobbersIn, interfereIn, interferersOf}
 use Rattle.together.specs.Cells.{Width}
 use Rattle.layers.specs.Step.{Told, Deletes}
 use Rattle.rules.specs.Layer.{size, stride, wordCount}
 use Rattle.rules.proofs.Layouts.{count-stride}
-use Rattle.graph.specs.Format.{setAt, actionsOf, shapeIn}
+use Rattle.graph.specs.Format.{actionsOf, shapeIn}
 use Rattle.graph.specs.File.{Taken}
 use Rattle.build.specs.Rooms.{Read}
 use Rattle.graph.specs.declared.format.Counts.{Counts}
@@ -41,72 +40,73 @@ pub label-inside : (n : ℕ) (start : ℕ → ℕ) (s p x : ℕ) → x ≡ start
 label-inside n start s p x e b =
     bit-first s n ∙ below-of (bit-below (startLabel-lt n start p) (ap (bit s) (sym e) ∙ b))
 
-module _ (file : List ℕ) (c : Counts) (needs adds dels adders interferers : List ℕ) (taken : Taken file c) (is : Read file c needs adds dels adders interferers) where
+module _ (file : List ℕ) (c : Counts) (needs adds dels owners adders interferers : List ℕ) (taken : Taken file c)
+    (is : Read file c needs adds dels owners adders interferers) where
   abbrev A : Actions
   A = actionsOf file c
 
-  pub needs-count : length needs ≡ c .actions
-  needs-count = ap length (is .needs-are) ∙ length-listOver (c .actions) _
+  pub needs-count : length needs ≡ c .effects
+  needs-count = ap length (is .needs-are) ∙ length-listOver (c .effects) _
 
-  adds-count : length adds ≡ c .actions
-  adds-count = ap length (is .adds-are) ∙ length-listOver (c .actions) _
+  adds-count : length adds ≡ c .effects
+  adds-count = ap length (is .adds-are) ∙ length-listOver (c .effects) _
 
-  pre-is : (i : ℕ) → i < c .actions → getD needs i 0 ≡ A .pre i
-  pre-is i h = ap (λ (l : List ℕ). getD l i 0) (is .needs-are) ∙ getD-listOver _ h
+  need-is : (i : ℕ) → i < c .effects → getD needs i 0 ≡ condition A i
+  need-is i h = ap (λ (l : List ℕ). getD l i 0) (is .needs-are) ∙ getD-listOver _ h
 
-  add-is : (i : ℕ) → i < c .actions → getD adds i 0 ≡ A .add i
+  add-is : (i : ℕ) → i < c .effects → getD adds i 0 ≡ A .add i
   add-is i h = ap (λ (l : List ℕ). getD l i 0) (is .adds-are) ∙ getD-listOver _ h
 
-  del-is : (i : ℕ) → i < c .actions → getD dels i 0 ≡ A .del i
+  del-is : (i : ℕ) → i < c .effects → getD dels i 0 ≡ A .del i
   del-is i h = ap (λ (l : List ℕ). getD l i 0) (is .dels-are) ∙ getD-listOver _ h
 
-  clobbers-is : (i j : ℕ) → i < c .actions → j < c .actions → clobbersIn needs adds dels i j ≡ clobbers A i j
+  owner-is : (i : ℕ) → i < c .effects → getD owners i 0 ≡ A .owner i
+  owner-is i h = ap (λ (l : List ℕ). getD l i 0) (is .owners-are) ∙ getD-listOver _ h
+
+  clobbers-is : (i j : ℕ) → i < c .effects → j < c .effects → clobbersIn needs adds dels i j ≡ clobbers A i j
   unfolding clobbersIn clobbers actionsOf
   clobbers-is i j h k =
-      ap₂ meets (del-is i h ∙ sym (deletes-action A h)) (ap₂ union (pre-is j k ∙ sym (needs-action A k)) (add-is j k ∙ sym (adds-action A k)))
+      ap₂ meets (del-is i h ∙ sym (deletes-effect A h)) (ap₂ union (need-is j k ∙ sym (needs-effect A k)) (add-is j k ∙ sym (adds-effect A k)))
 
-  interferers-is : (i : ℕ) → i < c .actions → getD interferers i 0 ≡ interferersOf needs adds dels i
+  siblings-is : (i j : ℕ) → i < c .effects → j < c .effects → same (getD owners i 0) (getD owners j 0) ≡ siblings A i j
+  unfolding siblings actionsOf
+  siblings-is i j h k = ap₂ same (owner-is i h) (owner-is j k)
+      ∙ test-eq (λ t. siblings-of A h k (same-at t)) (λ t. and-right (below j (c .effects)) (and-right (below i (c .effects)) t))
+
+  interfere-is : (i j : ℕ) → i < c .effects → j < c .effects → interfereIn needs adds dels owners i j ≡ interfereOf A i j
+  unfolding interfereIn interfereOf
+  interfere-is i j h k = ap₂ _and_ (ap fails (siblings-is i j h k)) (ap₂ _or_ (clobbers-is i j h k) (clobbers-is j i k h))
+
+  interferers-is : (i : ℕ) → i < c .effects → getD interferers i 0 ≡ interferersOf needs adds dels owners i
   interferers-is i h = ap (λ (l : List ℕ). getD l i 0) (is .interferers-are) ∙ getD-listOver _ (omega (arith, needs-count))
 
   pub told : Told A (c .props) needs adds adders interferers
   unfolding actionsOf columnsOf interferersOf
   told = record {
     props = refl;
-    count = sym needs-count;
-    pre = pre-is;
+    effects = sym needs-count;
+    need = need-is;
     add = add-is;
     by = λ p h.
         ap (λ (l : List ℕ). getD l p 0) (is .adders-are) ∙ getD-listOver _ h
-        ∙ ap (λ (x : ℕ). startLabel x (λ i. getD adds i 0) p) adds-count ∙ startLabel-eq (c .actions) _ _ p (λ i k. add-is i k);
+        ∙ ap (λ (x : ℕ). startLabel x (λ i. getD adds i 0) p) adds-count ∙ startLabel-eq (c .effects) _ _ p (λ i k. add-is i k);
     interfere = λ i j h k.
-        ap (bit j) (interferers-is i h) ∙ bit-those (λ j. clobbersIn needs adds dels i j or clobbersIn needs adds dels j i) (omega (arith, needs-count))
-        ∙ ap₂ _or_ (clobbers-is i j h k) (clobbers-is j i k h);
+        ap (bit j) (interferers-is i h) ∙ bit-those (interfereIn needs adds dels owners i) (omega (arith, needs-count)) ∙ interfere-is i j h k;
   }
 
   pub deletes : Deletes A dels
   unfolding actionsOf
   deletes = del-is
 
-  -- the sets of a taken file are sets of its propositions
-  set-lt : (i k at : ℕ) → i < c .actions → k < 3 → at ≡ 8 + 12 * i + 4 * k → setAt file at < 2 ^ c .props
-  set-lt i k at h l e =
-      let q : 8 + 4 * (3 * i + k) ≡ at = omega arith in
-      subst (λ (x : ℕ). setAt file x < 2 ^ c .props) q (taken .sets (3 * i + k) (omega arith))
-
+  -- what an effect of a taken file needs is a set of its propositions
   pub needs-inside : Inside (c .props) needs
   unfolding actionsOf
   needs-inside i h =
-      let k : i < c .actions = omega (arith, needs-count) in
-      subst (λ (x : ℕ). x < 2 ^ c .props) (sym (pre-is i k)) (set-lt i 0 _ k (omega arith) (omega arith))
+      let k : i < c .effects = omega (arith, needs-count) in
+      subst (λ (x : ℕ). x < 2 ^ c .props) (sym (need-is i k)) (condition-lt A (taken .sound) k)
 
-  pub deletes-inside : Inside (c .props) dels
-  unfolding actionsOf
-  deletes-inside i h =
-      let k : i < c .actions = omega (arith, ap length (is .dels-are), length-listOver (c .actions) (A .del)) in
-      subst (λ (x : ℕ). x < 2 ^ c .props) (sym (del-is i k)) (set-lt i 2 _ k (omega arith) (omega arith))
-
-  few : c .actions ≤ rowLength
-  few = omega (arith, taken .ranged .actions)
+  few : c .effects ≤ rowLength
+  few = omega (arith, taken .ranged .effects)
 
   pub adders-inside : Inside rowLength adders
   unfolding columnsOf
@@ -118,19 +118,20 @@ module _ (file : List ℕ) (c : Counts) (needs adds dels adders interferers : Li
   pub interferers-inside : Inside rowLength interferers
   unfolding interferersOf
   interferers-inside i h =
-      let k : i < c .actions = omega (arith, ap length (is .interferers-are), length-listOver (length needs) (interferersOf needs adds dels), needs-count) in
+      let k : i < c .effects =
+      omega (arith, ap length (is .interferers-are), length-listOver (length needs) (interferersOf needs adds dels owners), needs-count) in
       subst (λ (x : ℕ). x < 2 ^ rowLength) (sym (interferers-is i k))
       (let le : length needs ≤ rowLength = omega (arith, needs-count, few) in lt-of-lt-of-le (joinOver-lt (length needs) _ (λ j l. keep-lt (length needs) (λ t. single-lt l)))
       (pow-mono le))
 
-  pub wide-for : (width : ℕ) → InParts width → c .props ≤ width → c .actions ≤ width → Width (c .props) width needs
-  wide-for width parts p a = record { parts = parts; props = p; actions = omega (arith, needs-count); inside = needs-inside }
+  pub wide-for : (width : ℕ) → InParts width → c .props ≤ width → c .effects ≤ width → Width (c .props) width needs
+  wide-for width parts p a = record { parts = parts; props = p; effects = omega (arith, needs-count); inside = needs-inside }
 
   pub adds-same : length adds ≡ length needs
   adds-same = adds-count ∙ sym needs-count
 
   pub dels-same : length dels ≡ length needs
-  dels-same = ap length (is .dels-are) ∙ length-listOver (c .actions) _ ∙ sym needs-count
+  dels-same = ap length (is .dels-are) ∙ length-listOver (c .effects) _ ∙ sym needs-count
 
   pub adders-count : length adders ≡ c .props
   unfolding columnsOf
@@ -143,6 +144,7 @@ module _ (file : List ℕ) (c : Counts) (needs adds dels adders interferers : Li
   pub steps-fit : (depth len : ℕ) → wordCount (shapeIn c) depth ≤ len → size (c .props) + depth * (size (length needs + c .props) + size (c .props)) ≤ len
   unfolding stride
   steps-fit depth len h =
-      let e : size (length needs + c .props) ≡ size (c .actions + c .props) = ap (λ (x : ℕ). size (x + c .props)) needs-count in
-      let q : depth * (size (length needs + c .props) + size (c .props)) ≡ depth * (size (c .props) + size (c .actions + c .props)) = ap (λ (x : ℕ). depth * x) (omega arith) in
+      let e : size (length needs + c .props) ≡ size (c .effects + c .props) = ap (λ (x : ℕ). size (x + c .props)) needs-count in
+      let q : depth * (size (length needs + c .props) + size (c .props)) ≡ depth * (size (c .props) + size (c .effects + c .props)) =
+      ap (λ (x : ℕ). depth * x) (omega arith) in
       omega (arith, count-stride (shapeIn c) depth)

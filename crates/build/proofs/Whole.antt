@@ -30,7 +30,8 @@ use Rattle.build.proofs.Repeats.{left-put}
 use Rattle.build.proofs.Listings.{told, deletes, label-inside}
 
 -- layer 0 stands in w₁, the steps that were made in w₂, and all of them in w
-pub graph-made : {file : List ℕ} {c : Counts} {needs adds dels adders interferers : List ℕ} → Taken file c → Read file c needs adds dels adders interferers
+pub graph-made : {file : List ℕ} {c : Counts} {needs adds dels owners adders interferers : List ℕ} → Taken file c
+    → Read file c needs adds dels owners adders interferers
     → (depth all done : ℕ) (S : Shape) (labels t w₀ w₁ w₂ w : List ℕ) → wordCount (shapeIn c) depth ≤ length w₀ → all ≡ first (c .states) → S ≡ shapeIn c
     → labels ≡ listOver rowLength (startLabel (c .states) (startOf file c)) → length w₁ ≡ length w₀ → w₁ ≡ putAt 0 (layerBy (c .props) (cell t)) w₀
     → layerBy (c .props) (cell t) ≡ layerOf (c .props) (λ p. getD labels p 0) (λ p q. 0)
@@ -39,18 +40,19 @@ pub graph-made : {file : List ℕ} {c : Counts} {needs adds dels adders interfer
     → Ended (domain A) all (layerBy (domain A .props) (cell t)) depth w₁ done w₂)
     → w ≡ putAt (wordCount S done) (listOver (wordCount S depth - wordCount S done) (λ i. getD w₂ (wordCount S done - stride S + i % stride S) 0)) w₂
     → w ≡ putAt 0 (graphOf file c depth) w₀
-graph-made {file} {c} {needs} {adds} {dels} {adders} {interferers} taken read depth all done S labels t w₀ w₁ w₂ w room every es are long e el begun steps ew =
+graph-made {file} {c} {needs} {adds} {dels} {owners} {adders} {interferers} taken read depth all done S labels t
+    w₀ w₁ w₂ w room every es are long e el begun steps ew =
     layers-put (domain (actionsOf file c)) (c .states) (startOf file c) depth all (layerBy (domain (actionsOf file c) .props) (cell t)) w₀ w₁ w front every
     (start-is (actionsOf file c) (c .states) (c .props) (startOf file c) labels t (tells .props) el labels-are)
     (e ∙ ap (λ (x : ℕ). putAt 0 (layerBy x (cell t)) w₀) (props-are (actionsOf file c) (c .props) (tells .props)))
-    (left-put (steps (actionsOf file c) tells (deletes file c needs adds dels adders interferers taken read)
+    (left-put (steps (actionsOf file c) tells (deletes file c needs adds dels owners adders interferers taken read)
     (begun (actionsOf file c) all (tells .props) (λ s p h b. ap (bit s) every ∙ label-inside (c .states) (startOf file c) s p _ (labels-are p h) b)))
     (omega (arith, room, ap (λ (S : Shape). wordCount S depth) (shape-is file c), long)) w
     (subst (λ (S : Shape). w ≡ putAt (wordCount S done) (listOver (wordCount S depth - wordCount S done) (λ i. getD w₂ (wordCount S done - stride S + i % stride S) 0)) w₂)
     (es ∙ sym (shape-is file c)) ew))
   where
     tells : Told (actionsOf file c) (c .props) needs adds adders interferers
-    tells = told file c needs adds dels adders interferers taken read
+    tells = told file c needs adds dels owners adders interferers taken read
 
     labels-are : (p : ℕ) → p < c .props → getD labels p 0 ≡ startLabel (c .states) (startOf file c) p
     labels-are p h = ap (λ (l : List ℕ). getD l p 0) are ∙ getD-listOver _ (omega (arith, taken .ranged .props))

@@ -4,6 +4,7 @@ use mathlib.Core.Path.{_≡_}
 use mathlib.Core.List.{List}
 use lib.ListN.{length}
 use Rattle.rules.specs.Lists.{listOver}
+use Rattle.rules.specs.Domain.{condition}
 use Rattle.words.specs.Rows.{rowLength, tableLength, columnsOf}
 use Rattle.together.specs.Interference.{interferersOf}
 use Rattle.graph.specs.Verdict.{Verdict, accepted, turnedAway}
@@ -16,26 +17,28 @@ abbrev pub buildVerdict : BuildAnswer → Verdict ℕ
 buildVerdict (answer.Built words) = accepted words
 buildVerdict (answer.Refused why) = turnedAway why
 
--- what the code asks of the memory that is lent for the sets of the actions: how long each list is, and that no adder is there yet
-pub record Empty (c : Counts) (needs adds dels adders interferers : List ℕ) : Type 0 where
-  pub needs-long : length needs ≡ c .actions
-  pub adds-long : length adds ≡ c .actions
-  pub dels-long : length dels ≡ c .actions
+-- what the code asks of the memory that is lent for the effects: how long each list is, and that no adder is there yet
+pub record Empty (c : Counts) (needs adds dels owners adders interferers : List ℕ) : Type 0 where
+  pub needs-long : length needs ≡ c .effects
+  pub adds-long : length adds ≡ c .effects
+  pub dels-long : length dels ≡ c .effects
+  pub owners-long : length owners ≡ c .effects
   pub adders-long : length adders ≡ c .props
-  pub interferers-long : length interferers ≡ c .actions
+  pub interferers-long : length interferers ≡ c .effects
   pub no-adders : adders ≡ listOver (length adders) (λ p. 0)
 
--- the sets of the file's actions, who adds each proposition, and who interferes with each action
-pub record Read (file : List ℕ) (c : Counts) (needs adds dels adders interferers : List ℕ) : Type 0 where
-  pub needs-are : needs ≡ listOver (c .actions) (actionsOf file c .pre)
-  pub adds-are : adds ≡ listOver (c .actions) (actionsOf file c .add)
-  pub dels-are : dels ≡ listOver (c .actions) (actionsOf file c .del)
+-- the sets of the file's effects and the actions that own them, who adds each proposition, and who interferes with each effect
+pub record Read (file : List ℕ) (c : Counts) (needs adds dels owners adders interferers : List ℕ) : Type 0 where
+  pub needs-are : needs ≡ listOver (c .effects) (condition (actionsOf file c))
+  pub adds-are : adds ≡ listOver (c .effects) (actionsOf file c .add)
+  pub dels-are : dels ≡ listOver (c .effects) (actionsOf file c .del)
+  pub owners-are : owners ≡ listOver (c .effects) (actionsOf file c .owner)
   pub adders-are : adders ≡ columnsOf (c .props) adds
-  pub interferers-are : interferers ≡ listOver (length needs) (interferersOf needs adds dels)
+  pub interferers-are : interferers ≡ listOver (length needs) (interferersOf needs adds dels owners)
 
 -- what the code asks of all memory that a build lends
-pub record Rooms (c : Counts) (needs adds dels adders interferers labels live t r mates besides spare : List ℕ) : Type 0 where
-  pub lists : Empty c needs adds dels adders interferers
+pub record Rooms (c : Counts) (needs adds dels owners adders interferers labels live t r mates besides spare : List ℕ) : Type 0 where
+  pub lists : Empty c needs adds dels owners adders interferers
   pub no-labels : labels ≡ listOver rowLength (λ p. 0)
   pub live-long : length live ≡ rowLength
   pub t-long : length t ≡ tableLength

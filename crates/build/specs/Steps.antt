@@ -9,7 +9,7 @@ use Rattle.rules.specs.Domain.{Domain}
 use Rattle.rules.specs.Layer.{size, wordCount}
 use Rattle.rules.specs.Shared.{propFrom}
 use Rattle.words.specs.Memory.{putAt}
-use Rattle.words.specs.Rows.{rowLength, tableLength, Inside}
+use Rattle.words.specs.Rows.{rowLength, tableLength}
 use Rattle.layers.specs.Step.{Mating, stepWords}
 use Rattle.graph.specs.Limits.{maxDepth}
 use Rattle.graph.specs.Checks.{Small}
@@ -22,9 +22,7 @@ pub record Ended (D : Domain) (all : ℕ) (l : List ℕ) (depth : ℕ) (w₀ : L
 
 -- what the code asks of the lists and tables of a step, and of the memory
 pub record Lent (n width depth : ℕ) (needs adds dels adders interferers labels live t r mates besides spare words : List ℕ) : Type 0 where
-  pub mating : Mating n width needs adds adders interferers live r mates besides spare
-  pub dels-long : length dels ≡ length needs
-  pub deletes : Inside n dels
+  pub mating : Mating n width needs adds dels adders interferers live r mates besides spare
   pub labels-long : length labels ≡ rowLength
   pub t-long : length t ≡ tableLength
   pub deep : depth ≤ maxDepth

@@ -5,7 +5,6 @@ mod steps;
 
 use crate::copies::copy_rest;
 use crate::problem::many_pairs;
-use crate::problem::read_labels;
 use crate::problem::read_problem;
 use crate::problem::width_for;
 use crate::steps::steps_until;
@@ -14,7 +13,8 @@ use graph::file::FileAnswer;
 use graph::file::check_file;
 use graph::format::Counts;
 use graph::layout::word_count;
-use graph::limits::MAX_ACTIONS;
+use graph::limits::MAX_EFFECTS;
+use graph::read::start_labels;
 use graph::refusal::Check;
 use graph::refusal::Refusal;
 use layers::start::start;
@@ -47,6 +47,7 @@ fn build_in(
     needs: &mut [u32],
     adds: &mut [u32],
     dels: &mut [u32],
+    owners: &mut [u8],
     adders: &mut [u64],
     interferers: &mut [u64],
     labels: &mut [u64],
@@ -58,7 +59,7 @@ fn build_in(
     spare: &mut [u64],
 )
     requires { ⌜ Taken (now file) c × (depth ≤ maxDepth) × (wordCount (shapeIn c) depth ≤ length (now words)) ⌝ }
-    requires { ⌜ Rooms c (now needs) (now adds) (now dels) (now adders) (now interferers) (now labels) (now live) (now t) (now r) (now mates) (now besides) (now spare) ⌝ }
+    requires { ⌜ Rooms c (now needs) (now adds) (now dels) (now owners) (now adders) (now interferers) (now labels) (now live) (now t) (now r) (now mates) (now besides) (now spare) ⌝ }
     ensures { λ _. ⌜ now (words .exit) ≡ putAt 0 (graphOf (now (file .entry)) c depth) (now (words .entry)) ⌝ }
 {
     read_problem(
@@ -67,10 +68,11 @@ fn build_in(
         &mut *needs,
         &mut *adds,
         &mut *dels,
+        &mut *owners,
         &mut *adders,
         &mut *interferers,
     );
-    read_labels(file, c, &mut *labels);
+    start_labels(file, c, &mut *labels);
     let n = c.props;
     let width = width_for(c);
     start(&mut *words, &mut *t, &*labels, &*spare, n, width);
@@ -103,10 +105,11 @@ fn build_words(file: &[u8], c: Counts, depth: usize, words: &mut [u64])
     ensures { λ _. ⌜ now (words .exit) ≡ putAt 0 (graphOf (now (file .entry)) c depth) (now (words .entry)) ⌝ }
 {
     let p = c.props;
-    let a = c.actions;
-    let mut needs = [0u32; MAX_ACTIONS];
-    let mut adds = [0u32; MAX_ACTIONS];
-    let mut dels = [0u32; MAX_ACTIONS];
+    let e = c.effects;
+    let mut needs = [0u32; MAX_EFFECTS];
+    let mut adds = [0u32; MAX_EFFECTS];
+    let mut dels = [0u32; MAX_EFFECTS];
+    let mut owners = [0u8; MAX_EFFECTS];
     let mut adders = [0u64; ROW];
     let mut interferers = [0u64; ROW];
     let mut labels = [0u64; ROW];
@@ -121,11 +124,12 @@ fn build_words(file: &[u8], c: Counts, depth: usize, words: &mut [u64])
         c,
         depth,
         words,
-        &mut needs[..a],
-        &mut adds[..a],
-        &mut dels[..a],
+        &mut needs[..e],
+        &mut adds[..e],
+        &mut dels[..e],
+        &mut owners[..e],
         &mut adders[..p],
-        &mut interferers[..a],
+        &mut interferers[..e],
         &mut labels[..],
         &mut live[..],
         &mut t[..],

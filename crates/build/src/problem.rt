@@ -1,72 +1,75 @@
 // What a build reads of the file, once, and how its tables are used.
 use graph::format::Counts;
 use graph::read::added;
+use graph::read::condition;
 use graph::read::deleted;
-use graph::read::precondition;
-use graph::read::start;
+use graph::read::owner;
 use together::interference::interferer_sets;
 use words::columns::columns;
-use words::columns::spread;
-use words::members::single;
 use words::parts::PART;
-use words::sets::Props;
 use words::tables::ROW;
 ghost use mathlib.Core.Path.{_≡_};
 ghost use Prim.Native.Nat.{_*_, _≤_};
 ghost use lib.ListN.{length};
 ghost use Rattle.rules.specs.Lists.{listOver};
-ghost use Rattle.rules.specs.Shared.{startLabel};
+ghost use Rattle.rules.specs.Domain as D;
 ghost use Rattle.words.specs.Rows.{rowLength, InParts};
-ghost use Rattle.graph.specs.Format.{actionsOf, startOf};
+ghost use Rattle.graph.specs.Format.{actionsOf};
 ghost use Rattle.graph.specs.File.{Ranged, Taken};
 ghost use Rattle.build.specs.Rooms.{Empty, Read};
 
-// Pairs for each action from which on rows are less work.
+// Pairs for each effect from which on rows are less work.
 const PAIRS: usize = 9;
 
-// The sets of all actions, into three lists.
-fn read_actions(file: &[u8], c: Counts, needs: &mut [u32], adds: &mut [u32], dels: &mut [u32])
-    requires { ⌜ Taken (now file) c × (length (now needs) ≡ c .actions) × (length (now adds) ≡ c .actions) × (length (now dels) ≡ c .actions) ⌝ }
-    ensures { λ _. ⌜ (now (needs .exit) ≡ listOver (c .actions) (actionsOf (now (file .entry)) c .pre))
-        × (now (adds .exit) ≡ listOver (c .actions) (actionsOf (now (file .entry)) c .add))
-        × (now (dels .exit) ≡ listOver (c .actions) (actionsOf (now (file .entry)) c .del)) ⌝ }
+// The sets of all effects and the actions that own them, into four lists.
+fn read_effects(
+    file: &[u8],
+    c: Counts,
+    needs: &mut [u32],
+    adds: &mut [u32],
+    dels: &mut [u32],
+    owners: &mut [u8],
+)
+    requires { ⌜ Taken (now file) c × (length (now needs) ≡ c .effects) × (length (now adds) ≡ c .effects) × (length (now dels) ≡ c .effects) × (length (now owners) ≡ c .effects) ⌝ }
+    ensures { λ _. ⌜ (now (needs .exit) ≡ listOver (c .effects) (D.condition (actionsOf (now (file .entry)) c)))
+        × (now (adds .exit) ≡ listOver (c .effects) (actionsOf (now (file .entry)) c .add))
+        × (now (dels .exit) ≡ listOver (c .effects) (actionsOf (now (file .entry)) c .del))
+        × (now (owners .exit) ≡ listOver (c .effects) (actionsOf (now (file .entry)) c .owner)) ⌝ }
 {
     for i in 0..needs.len() {
-        needs[i] = precondition(file, c, i);
+        needs[i] = condition(file, c, i);
         adds[i] = added(file, c, i);
         dels[i] = deleted(file, c, i);
+        owners[i] = owner(file, c, i) as u8;
     }
 }
 
-// The actions' sets, the adders of each proposition, and the actions that interfere with each.
+// The effects' sets and actions, the adders of each proposition, and the effects that interfere with each.
 pub fn read_problem(
     file: &[u8],
     c: Counts,
     needs: &mut [u32],
     adds: &mut [u32],
     dels: &mut [u32],
+    owners: &mut [u8],
     adders: &mut [u64],
     interferers: &mut [u64],
 )
-    requires { ⌜ Taken (now file) c × Empty c (now needs) (now adds) (now dels) (now adders) (now interferers) ⌝ }
-    ensures { λ _. ⌜ Read (now (file .entry)) c (now (needs .exit)) (now (adds .exit)) (now (dels .exit)) (now (adders .exit)) (now (interferers .exit)) ⌝ }
+    requires { ⌜ Taken (now file) c × Empty c (now needs) (now adds) (now dels) (now owners) (now adders) (now interferers) ⌝ }
+    ensures { λ _. ⌜ Read (now (file .entry)) c (now (needs .exit)) (now (adds .exit)) (now (dels .exit)) (now (owners .exit)) (now (adders .exit)) (now (interferers .exit)) ⌝ }
 {
-    read_actions(file, c, &mut *needs, &mut *adds, &mut *dels);
+    read_effects(file, c, &mut *needs, &mut *adds, &mut *dels, &mut *owners);
     columns(&mut *adders, &adds[..]);
-    interferer_sets(&needs[..], &adds[..], &dels[..], &mut *interferers);
+    interferer_sets(
+        &needs[..],
+        &adds[..],
+        &dels[..],
+        &owners[..],
+        &mut *interferers,
+    );
 }
 
-// The labels of layer 0, in a row of empty words.
-pub fn read_labels(file: &[u8], c: Counts, labels: &mut [u64])
-    requires { ⌜ Taken (now file) c × (now labels ≡ listOver rowLength (λ p. 0)) ⌝ }
-    ensures { λ _. ⌜ now (labels .exit) ≡ listOver rowLength (startLabel (c .states) (startOf (now (file .entry)) c)) ⌝ }
-{
-    for s in 0..c.states {
-        spread(&mut *labels, Props(start(file, c, s)), single(s));
-    }
-}
-
-// How many actions interfere, counted both ways.
+// How many effects interfere, counted both ways.
 fn count_interferers(interferers: &[u64]) -> usize
     requires { ⌜ length (now interferers) ≤ rowLength ⌝ }
     ensures { λ r. ⌜ r ≤ 64 * length (now (interferers .entry)) ⌝ }
@@ -78,7 +81,7 @@ fn count_interferers(interferers: &[u64]) -> usize
     count
 }
 
-// Whether so many pairs of actions do not interfere that whole rows are less work than pair after pair: measured, nine for each action of a wide problem.
+// Whether so many pairs of effects do not interfere that whole rows are less work than pair after pair: measured, nine for each effect of a wide problem.
 pub fn many_pairs(interferers: &[u64], width: usize) -> bool
     requires { ⌜ (length (now interferers) ≤ rowLength) × (width ≤ rowLength) ⌝ }
 {
@@ -89,12 +92,12 @@ pub fn many_pairs(interferers: &[u64], width: usize) -> bool
 // How many words of a table's rows are in use.
 pub fn width_for(c: Counts) -> usize
     requires { ⌜ Ranged c ⌝ }
-    ensures { λ r. ⌜ InParts r × (c .props ≤ r) × (c .actions ≤ r) ⌝ }
+    ensures { λ r. ⌜ InParts r × (c .props ≤ r) × (c .effects ≤ r) ⌝ }
 {
     if PART < c.props {
         return ROW;
     }
-    if PART < c.actions {
+    if PART < c.effects {
         return ROW;
     }
     PART

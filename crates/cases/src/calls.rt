@@ -43,7 +43,7 @@ use words::sets::Props;
 use words::sets::States;
 
 // Where the list of a run and the goals of a page begin, behind the longest file.
-const LIST: usize = 700;
+const LIST: usize = 900;
 
 // How many sets there are for a plan or a run, and what each holds before it.
 const SETS: usize = 3;

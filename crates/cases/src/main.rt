@@ -16,7 +16,7 @@ use line::number;
 use line::size;
 
 // The byte memory: the file, and from `calls::LIST` on, behind the longest file, a list of 65,536 steps, one more than a run takes.
-const BYTES: usize = 66236;
+const BYTES: usize = 66436;
 
 fn file<'a>(line: &[u8], memory: &'a [u8]) -> &'a [u8] {
     cut(memory, 0, size(line, line::FILE))

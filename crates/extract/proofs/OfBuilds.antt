@@ -29,7 +29,6 @@ use Rattle.graph.specs.declared.format.Counts.{Counts}
 use Rattle.graph.proofs.Verdicts.{then-accepted}
 use Rattle.graph.proofs.Links.{some-states, long-output}
 use Rattle.graph.proofs.Ladder.{taken-means, graph-of}
-use Rattle.graph.proofs.Graphs.{start-small}
 use Rattle.graph.proofs.WithStates.{with-taken, with-built}
 use Rattle.extract.specs.Rule.{extractTaken, extractRule, statesOf}
 use Rattle.extract.proofs.Moves.{rank-le}
@@ -64,7 +63,7 @@ module _ (file : List ℕ) (c : Counts) (set : ℕ) where
   states-inside : Taken file c → Inside (c .props) (statesOf file c set)
   states-inside t j h =
       let l : j < rank set (c .states) = subst (λ (x : ℕ). j < x) states-count h in
-      subst (λ (x : ℕ). x < 2 ^ c .props) (sym (state-is j l)) (start-small file c t (chosen (c .states) set j) (chosen-lt (c .states) set l))
+      subst (λ (x : ℕ). x < 2 ^ c .props) (sym (state-is j l)) (t .start (chosen (c .states) set j) (chosen-lt (c .states) set l))
 
   module _ (e : fileRule file ≡ accepted c) (some : set ≡ 0 → ⊥) (few : set < 2 ^ c .states) where
     has-some : 1 ≤ length (statesOf file c set)

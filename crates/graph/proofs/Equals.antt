@@ -1,67 +1,98 @@
 -- Equal actions: when the rule turns a file away for them, that files with the same actions have the same verdict, and how they are found by their marks.
 -- Assumes nothing.
-use mathlib.Core.Path.{_≡_, sym, ap, ap₂, subst, _∙_}
+use mathlib.Core.Path.{_≡_, refl, sym, ap, ap₂, subst, _∙_}
 use mathlib.Core.Bool.{Bool, So, false}
 use mathlib.Core.Logic.{⊎-elim, by-cases}
 use mathlib.Core.List.{List}
-use Prim.Native.Nat.{ℕ, _+_, _≤_, _<_}
+use Prim.Native.Nat.{ℕ, _+_, _*_, _≤_, _<_}
 use borrow.Author.Count.{below-more}
 use native.Mathlib.Decide.{decLe}
 use native.Mathlib.Omega.{arith}
 use lib.Bits.{bitAnd, bitOr, and-le-l, and-le-r, or-add-and}
 use lib.ListN.{length, getD, set, length-set}
 use lib.Seq.{getD-set-same, getD-set-other}
-use Rattle.rules.specs.Test.{_and_, same, below, choose}
+use Rattle.rules.specs.Test.{_and_, fails, same, below, choose}
 use Rattle.rules.specs.Over.{anyBelow, firstBelow}
 use Rattle.rules.specs.Domain.{Actions, SameActions}
-use Rattle.rules.proofs.Tests.{fails-at, is-fails, holds-or, and-left, and-right, same-of, same-at, below-of, below-not}
+use Rattle.rules.proofs.Tests.{choose-failed, fails-of, fails-at, is-fails, holds-or, and-left, and-right, same-of, same-not, same-at, below-of, below-not}
 use Rattle.rules.proofs.Overs.{any-of, any-at, any-eq}
 use Rattle.rules.proofs.Firsts.{first-eq, first-unique}
-use Rattle.graph.specs.Verdict.{accepted, refused}
-use Rattle.graph.specs.Format.{preAt, addAt, delAt, setAt, actionsOf}
-use Rattle.graph.specs.File.{equalActions, equalsEarlier, firstEqual, equalRule}
+use Rattle.graph.specs.Verdict.{Verdict, accepted, refused, andThen}
+use Rattle.graph.specs.Format.{longHead, setBytes, plainVersion, plain, actionAt, preAt, actionsOf}
+use Rattle.graph.specs.File.{Ranged, ownersRule, actionsRule, equalActions, equalsEarlier, firstEqual, equalRule}
 use Rattle.graph.specs.Marks.{marks, spread, markOf, AllLone, Marked, After}
 use Rattle.graph.specs.declared.format.Counts.{Counts}
+use Rattle.graph.proofs.Verdicts.{then-accepted}
+use Rattle.graph.proofs.Places.{pre-plain}
 
 -- ---- the rule, given the first action that equals an earlier one
 
-module _ (file : List ℕ) (c : Counts) (a : ℕ) (is : a ≡ firstEqual (actionsOf file c)) where
-  pub some-equal : a < c .actions → refused 15 (preAt a) ≡ equalRule file c
-  unfolding equalRule choose
-  some-equal h = simp (sym is, below-of h)
+module _ (file : List ℕ) (c : Counts) where
+  module _ (v : So (plain c)) (a : ℕ) (is : a ≡ firstEqual (actionsOf file c)) where
+    pub some-equal : a < c .actions → refused 15 (actionAt a) ≡ equalRule file c
+    unfolding equalRule choose _and_
+    some-equal h = simp (v, sym is, below-of h, pre-plain c v a)
 
-  pub none-equal : c .actions ≤ a → accepted tt ≡ equalRule file c
-  unfolding equalRule choose
-  none-equal h = simp (sym is, below-not h)
+    pub none-equal : c .actions ≤ a → accepted tt ≡ equalRule file c
+    unfolding equalRule choose _and_
+    none-equal h = simp (v, sym is, below-not h)
+
+  -- in version 2 it is not looked for
+  pub not-sought : So (fails (plain c)) → accepted tt ≡ equalRule file c
+  unfolding equalRule
+  not-sought v = sym (choose-failed _ _ (fails-of (λ t. fails-at v (and-left _ t))))
+
+  -- each version has one of the causes 16 and 15
+  pub equal-alone : accepted tt ≡ ownersRule file c → actionsRule file c ≡ equalRule file c
+  unfolding actionsRule
+  equal-alone o = then-accepted _ _ tt (sym o)
+
+  pub owners-alone : So (fails (plain c)) → actionsRule file c ≡ ownersRule file c
+  unfolding actionsRule andThen
+  owners-alone v = go (ownersRule file c)
+    where
+      go : (o : Verdict (Unit {0})) → andThen o (λ _. equalRule file c) ≡ o
+      go (accepted tt) = sym (not-sought v)
+      go (refused number place) = refl
 
 -- ---- the three sets, one by one
 
-module _ (file : List ℕ) (c : Counts) (b a : ℕ) where
-  pub pre-differs : same (setAt file (preAt b)) (setAt file (preAt a)) ≡ false → false ≡ equalActions (actionsOf file c) b a
-  unfolding equalActions actionsOf _and_
-  pre-differs p = simp p
+module _ (A : Actions) (b a : ℕ) where
+  pub pre-differs : (A .pre b ≡ A .pre a → ⊥) → false ≡ equalActions A b a
+  unfolding equalActions _and_
+  pre-differs p = simp (same-not p)
 
-  pub add-differs : So (same (setAt file (preAt b)) (setAt file (preAt a))) → same (setAt file (addAt b)) (setAt file (addAt a)) ≡ false
-      → false ≡ equalActions (actionsOf file c) b a
-  unfolding equalActions actionsOf _and_
-  add-differs p q = simp (p, q)
+  pub add-differs : A .pre b ≡ A .pre a → (A .add b ≡ A .add a → ⊥) → false ≡ equalActions A b a
+  unfolding equalActions _and_
+  add-differs p q = simp (same-of p, same-not q)
 
-  pub as-deletes : So (same (setAt file (preAt b)) (setAt file (preAt a))) → So (same (setAt file (addAt b)) (setAt file (addAt a)))
-      → same (setAt file (delAt b)) (setAt file (delAt a)) ≡ equalActions (actionsOf file c) b a
-  unfolding equalActions actionsOf _and_
-  as-deletes p q = simp (p, q)
+  pub as-deletes : A .pre b ≡ A .pre a → A .add b ≡ A .add a → same (A .del b) (A .del a) ≡ equalActions A b a
+  unfolding equalActions _and_
+  as-deletes p q = simp (same-of p, same-of q)
 
 -- ---- the same actions
 
-pub equal-same : (file : List ℕ) (c : Counts) (file' : List ℕ) (c' : Counts) → SameActions (actionsOf file c) (actionsOf file' c')
-    → equalRule file c ≡ equalRule file' c'
-unfolding equalRule firstEqual equalsEarlier equalActions actionsOf
-equal-same file c file' c' s =
-    ap₂ (λ (n a : ℕ). choose (below a n) (refused 15 (preAt a)) (accepted tt)) (s .count)
-    (first-eq (c .actions) (λ a h. any-eq a (λ b g.
-    ap₂ (λ (p q : Bool). p and q) (ap₂ same (s .pre b (omega arith)) (s .pre a h))
-    (ap₂ (λ (p q : Bool). p and q) (ap₂ same (s .add b (omega arith)) (s .add a h)) (ap₂ same (s .del b (omega arith)) (s .del a h)))))
-    ∙ ap (λ (n : ℕ). firstBelow n (equalsEarlier (actionsOf file' c'))) (s .count))
+module _ (file : List ℕ) (c : Counts) (file' : List ℕ) (c' : Counts) (s : SameActions (actionsOf file c) (actionsOf file' c')) where
+  firsts-same : c .effects ≡ c .actions → firstEqual (actionsOf file c) ≡ firstEqual (actionsOf file' c')
+  unfolding firstEqual equalsEarlier equalActions actionsOf
+  firsts-same own =
+      first-eq (c .actions) (λ a h. any-eq a (λ b g.
+      ap₂ (λ (p q : Bool). p and q) (ap₂ same (s .pre b (omega arith)) (s .pre a h))
+      (ap₂ (λ (p q : Bool). p and q) (ap₂ same (s .add b (omega arith)) (s .add a (omega arith)))
+      (ap₂ same (s .del b (omega arith)) (s .del a (omega arith))))))
+      ∙ ap (λ (n : ℕ). firstBelow n (equalsEarlier (actionsOf file' c'))) (s .count)
+
+  plainly-same : c .version ≡ c' .version → c .effects ≡ c .actions → equalRule file c ≡ equalRule file' c'
+  unfolding equalRule preAt actionsOf
+  plainly-same v own i =
+      let a : ℕ = firsts-same own i in
+      choose (same (v i) plainVersion and below a (s .count i))
+      (refused 15 (choose (same (v i) plainVersion) (actionAt a) (longHead + setBytes * a))) (accepted tt)
+
+  pub equal-same : Ranged c → c .version ≡ c' .version → equalRule file c ≡ equalRule file' c'
+  equal-same r v =
+      ⊎-elim (λ p. plainly-same v (r .own p))
+      (λ f. sym (not-sought file c f) ∙ not-sought file' c' (subst (λ (x : ℕ). So (fails (same x plainVersion))) v f)) (holds-or (plain c))
 
 -- ---- marks
 

@@ -1,21 +1,20 @@
 -- What an accepted build leaves: memory that begins with the words of the file's graph, so that every law of `rules` about built words holds of it.
 -- Assumes nothing.
-use Prim.Native.Nat.{ℕ, _+_, _*_, _^_, _<_}
+use Prim.Native.Nat.{ℕ}
 use mathlib.Core.Path.{_≡_, refl, sym, ap, subst, _∙_}
 use mathlib.Core.List.{List}
-use native.Mathlib.Omega.{arith}
 use lib.ListN.{length}
 use Rattle.rules.specs.Domain.{shapeOf, domain}
 use Rattle.rules.specs.Layer.{wordCount}
 use Rattle.rules.proofs.Layouts.{Built, built-append, length-graph}
-use Rattle.rules.proofs.Plans.{PreLt}
 use Rattle.graph.specs.Verdict.{Verdict, accepted, laid}
-use Rattle.graph.specs.Format.{headBytes, setBytes, setAt, actionsOf, startOf, domainOf, shapeIn}
+use Rattle.graph.specs.Format.{actionsOf, startOf, domainOf, shapeIn}
 use Rattle.graph.specs.File.{Taken, fileRule}
 use Rattle.graph.specs.Checks.{Passed}
 use Rattle.graph.specs.Build.{graphOf, buildTaken, buildRule}
 use Rattle.graph.specs.declared.format.Counts.{Counts}
-use Rattle.graph.proofs.Ladder.{passed-then, accepted-is, taken-means, graph-means}
+use Rattle.graph.proofs.Verdicts.{passed-then, accepted-is}
+use Rattle.graph.proofs.Ladder.{taken-means, graph-means}
 
 -- the file's graph has the shape of its counts
 pub shape-is : (file : List ℕ) (c : Counts) → shapeOf (domainOf file c) ≡ shapeIn c
@@ -56,17 +55,3 @@ build-built file depth memory words e =
     let a = build-means file depth (length memory) words e in
     subst (Built (domainOf file (a .counts)) (a .counts .states) (startOf file (a .counts)) depth)
     (sym (ap (λ (v : Verdict (List ℕ)). laid v memory) (e ∙ ap accepted (a .are)))) (built-append _ _ _ _ _)
-
--- a taken file's sets are sets of its propositions
-module _ (file : List ℕ) (c : Counts) (t : Taken file c) where
-  pub pre-small : PreLt (actionsOf file c)
-  unfolding actionsOf
-  pre-small a h =
-      let e : headBytes + setBytes * (3 * a) ≡ 8 + 12 * a = omega arith in
-      subst (λ (x : ℕ). setAt file x < 2 ^ c .props) e (t .sets (3 * a) (omega arith))
-
-  pub start-small : (s : ℕ) → s < c .states → startOf file c s < 2 ^ c .props
-  unfolding startOf
-  start-small s h =
-      let e : headBytes + setBytes * (3 * c .actions + s) ≡ 8 + 12 * c .actions + 4 * s = omega arith in
-      subst (λ (x : ℕ). setAt file x < 2 ^ c .props) e (t .sets (3 * c .actions + s) (omega arith))

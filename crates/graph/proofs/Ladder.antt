@@ -2,113 +2,103 @@
 -- Assumes nothing.
 use mathlib.Core.Path.{_≡_, refl, sym, ap, subst, _∙_}
 use mathlib.Core.Bool.{Bool, true, false, So}
+use mathlib.Core.Logic.{⊎-elim}
 use mathlib.Core.List.{List}
-use Prim.Native.Nat.{ℕ, zero, suc, _+_, _*_, _^_, _≤_, _<_}
-use native.Mathlib.Nat.{not-suc-le-zero}
+use Prim.Native.Nat.{ℕ, _^_, _≤_, _<_}
 use native.Mathlib.Omega.{arith}
-use lib.ListN.{length}
-use Rattle.rules.specs.Test.{_and_, _or_, fails, choose}
+use lib.ListN.{length, getD}
+use Rattle.rules.specs.Test.{_or_, fails, same, choose}
 use Rattle.rules.specs.Layer.{wordCount}
-use Rattle.rules.proofs.Tests.{fails-of, fails-at, or-left, or-right, same-of, same-at, below-at, below-fails}
+use Rattle.rules.proofs.Tests.{choose-held, choose-failed, fails-of, fails-at, or-left, or-right, or-at, holds-or, same-of, same-at, below-at, below-fails}
 use Rattle.graph.specs.Limits.{maxDepth}
 use Rattle.graph.specs.Verdict.{Verdict, accepted, refused, andThen}
-use Rattle.graph.specs.Format.{headBytes, setBytes, setAt, letters, version, countsIn, rightLength, setCount, shapeIn}
-use Rattle.graph.specs.File.{Ranged, Taken, headRule, versionRule, countsRule, lengthRule, setsFrom, setsRule, equalRule, fileRule}
+use Rattle.graph.specs.Format.{headBytes, longHead, plainVersion, effectsVersion, actionsOffset, effectsOffset, effectsPlace, letters, version, countsIn, rightLength}
+use Rattle.graph.specs.Format.{actionsOf, shapeIn}
+use Rattle.graph.specs.File.{Ranged, Taken, headOf, headRule, versionRule, countsRule, lengthRule, setsRule, ownersRule, equalRule, actionsRule, fileRule}
 use Rattle.graph.specs.Checks.{Small, Passed, depthRule, setRule, goalRule, memoryRule, outputRule, askedRule, graphRule}
 use Rattle.graph.specs.declared.format.Counts.{Counts}
-use Rattle.graph.proofs.Verdicts.{then-refused, then-accepted}
+use Rattle.graph.proofs.Verdicts.{then-refused, then-accepted, passed-if-not, passed-if, passed-then, accepted-is}
+use Rattle.graph.proofs.Owners.{owners-mean}
+use Rattle.graph.proofs.Files.{Fits, pass-fits, pre-fits, when-fits, add-fits, del-fits, start-fits}
 use Rattle.graph.proofs.Links.{deep-enough, long-memory}
-
--- ---- a check that was passed
-
-module _ {X : Type 0} (b : Bool) (n p : ℕ) (v : Verdict X) (x : X) where
-  pub passed-if-not : choose b (refused n p) v ≡ accepted x → So (fails b) × (v ≡ accepted x)
-  unfolding choose fails
-  passed-if-not e = go b e
-    where
-      go : (b : Bool) → choose b (refused n p) v ≡ accepted x → So (fails b) × (v ≡ accepted x)
-      go true e = (cc, cc)
-      go false e = (refl, e)
-
-  pub passed-if : choose b v (refused n p) ≡ accepted x → So b × (v ≡ accepted x)
-  unfolding choose
-  passed-if e = go b e
-    where
-      go : (b : Bool) → choose b v (refused n p) ≡ accepted x → So b × (v ≡ accepted x)
-      go true e = (refl, e)
-      go false e = (cc, cc)
 
 so-at : (a : Bool) → So (fails (fails a)) → So a
 unfolding fails
 so-at true t = refl
 so-at false t = t
 
+-- of two of which the first fails
+or-second : (a : Bool) {b : Bool} → So (fails a) → So (a or b) → So b
+or-second a f t = ⊎-elim (λ s. absurd (fails-at f s)) (λ s. s) (or-at t)
+
 neither : (a b : Bool) → So (fails (a or b)) → So (fails a) × So (fails b)
 neither a b t = (fails-of (λ s. fails-at t (or-left b s)), fails-of (λ s. fails-at t (or-right a s)))
 
--- a chain of checks was passed one by one
-pub passed-then : {X Y : Type 0} (v : Verdict X) (next : X → Verdict Y) (y : Y) → andThen v next ≡ accepted y
-    → (x : X) × (v ≡ accepted x) × (next x ≡ accepted y)
-unfolding andThen
-passed-then (accepted x) next y e = (x, refl, e)
-passed-then (refused number place) next y e = absurd (let z : _≡_ {A = ℕ} 0 1 = cc in omega arith)
-
-pub accepted-is : {X : Type 0} (x y : X) → accepted x ≡ accepted y → x ≡ y
-accepted-is x y e = cc
-
 -- ---- the links of a file
 
-pub head-means : (file : List ℕ) → headRule file ≡ accepted tt → (headBytes ≤ length file) × So (letters file)
+-- what the head says
+pub record Headed (file : List ℕ) : Type 0 where
+  pub bytes : headBytes ≤ length file
+  pub letters : So (letters file)
+  pub whole : headOf (version file) ≤ length file
+
+pub head-means : (file : List ℕ) → headRule file ≡ accepted tt → Headed file
 unfolding headRule
 head-means file e =
-    let (short, none) = neither _ _ (passed-if-not _ _ _ _ _ e .0) in
-    (below-fails short, so-at _ none)
+    let (short, more) = neither _ _ (passed-if-not _ _ _ _ _ e .0) in
+    let (none, shorter) = neither _ _ more in
+    record { bytes = below-fails short; letters = so-at _ none; whole = below-fails shorter }
 
-pub version-means : (file : List ℕ) → versionRule file ≡ accepted tt → version file ≡ 1
+pub version-means : (file : List ℕ) → versionRule file ≡ accepted tt → So (same (version file) plainVersion or same (version file) effectsVersion)
 unfolding versionRule
-version-means file e = same-at (passed-if _ _ _ _ _ e .0)
+version-means file e = passed-if _ _ _ _ _ e .0
 
-pub counts-mean : (c : Counts) → countsRule c ≡ accepted tt → Ranged c
-unfolding countsRule
-counts-mean c e =
+-- the number of effects stands in the head
+pub effects-inside : (file : List ℕ) → headRule file ≡ accepted tt → versionRule file ≡ accepted tt
+    → effectsPlace (version file) < length file
+unfolding headOf effectsPlace
+effects-inside file h v =
+    let headed = head-means file h in
+    ⊎-elim
+    (λ t. omega (arith, choose-held {b = same (version file) plainVersion} {x = actionsOffset} effectsOffset t, headed .bytes))
+    (λ f. omega (
+      arith,
+      choose-failed (same (version file) plainVersion) actionsOffset {y = effectsOffset} f,
+      headed .whole,
+      choose-held {b = same (version file) effectsVersion} {x = longHead} headBytes (or-second _ f (version-means file v)),
+    ))
+    (holds-or (same (version file) plainVersion))
+
+pub counts-mean : (file : List ℕ) → countsRule (countsIn file) ≡ accepted tt → Ranged (countsIn file)
+unfolding countsRule countsIn effectsPlace
+counts-mean file e =
     let (p, e₁) = passed-if-not _ _ _ _ _ e in
     let (a, e₂) = passed-if-not _ _ _ _ _ e₁ in
     let (n, e₃) = passed-if-not _ _ _ _ _ e₂ in
+    let (f, e₄) = passed-if-not _ _ _ _ _ e₃ in
     let (p₁, p₂) = neither _ _ p in
     let (n₁, n₂) = neither _ _ n in
     record {
       some-props = below-fails p₁;
       props = below-fails p₂;
       actions = below-fails a;
+      effects = below-fails f;
       some-states = below-fails n₁;
       states = below-fails n₂;
+      own = λ v. ap (λ (x : ℕ). getD file x 0) (choose-held _ v);
     }
 
 -- so a graph of the file is small
 pub small-of : (c : Counts) → Ranged c → Small (shapeIn c)
-small-of c r = record { props = r .props; vertices = omega (arith, r .props, r .actions) }
+small-of c r = record { props = r .props; vertices = omega (arith, r .props, r .effects) }
 
 pub length-means : (file : List ℕ) (c : Counts) → lengthRule file c ≡ accepted tt → length file ≡ rightLength c
 unfolding lengthRule
 length-means file c e = same-at (passed-if _ _ _ _ _ e .0)
 
-from-mean : (file : List ℕ) (props left at : ℕ) → setsFrom file props left at ≡ accepted tt
-    → (i : ℕ) → i < left → setAt file (at + setBytes * i) < 2 ^ props
-unfolding setsFrom
-from-mean file props zero at e = λ i h. absurd (not-suc-le-zero h)
-from-mean file props (suc left) at e =
-    let (t, r) = passed-if _ _ _ _ _ e in
-    each (below-at t) (from-mean file props left (at + setBytes) r)
-  where
-    each : setAt file at < 2 ^ props → ((i : ℕ) → i < left → setAt file (at + setBytes + setBytes * i) < 2 ^ props)
-        → (i : ℕ) → i < suc left → setAt file (at + setBytes * i) < 2 ^ props
-    each here more zero h = subst (λ (x : ℕ). setAt file x < 2 ^ props) (omega arith) here
-    each here more (suc i) h = subst (λ (x : ℕ). setAt file x < 2 ^ props) (omega arith) (more i (omega arith))
-
-pub sets-mean : (file : List ℕ) (c : Counts) → setsRule file c ≡ accepted tt
-    → (i : ℕ) → i < setCount c → setAt file (headBytes + setBytes * i) < 2 ^ c .props
-unfolding setsRule
-sets-mean file c e = from-mean file (c .props) (setCount c) headBytes e
+pub actions-mean : (file : List ℕ) (c : Counts) → actionsRule file c ≡ accepted tt → (ownersRule file c ≡ accepted tt) × (equalRule file c ≡ accepted tt)
+unfolding actionsRule
+actions-mean file c e = let (u, o, q) = passed-then _ _ tt e in (o, q)
 
 -- the first link that turns the file away, with those before it passed
 module _ (file : List ℕ) (n p : ℕ) where
@@ -138,9 +128,9 @@ module _ (file : List ℕ) (n p : ℕ) where
               then-accepted _ _ tt h ∙ then-accepted _ _ tt v ∙ then-accepted _ _ tt k ∙ then-accepted _ _ tt l ∙ then-refused _ _ n p e
 
           module _ (s : setsRule file (countsIn file) ≡ accepted tt) where
-            pub by-equal : equalRule file (countsIn file) ≡ refused n p → fileRule file ≡ refused n p
+            pub by-actions : actionsRule file (countsIn file) ≡ refused n p → fileRule file ≡ refused n p
             unfolding fileRule
-            by-equal e =
+            by-actions e =
                 then-accepted _ _ tt h ∙ then-accepted _ _ tt v ∙ then-accepted _ _ tt k ∙ then-accepted _ _ tt l ∙ then-accepted _ _ tt s
                 ∙ then-refused _ _ n p e
 
@@ -153,7 +143,7 @@ pub record Linked (file : List ℕ) (c : Counts) : Type 0 where
   pub counts : countsRule (countsIn file) ≡ accepted tt
   pub length : lengthRule file (countsIn file) ≡ accepted tt
   pub sets : setsRule file (countsIn file) ≡ accepted tt
-  pub equal : equalRule file (countsIn file) ≡ accepted tt
+  pub actions : actionsRule file (countsIn file) ≡ accepted tt
   pub are : c ≡ countsIn file
 
 pub taken-linked : (file : List ℕ) (c : Counts) → fileRule file ≡ accepted c → Linked file c
@@ -164,23 +154,30 @@ taken-linked file c e =
     let (u₃, n, e₃) = passed-then _ _ c e₂ in
     let (u₄, l, e₄) = passed-then _ _ c e₃ in
     let (u₅, s, e₅) = passed-then _ _ c e₄ in
-    let (u₆, q, e₆) = passed-then _ _ c e₅ in
-    record { head = h; version = v; counts = n; length = l; sets = s; equal = q; are = sym (accepted-is _ _ e₆) }
+    let (u₆, a, e₆) = passed-then _ _ c e₅ in
+    record { head = h; version = v; counts = n; length = l; sets = s; actions = a; are = sym (accepted-is _ _ e₆) }
 
 -- a file whose links are all passed is taken
 pub linked-taken : (file : List ℕ) (c : Counts) → Linked file c → fileRule file ≡ accepted c
 unfolding fileRule
 linked-taken file c l =
     then-accepted _ _ tt (l .head) ∙ then-accepted _ _ tt (l .version) ∙ then-accepted _ _ tt (l .counts)
-    ∙ then-accepted _ _ tt (l .length) ∙ then-accepted _ _ tt (l .sets) ∙ then-accepted _ _ tt (l .equal) ∙ ap accepted (sym (l .are))
+    ∙ then-accepted _ _ tt (l .length) ∙ then-accepted _ _ tt (l .sets) ∙ then-accepted _ _ tt (l .actions)
+    ∙ ap accepted (sym (l .are))
 
 pub taken-means : (file : List ℕ) (c : Counts) → fileRule file ≡ accepted c → Taken file c
+unfolding actionsOf
 taken-means file c e =
     let l = taken-linked file c e in
+    let r : Ranged (countsIn file) = counts-mean file (l .counts) in
+    let f : Fits file (countsIn file) = pass-fits file _ (l .sets) in
     subst (λ (x : Counts). Taken file x) (sym (l .are)) (record {
-      ranged = counts-mean _ (l .counts);
+      ranged = r;
       long = length-means file _ (l .length);
-      sets = sets-mean file _ (l .sets);
+      sound = record { pre = pre-fits file _ r f; when = when-fits file _ r f; owner = owners-mean file _ (actions-mean file _ (l .actions) .0) };
+      add = add-fits file _ r f;
+      del = del-fits file _ r f;
+      start = start-fits file _ r f;
       counts = refl;
     })
 

@@ -1,6 +1,6 @@
 -- What each link of the chain of checks comes to, given its tests.
 -- Assumes nothing.
-use Prim.Native.Nat.{ℕ, _+_, _*_, _^_, _≤_, _<_}
+use Prim.Native.Nat.{ℕ, _^_, _≤_, _<_}
 use mathlib.Core.Path.{_≡_}
 use mathlib.Core.Bool.{true, false}
 use mathlib.Core.List.{List}
@@ -8,10 +8,10 @@ use lib.ListN.{length, getD}
 use Rattle.rules.specs.Test.{_and_, _or_, fails, same, choose}
 use Rattle.rules.proofs.Tests.{same-of, same-not, below-of, below-not}
 use Rattle.words.specs.Width.{propWidth, stateWidth}
-use Rattle.graph.specs.Limits.{maxActions, maxDepth}
+use Rattle.graph.specs.Limits.{maxActions, maxEffects, maxDepth}
 use Rattle.graph.specs.Verdict.{accepted, refused}
-use Rattle.graph.specs.Format.{headBytes, letters, version, rightLength}
-use Rattle.graph.specs.File.{Ranged, headRule, versionRule, countsRule, lengthRule}
+use Rattle.graph.specs.Format.{headBytes, plainVersion, effectsVersion, letters, version, rightLength}
+use Rattle.graph.specs.File.{headOf, headRule, versionRule, countsRule, lengthRule}
 use Rattle.graph.specs.Checks.{depthRule, setRule, goalRule, memoryRule, outputRule}
 use Rattle.graph.specs.declared.format.Counts.{Counts}
 
@@ -45,21 +45,25 @@ module _ (file : List ℕ) where
   unfolding headRule choose fails _or_
   no-letters h s = simp (below-not h, s)
 
-  pub headed : headBytes ≤ length file → letters file ≡ true → accepted tt ≡ headRule file
+  pub short-head : headBytes ≤ length file → letters file ≡ true → length file < headOf (version file) → refused 1 0 ≡ headRule file
   unfolding headRule choose fails _or_
-  headed h s = simp (below-not h, s)
+  short-head h s l = simp (below-not h, s, below-of l)
 
-  pub other-version : (version file ≡ 1 → ⊥) → refused 2 3 ≡ versionRule file
-  unfolding versionRule choose
-  other-version v = simp (same-not v)
+  pub headed : headBytes ≤ length file → letters file ≡ true → headOf (version file) ≤ length file → accepted tt ≡ headRule file
+  unfolding headRule choose fails _or_
+  headed h s l = simp (below-not h, s, below-not l)
 
-  pub right-version : version file ≡ 1 → accepted tt ≡ versionRule file
-  unfolding versionRule choose
-  right-version v = simp (same-of v)
+  pub version-1 : version file ≡ plainVersion → accepted tt ≡ versionRule file
+  unfolding versionRule choose _or_
+  version-1 v = simp (same-of v)
 
-  pub version-is : (v : ℕ) → v ≡ getD file 3 0 + 256 * getD file 4 0 → v ≡ version file
-  unfolding version
-  version-is v e = e
+  pub version-2 : (version file ≡ plainVersion → ⊥) → version file ≡ effectsVersion → accepted tt ≡ versionRule file
+  unfolding versionRule choose _or_
+  version-2 n v = simp (same-not n, same-of v)
+
+  pub other-version : (version file ≡ plainVersion → ⊥) → (version file ≡ effectsVersion → ⊥) → refused 2 3 ≡ versionRule file
+  unfolding versionRule choose _or_
+  other-version n v = simp (same-not n, same-not v)
 
   module _ (c : Counts) where
     pub wrong-length : (length file ≡ rightLength c → ⊥) → refused 4 (rightLength c) ≡ lengthRule file c
@@ -100,15 +104,27 @@ module _ (c : Counts) where
         below-of m,
       )
 
-  pub counted : Ranged c → accepted tt ≡ countsRule c
-  unfolding countsRule choose _or_
-  counted r = simp (
-    below-not (r .some-props),
-    below-not (r .props),
-    below-not (r .actions),
-    below-not (r .some-states),
-    below-not (r .states),
-  )
+      pub many-effects : 1 ≤ c .states → c .states ≤ stateWidth → maxEffects < c .effects → refused 3 8 ≡ countsRule c
+      unfolding countsRule choose _or_
+      many-effects j m f = simp (
+        below-not h,
+        below-not k,
+        below-not i,
+        below-not j,
+        below-not m,
+        below-of f,
+      )
+
+      pub counted : 1 ≤ c .states → c .states ≤ stateWidth → c .effects ≤ maxEffects → accepted tt ≡ countsRule c
+      unfolding countsRule choose _or_
+      counted j m f = simp (
+        below-not h,
+        below-not k,
+        below-not i,
+        below-not j,
+        below-not m,
+        below-not f,
+      )
 
 -- ---- causes 6 to 10
 

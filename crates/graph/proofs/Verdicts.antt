@@ -1,10 +1,13 @@
 -- What a call's verdict comes to, stage by stage: the answer and the memory together.
 -- Assumes nothing.
 use Prim.Native.Nat.{ℕ, _+_}
-use mathlib.Core.Path.{_≡_, sym, ap, _∙_}
+use mathlib.Core.Path.{_≡_, refl, sym, ap, _∙_}
+use mathlib.Core.Bool.{Bool, true, false, So}
 use mathlib.Core.List.{List, _++_}
 use native.Mathlib.Nat.{zero-add}
+use native.Mathlib.Omega.{arith}
 use lib.ListN.{length, drop}
+use Rattle.rules.specs.Test.{fails, choose}
 use Rattle.graph.specs.Verdict.{Verdict, accepted, refused, andThen, laid, written}
 use Rattle.words.specs.Memory.{putAt}
 
@@ -20,6 +23,34 @@ then-refused v next number place e = ap (λ (x : Verdict _). andThen x next) e
 pub then-accepted : {X Y : Type 0} (v : Verdict X) (next : X → Verdict Y) (x : X) → v ≡ accepted x → andThen v next ≡ next x
 unfolding andThen
 then-accepted v next x e = ap (λ (y : Verdict _). andThen y next) e
+
+-- a check that was passed
+module _ {X : Type 0} (b : Bool) (n p : ℕ) (v : Verdict X) (x : X) where
+  pub passed-if-not : choose b (refused n p) v ≡ accepted x → So (fails b) × (v ≡ accepted x)
+  unfolding choose fails
+  passed-if-not e = go b e
+    where
+      go : (b : Bool) → choose b (refused n p) v ≡ accepted x → So (fails b) × (v ≡ accepted x)
+      go true e = (cc, cc)
+      go false e = (refl, e)
+
+  pub passed-if : choose b v (refused n p) ≡ accepted x → So b × (v ≡ accepted x)
+  unfolding choose
+  passed-if e = go b e
+    where
+      go : (b : Bool) → choose b v (refused n p) ≡ accepted x → So b × (v ≡ accepted x)
+      go true e = (refl, e)
+      go false e = (cc, cc)
+
+-- a chain of checks was passed one by one
+pub passed-then : {X Y : Type 0} (v : Verdict X) (next : X → Verdict Y) (y : Y) → andThen v next ≡ accepted y
+    → (x : X) × (v ≡ accepted x) × (next x ≡ accepted y)
+unfolding andThen
+passed-then (accepted x) next y e = (x, refl, e)
+passed-then (refused number place) next y e = absurd (let z : _≡_ {A = ℕ} 0 1 = cc in omega arith)
+
+pub accepted-is : {X : Type 0} (x y : X) → accepted x ≡ accepted y → x ≡ y
+accepted-is x y e = cc
 
 -- turned away: the number and the place, and no word changes
 pub laid-refused : (v : Verdict (List ℕ)) (number place : ℕ) (w : List ℕ) → v ≡ refused number place → (refused number place ≡ written v) × (w ≡ laid v w)

@@ -1,6 +1,7 @@
 -- The file with other start states: it is taken, with the same actions and just these start states, and so is its build.
 -- Assumes nothing.
 use mathlib.Core.Path.{_≡_, refl, sym, ap, ap₂, subst, _∙_}
+use mathlib.Core.Bool.{Bool, So}
 use mathlib.Core.Logic.{⊎-elim}
 use mathlib.Core.List.{List, _∷_, _++_}
 use Prim.Native.Nat.{ℕ, suc, _+_, _-_, _*_, _/_, _%_, _^_, _≤_, _<_}
@@ -9,29 +10,32 @@ use native.Mathlib.Omega.{arith}
 use lib.ListN.{length, getD, take, drop, length-append, length-drop, List·getD-append}
 use lib.Pow.{pow-mono}
 use lib.Seq.{length-take-le, getD-take, getD-drop, getD-append-add}
-use Rattle.rules.specs.Test.{_and_, _or_, same, below}
+use Rattle.rules.specs.Test.{_and_, _or_, fails, same, choose}
 use Rattle.rules.specs.Lists.{runOver}
 use Rattle.rules.specs.Domain.{SameActions, Domain}
 use Rattle.rules.specs.Layer.{wordCount}
 use Rattle.rules.specs.Shared.{graphWords}
-use Rattle.rules.proofs.Tests.{holds-or, below-at, below-fails}
+use Rattle.rules.proofs.Tests.{choose-held, choose-failed, holds-or, same-at}
 use Rattle.rules.proofs.Layers.{length-runOver, run-split}
 use Rattle.rules.proofs.SameDomains.{domain-same}
 use Rattle.rules.proofs.Leaks.{graph-eq}
 use Rattle.words.specs.Width.{propWidth, stateWidth}
 use Rattle.words.specs.Rows.{Inside}
 use Rattle.graph.specs.Limits.{maxDepth}
-use Rattle.graph.specs.Verdict.{accepted}
-use Rattle.graph.specs.Format.{headBytes, setBytes, statesOffset, setAt, bytesOf, letters, version, countsIn, preAt, addAt, delAt, statesAt}
-use Rattle.graph.specs.Format.{stateAt, rightLength, setCount, actionsOf, startOf, domainOf, shapeIn, withCount, beforeStates, withStates}
-use Rattle.graph.specs.File.{Ranged, Taken, countsRule, lengthRule, setsRule, equalRule, fileRule}
+use Rattle.graph.specs.Verdict.{Verdict, accepted, refused, andThen}
+use Rattle.graph.specs.Format.{headBytes, longHead, plainVersion, effectsVersion, setBytes, actionsOffset, effectsOffset, effectsPlace, statesOffset, setAt, bytesOf}
+use Rattle.graph.specs.Format.{letters, version, countsIn, plain, effectAt, whenAt, preAt, setsAt, addAt, delAt, statesAt, stateAt, rightLength}
+use Rattle.graph.specs.Format.{actionsOf, startOf, domainOf, shapeIn, withCount, beforeStates, withStates}
+use Rattle.graph.specs.File.{Ranged, Taken, headOf, versionRule, countsRule, lengthRule, setsRule, actionsRule, fileRule}
 use Rattle.graph.specs.Build.{graphOf, buildTaken, buildRule}
 use Rattle.graph.specs.declared.format.Counts.{Counts}
 use Rattle.graph.proofs.Verdicts.{then-accepted}
-use Rattle.graph.proofs.Links.{headed, right-version, counted, right-length}
-use Rattle.graph.proofs.Files.{each-passes}
+use Rattle.graph.proofs.Places.{states-plain, not-plain, states-long, pre-before, sets-before, pre-behind, sets-behind, states-behind}
+use Rattle.graph.proofs.Links.{headed, counted, right-length}
+use Rattle.graph.proofs.Files.{Fits, fits-pass, pass-fits}
 use Rattle.graph.proofs.Equals.{equal-same}
-use Rattle.graph.proofs.Ladder.{head-means, version-means, taken-linked, linked-taken, taken-means, graph-of}
+use Rattle.graph.proofs.Owners.{owners-same}
+use Rattle.graph.proofs.Ladder.{head-means, taken-linked, linked-taken, taken-means, graph-of}
 
 -- ---- the same actions
 
@@ -48,16 +52,22 @@ set-same f g end bytes at l h = omega (
 )
 
 -- so two files have the same actions whose bytes from the head to the start states are the same
-pub bytes-same : (file : List ℕ) (c : Counts) (file' : List ℕ) (c' : Counts) → c .props ≡ c' .props → c .actions ≡ c' .actions
-    → ((i : ℕ) → headBytes ≤ i → i < statesAt c → getD file i 0 ≡ getD file' i 0) → SameActions (actionsOf file c) (actionsOf file' c')
-unfolding actionsOf
-bytes-same file c file' c' p a bytes = record {
-  props = p;
-  count = a;
-  pre = λ v h. set-same file file' (statesAt c) bytes (preAt v) (omega arith) (omega arith);
-  add = λ v h. set-same file file' (statesAt c) bytes (addAt v) (omega arith) (omega arith);
-  del = λ v h. set-same file file' (statesAt c) bytes (delAt v) (omega arith) (omega arith);
+pub bytes-same : (file : List ℕ) (c : Counts) (file' : List ℕ) (n : ℕ) → Ranged c
+    → ((i : ℕ) → headBytes ≤ i → i < statesAt c → getD file' i 0 ≡ getD file i 0) → SameActions (actionsOf file' (withCount c n)) (actionsOf file c)
+unfolding actionsOf withCount preAt setsAt
+bytes-same file c file' n r bytes = record {
+  props = refl;
+  count = refl;
+  pre = λ a h. set-same file' file (statesAt c) bytes (preAt c a) (pre-behind c r a) (pre-before c r h);
+  effects = refl;
+  owner = λ e h. choose-same-2 (plain c) e (λ v. bytes (effectAt c e) (omega arith) (omega (arith, states-long c v)));
+  when = λ e h. choose-same-2 (plain c) 0 (λ v. set-same file' file (statesAt c) bytes (whenAt c e) (omega arith) (omega (arith, states-long c v)));
+  add = λ e h. set-same file' file (statesAt c) bytes (addAt c e) (omega (arith, sets-behind c r e)) (omega (arith, sets-before c r h));
+  del = λ e h. set-same file' file (statesAt c) bytes (delAt c e) (omega (arith, sets-behind c r e)) (omega (arith, sets-before c r h));
 }
+  where
+    choose-same-2 : (b : Bool) (x : ℕ) {y z : ℕ} → (So (fails b) → y ≡ z) → choose b x y ≡ choose b x z
+    choose-same-2 b x e = ⊎-elim (λ t. choose-held _ t ∙ sym (choose-held _ t)) (λ f. ap (λ (w : ℕ). choose b x w) (e f)) (holds-or b)
 
 -- ---- a build that is accepted
 
@@ -80,7 +90,7 @@ set-of-bytes f at x h e₀ e₁ e₂ e₃ =
 
 -- ---- the bytes of the file
 
-module _ (file : List ℕ) (c : Counts) (sets : List ℕ) (long : length file ≡ rightLength c) where
+module _ (file : List ℕ) (c : Counts) (sets : List ℕ) (r : Ranged c) (long : length file ≡ rightLength c) where
   abbrev m : ℕ
   m = length sets
 
@@ -91,20 +101,20 @@ module _ (file : List ℕ) (c : Counts) (sets : List ℕ) (long : length file �
   rest = m ∷ take (statesAt c - headBytes) (drop headBytes file)
 
   front-length : length (take statesOffset file) ≡ statesOffset
-  front-length = length-take-le statesOffset file (omega (arith, long))
+  front-length = length-take-le statesOffset file (omega (arith, long, states-behind c r))
 
   before-length : length (beforeStates file c m) ≡ statesAt c
   unfolding beforeStates
   before-length =
       length-append (take statesOffset file) rest
-      ∙ omega (arith, front-length, length-take-le (statesAt c - headBytes) (drop headBytes file) (omega (arith, length-drop headBytes file, long)))
+      ∙ omega (arith, front-length, length-take-le (statesAt c - headBytes) (drop headBytes file) (omega (arith, length-drop headBytes file, long, states-behind c r)), states-behind c r)
 
   starts-length : (s : ℕ) → s < m → length (starts s) ≡ setBytes
   unfolding bytesOf
   starts-length s h = refl
 
   with-length : length (withStates file c sets) ≡ rightLength (withCount c m)
-  unfolding withStates withCount
+  unfolding withStates withCount statesAt
   with-length =
       length-append (beforeStates file c m) (runOver m starts)
       ∙ omega (arith, before-length, length-runOver starts m starts-length)
@@ -116,13 +126,13 @@ module _ (file : List ℕ) (c : Counts) (sets : List ℕ) (long : length file �
   byte-front : (i : ℕ) → i < statesOffset → getD (withStates file c sets) i 0 ≡ getD file i 0
   unfolding beforeStates
   byte-front i h =
-      in-before i (omega arith) ∙ List·getD-append (take statesOffset file) rest 0 i (omega (arith, front-length))
+      in-before i (omega (arith, states-behind c r)) ∙ List·getD-append (take statesOffset file) rest 0 i (omega (arith, front-length))
       ∙ getD-take statesOffset file i 0 h
 
   byte-count : getD (withStates file c sets) statesOffset 0 ≡ m
   unfolding beforeStates
   byte-count =
-      in-before statesOffset (omega arith)
+      in-before statesOffset (omega (arith, states-behind c r))
       ∙ ap (λ (x : ℕ). getD (beforeStates file c m) (x + 0) 0) (sym front-length)
       ∙ getD-append-add (take statesOffset file) rest 0 0
 
@@ -162,47 +172,90 @@ module _ (file : List ℕ) (c : Counts) (sets : List ℕ) (e : fileRule file ≡
   taken : Taken file c
   taken = taken-means file c e
 
+  byte-before : (i : ℕ) → i < statesOffset → getD (withStates file c sets) i 0 ≡ getD file i 0
+  byte-before = byte-front file c sets (taken .ranged) (taken .long)
+
+  byte-behind : (i : ℕ) → headBytes ≤ i → i < statesAt c → getD (withStates file c sets) i 0 ≡ getD file i 0
+  byte-behind = byte-action file c sets (taken .ranged) (taken .long)
+
   pub with-actions : SameActions (actionsOf (withStates file c sets) (withCount c (length sets))) (actionsOf file c)
-  unfolding withCount
-  with-actions = bytes-same _ _ _ _ refl refl (byte-action file c sets (taken .long))
+  with-actions = bytes-same file c (withStates file c sets) (length sets) (taken .ranged) byte-behind
 
   letters-stay : letters (withStates file c sets) ≡ letters file
   unfolding letters
-  letters-stay i = same (byte 0 (omega arith) i) 83 and same (byte 1 (omega arith) i) 65 and same (byte 2 (omega arith) i) 71
-    where
-      byte : (i : ℕ) → i < statesOffset → getD (withStates file c sets) i 0 ≡ getD file i 0
-      byte = byte-front file c sets (taken .long)
+  letters-stay i =
+      same (byte-before 0 (omega arith) i) 83 and same (byte-before 1 (omega arith) i) 65 and same (byte-before 2 (omega arith) i) 71
 
   version-stays : version (withStates file c sets) ≡ version file
   unfolding version
-  version-stays = omega (arith, byte-front file c sets (taken .long) 3 (omega arith), byte-front file c sets (taken .long) 4 (omega arith))
+  version-stays = omega (arith, byte-before 3 (omega arith), byte-before 4 (omega arith))
+
+  version-same : versionRule (withStates file c sets) ≡ versionRule file
+  unfolding versionRule
+  version-same = ap (λ (v : ℕ). choose (same v plainVersion or same v effectsVersion) (accepted tt) (refused 2 3)) version-stays
+
+  version-is : c .version ≡ version file
+  unfolding countsIn
+  version-is = ap (λ (x : Counts). x .version) (taken .counts)
+
+  -- the head lies before the start states
+  head-before : headOf (version file) ≤ statesAt c
+  unfolding headOf
+  head-before = ⊎-elim
+      (λ t. omega (
+        arith,
+        choose-held {b = same (version file) effectsVersion} {x = longHead} headBytes t,
+        states-long c (not-plain (λ q. omega (arith, version-is, same-at t))),
+      ))
+      (λ f. omega (arith, choose-failed (same (version file) effectsVersion) longHead {y = headBytes} f, states-behind c (taken .ranged)))
+      (holds-or (same (version file) effectsVersion))
+
+  -- the byte that holds the number of effects lies in front of N's or behind the head
+  effects-stay : getD file (effectsPlace (version file)) 0 ≡ getD (withStates file c sets) (effectsPlace (version (withStates file c sets))) 0
+  unfolding effectsPlace
+  effects-stay =
+      ⊎-elim
+      (λ t. ap (λ (x : ℕ). getD file x 0) (choose-held _ t) ∙ sym (byte-before 6 (omega arith)) ∙ ap (λ (x : ℕ). getD f x 0) (sym (choose-held _ t)))
+      (λ t. ap (λ (x : ℕ). getD file x 0) (choose-failed _ _ t) ∙ sym (byte-behind 8 (omega arith) (longer t))
+      ∙ ap (λ (x : ℕ). getD f x 0) (sym (choose-failed _ _ t)))
+      (holds-or (same (version file) plainVersion))
+      ∙ ap (λ (v : ℕ). getD f (effectsPlace v) 0) (sym version-stays)
+    where
+      f : List ℕ
+      f = withStates file c sets
+
+      longer : So (fails (same (version file) plainVersion)) → 8 < statesAt c
+      longer t = omega (arith, states-long c (subst (λ (x : ℕ). So (fails (same x plainVersion))) (sym version-is) t))
 
   counts-are : withCount c (length sets) ≡ countsIn (withStates file c sets)
   unfolding withCount countsIn
   counts-are i = record {
-    props = (ap (λ (x : Counts). x .props) (taken .counts) ∙ sym (byte-front file c sets (taken .long) 5 (omega arith))) i;
-    actions = (ap (λ (x : Counts). x .actions) (taken .counts) ∙ sym (byte-front file c sets (taken .long) 6 (omega arith))) i;
-    states = sym (byte-count file c sets (taken .long)) i;
+    version = (ap (λ (x : Counts). x .version) (taken .counts) ∙ sym version-stays) i;
+    props = (ap (λ (x : Counts). x .props) (taken .counts) ∙ sym (byte-before 5 (omega arith))) i;
+    actions = (ap (λ (x : Counts). x .actions) (taken .counts) ∙ sym (byte-before 6 (omega arith))) i;
+    effects = (ap (λ (x : Counts). x .effects) (taken .counts) ∙ effects-stay) i;
+    states = sym (byte-count file c sets (taken .ranged) (taken .long)) i;
   }
 
   module _ (inside : Inside (c .props) sets) where
     pub with-starts : (s : ℕ) → s < length sets → startOf (withStates file c sets) (withCount c (length sets)) s ≡ getD sets s 0
-    unfolding startOf withCount
-    with-starts s h = start-is file c sets (taken .long) s h (lt-of-lt-of-le (inside s h) (pow-mono (taken .ranged .props)))
+    unfolding startOf withCount statesAt
+    with-starts s h = start-is file c sets (taken .ranged) (taken .long) s h (lt-of-lt-of-le (inside s h) (pow-mono (taken .ranged .props)))
 
-    sets-fit : (i : ℕ) → i < setCount (withCount c (length sets)) → setAt (withStates file c sets) (headBytes + setBytes * i) < 2 ^ c .props
-    unfolding withCount startOf
-    sets-fit i h = ⊎-elim
-        (λ b.
-        let l : i < 3 * c .actions = below-at b in
-        subst (λ (x : ℕ). x < 2 ^ c .props) (sym (set-same _ _ (statesAt c) (byte-action file c sets (taken .long)) (headBytes + setBytes * i) (omega arith)
-        (omega arith))) (taken .sets i (omega arith)))
-        (λ b.
-        let l : 3 * c .actions ≤ i = below-fails b in
-        let at : headBytes + setBytes * i ≡ stateAt c (i - 3 * c .actions) = omega arith in
-        let k : i - 3 * c .actions < length sets = omega arith in
-        subst (λ (x : ℕ). x < 2 ^ c .props) (sym (ap (setAt (withStates file c sets)) at ∙ with-starts (i - 3 * c .actions) k)) (inside (i - 3 * c .actions) k))
-        (holds-or (below i (3 * c .actions)))
+    -- its sets are those of the file and these start states
+    sets-fit : Fits (withStates file c sets) (withCount c (length sets))
+    unfolding withCount startOf statesAt
+    sets-fit =
+        let f : Fits file c = subst (Fits file) (sym (taken-linked file c e .are)) (pass-fits file _ (taken-linked file c e .sets)) in
+        record {
+          action = λ v i h. stays (omega arith) (omega (arith, states-plain c v)) (f .action v i h);
+          pre = λ v i h. stays (omega arith) (omega (arith, states-long c v)) (f .pre v i h);
+          effect = λ v k l i h. stays (omega arith) (omega (arith, states-long c v)) (f .effect v k l i h);
+          state = λ s h. subst (λ (x : ℕ). x < 2 ^ c .props) (sym (with-starts s h)) (inside s h);
+        }
+      where
+        stays : {at : ℕ} → headBytes ≤ at → at + setBytes ≤ statesAt c → setAt file at < 2 ^ c .props → setAt (withStates file c sets) at < 2 ^ c .props
+        stays {at} l h k = subst (λ (x : ℕ). x < 2 ^ c .props) (sym (set-same _ _ (statesAt c) byte-behind at l h)) k
 
     module _ (some : 1 ≤ length sets) (few : length sets ≤ stateWidth) where
       ranged : Ranged (withCount c (length sets))
@@ -211,24 +264,36 @@ module _ (file : List ℕ) (c : Counts) (sets : List ℕ) (e : fileRule file ≡
         some-props = taken .ranged .some-props;
         props = taken .ranged .props;
         actions = taken .ranged .actions;
+        effects = taken .ranged .effects;
         some-states = some;
         states = few;
+        own = taken .ranged .own;
       }
 
+      actions-stay : actionsRule (withStates file c sets) (withCount c (length sets)) ≡ actionsRule file c
+      unfolding actionsRule withCount
+      actions-stay =
+          ap₂ (λ (v w : Verdict (Unit {0})). andThen v (λ _. w)) (owners-same (withStates file c sets) (withCount c (length sets)) file c with-actions)
+          (equal-same (withStates file c sets) (withCount c (length sets)) file c with-actions ranged refl)
+
       pub with-taken : fileRule (withStates file c sets) ≡ accepted (withCount c (length sets))
-      unfolding withCount
+      unfolding withCount statesAt
       with-taken =
           let l = taken-linked file c e in
           let f : List ℕ = withStates file c sets in
           let n : Counts = withCount c (length sets) in
+          let r : Ranged n = ranged in
+          let h = head-means file (l .head) in
+          let long : length f ≡ rightLength n = with-length file c sets (taken .ranged) (taken .long) in
+          let front : headOf (version file) ≤ statesAt c = head-before in
           linked-taken f n (record {
-            head = sym (headed f (subst (λ (x : ℕ). headBytes ≤ x) (sym (with-length file c sets (taken .long))) (omega arith)) (letters-stay
-                ∙ head-means file (l .head) .1));
-            version = sym (right-version f (version-stays ∙ version-means file (l .version)));
-            counts = ap countsRule (sym counts-are) ∙ sym (counted n ranged);
-            length = ap (lengthRule f) (sym counts-are) ∙ sym (right-length f n (with-length file c sets (taken .long)));
-            sets = ap (setsRule f) (sym counts-are) ∙ sym (each-passes f n sets-fit);
-            equal = ap (equalRule f) (sym counts-are) ∙ equal-same f n file c with-actions ∙ ap (equalRule file) (l .are) ∙ l .equal;
+            head = sym (headed f (omega (arith, long, states-behind c (taken .ranged))) (letters-stay ∙ h .letters)
+                (subst (λ (x : ℕ). headOf x ≤ length f) (sym version-stays) (omega (arith, long, front))));
+            version = version-same ∙ l .version;
+            counts = ap countsRule (sym counts-are) ∙ sym (counted n (r .some-props) (r .props) (r .actions) (r .some-states) (r .states) (r .effects));
+            length = ap (lengthRule f) (sym counts-are) ∙ sym (right-length f n long);
+            sets = ap (setsRule f) (sym counts-are) ∙ fits-pass f n sets-fit;
+            actions = ap (actionsRule f) (sym counts-are) ∙ actions-stay ∙ ap (actionsRule file) (l .are) ∙ l .actions;
             are = counts-are;
           })
 
@@ -239,5 +304,5 @@ module _ (file : List ℕ) (c : Counts) (sets : List ℕ) (e : fileRule file ≡
       with-built depth room d m =
           build-accepts (withStates file c sets) (withCount c (length sets)) depth room with-taken d m
           ∙ ap accepted
-          (ap (λ (D : Domain). graphWords D (length sets) (startOf (withStates file c sets) (withCount c (length sets))) depth) (domain-same with-actions)
+          (ap (λ (D : Domain). graphWords D (length sets) (startOf (withStates file c sets) (withCount c (length sets))) depth) (domain-same with-actions (taken .sound))
           ∙ graph-eq (domainOf file c) depth with-starts)

@@ -5,7 +5,11 @@ use Prim.Native.Nat.{ℕ}
 abbrev pub maxActions : ℕ
 maxActions = 32
 
--- 'V = A + P': the vertices of a layer at most
+-- request Three: 'the number of effects, 0 to 32'
+abbrev pub maxEffects : ℕ
+maxEffects = 32
+
+-- 'V = E + P': the vertices of a layer at most
 abbrev pub maxVertices : ℕ
 maxVertices = 64
 

@@ -5,7 +5,13 @@ use mathlib.Core.Bool.{So}
 use mathlib.Core.List.{List}
 use lib.ListN.{length, getD}
 use Rattle.rules.specs.Domain.{Actions}
-use Rattle.graph.specs.File.{equalActions}
+use Rattle.graph.specs.Format.{setBytes, plain, actionAt}
+use Rattle.graph.specs.File.{Ranged, equalActions}
+use Rattle.graph.specs.declared.format.Counts.{Counts}
+
+-- what is asked of the file: it has version 1, and all its bytes
+abbrev pub PlainFile : List ℕ → Counts → Type 0
+PlainFile file c = Ranged c × So (plain c) × (length file ≡ actionAt (c .actions) + setBytes * c .states)
 
 -- how many marks there are
 abbrev pub marks : ℕ

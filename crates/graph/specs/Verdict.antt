@@ -28,6 +28,7 @@ numberOf (cause.Precondition i) = 12
 numberOf (cause.NoLevel i) = 13
 numberOf (cause.Uncovered i) = 14
 numberOf (cause.EqualAction i) = 15
+numberOf (cause.EffectAction i) = 16
 
 -- and its place
 abbrev pub placeOf : Refusal → ℕ
@@ -46,6 +47,7 @@ placeOf (cause.Precondition i) = i
 placeOf (cause.NoLevel i) = i
 placeOf (cause.Uncovered i) = i
 placeOf (cause.EqualAction i) = i
+placeOf (cause.EffectAction i) = i
 
 -- a call turned away for this cause
 abbrev pub turnedAway : {X : Type 0} → Refusal → Verdict X

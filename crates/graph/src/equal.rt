@@ -1,20 +1,18 @@
-// Two actions with the same three sets. Such actions have the same mark, so that only those whose marks meet are compared set by set. Most files have none.
+// Two actions of a file of version 1 with the same three sets. Such actions have the same mark, so that only those whose marks meet are compared set by set. Most files have none.
 use crate::file::set_at;
 use crate::format::Counts;
-use crate::format::add_at;
-use crate::format::del_at;
-use crate::format::pre_at;
+use crate::format::SET_BYTES;
+use crate::format::action_at;
 use crate::refusal::Check;
 use crate::refusal::Refusal;
 ghost use mathlib.Core.Path.{_≡_};
 ghost use mathlib.Core.Bool.{false};
-ghost use Prim.Native.Nat.{_+_, _≤_, _<_};
+ghost use Prim.Native.Nat.{_≤_, _<_};
 ghost use lib.ListN.{length};
-ghost use Rattle.rules.specs.Test.{same};
 ghost use Rattle.graph.specs.Checks.{checkVerdict};
-ghost use Rattle.graph.specs.File.{Ranged, equalActions, firstEqual, equalRule};
-ghost use Rattle.graph.specs.Format.{setBytes, setAt, actionsOf, rightLength};
-ghost use Rattle.graph.specs.Marks.{marks, markOf, AllLone, Marked, After};
+ghost use Rattle.graph.specs.File.{equalActions, firstEqual, equalRule};
+ghost use Rattle.graph.specs.Format.{actionsOf};
+ghost use Rattle.graph.specs.Marks.{PlainFile, marks, markOf, AllLone, Marked, After};
 
 // So many actions are compared without marks.
 const FEW: usize = 4;
@@ -31,13 +29,35 @@ const SPREAD: usize = 2654435769;
 
 const WRAP: usize = 4294967296;
 
+// The three sets of action a. The version is known, and is not asked for once more.
+fn needs_of(file: &[u8], c: Counts, a: usize) -> u32
+    requires { ⌜ PlainFile (now file) c × (a < c .actions) ⌝ }
+    ensures { λ r. ⌜ r ≡ actionsOf (now (file .entry)) c .pre a ⌝ }
+{
+    set_at(file, action_at(a))
+}
+
+fn adds_of(file: &[u8], c: Counts, a: usize) -> u32
+    requires { ⌜ PlainFile (now file) c × (a < c .actions) ⌝ }
+    ensures { λ r. ⌜ r ≡ actionsOf (now (file .entry)) c .add a ⌝ }
+{
+    set_at(file, action_at(a) + SET_BYTES)
+}
+
+fn dels_of(file: &[u8], c: Counts, a: usize) -> u32
+    requires { ⌜ PlainFile (now file) c × (a < c .actions) ⌝ }
+    ensures { λ r. ⌜ r ≡ actionsOf (now (file .entry)) c .del a ⌝ }
+{
+    set_at(file, action_at(a) + 2 * SET_BYTES)
+}
+
 // The mark of action a.
 fn mark(file: &[u8], c: Counts, a: usize) -> usize
-    requires { ⌜ Ranged c × (length (now file) ≡ rightLength c) × (a < c .actions) ⌝ }
+    requires { ⌜ PlainFile (now file) c × (a < c .actions) ⌝ }
     ensures { λ r. ⌜ (r ≡ markOf (actionsOf (now (file .entry)) c) a) × (r < marks) ⌝ }
 {
-    let needs = set_at(file, pre_at(a)) as usize;
-    let adds = set_at(file, add_at(a)) as usize;
+    let needs = needs_of(file, c, a) as usize;
+    let adds = adds_of(file, c, a) as usize;
     let mixed = (needs + ADD_WEIGHT * adds) % WRAP;
     let spread = mixed * SPREAD % WRAP;
     spread / MARK_SPAN
@@ -45,7 +65,7 @@ fn mark(file: &[u8], c: Counts, a: usize) -> usize
 
 // Marks all actions with their numbers, counted from 1; whether two marks meet. No way leads out of the loop, which has no branch.
 fn marks_meet(file: &[u8], c: Counts, marked: &mut [u8]) -> bool
-    requires { ⌜ Ranged c × (length (now file) ≡ rightLength c) × (length (now marked) ≡ marks) ⌝ }
+    requires { ⌜ PlainFile (now file) c × (length (now marked) ≡ marks) ⌝ }
     ensures { λ r. ⌜ Marked (actionsOf (now (file .entry)) c) (c .actions) (now (marked .exit)) × (r ≡ false → AllLone (actionsOf (now (file .entry)) c) (c .actions)) ⌝ }
 {
     let mut met = 0u8;
@@ -57,31 +77,23 @@ fn marks_meet(file: &[u8], c: Counts, marked: &mut [u8]) -> bool
     met != 0
 }
 
-// Whether the sets at two offsets are the same.
-fn same_set(file: &[u8], one: usize, other: usize) -> bool
-    requires { ⌜ (one + setBytes ≤ length (now file)) × (other + setBytes ≤ length (now file)) ⌝ }
-    ensures { λ r. ⌜ r ≡ same (setAt (now (file .entry)) one) (setAt (now (file .entry)) other) ⌝ }
-{
-    set_at(file, one) == set_at(file, other)
-}
-
 // Whether two actions have the same three sets.
 fn same_sets(file: &[u8], c: Counts, b: usize, a: usize) -> bool
-    requires { ⌜ Ranged c × (length (now file) ≡ rightLength c) × (b < c .actions) × (a < c .actions) ⌝ }
+    requires { ⌜ PlainFile (now file) c × (b < c .actions) × (a < c .actions) ⌝ }
     ensures { λ r. ⌜ r ≡ equalActions (actionsOf (now (file .entry)) c) b a ⌝ }
 {
-    if !same_set(file, pre_at(b), pre_at(a)) {
+    if needs_of(file, c, b) != needs_of(file, c, a) {
         return false;
     }
-    if !same_set(file, add_at(b), add_at(a)) {
+    if adds_of(file, c, b) != adds_of(file, c, a) {
         return false;
     }
-    same_set(file, del_at(b), del_at(a))
+    dels_of(file, c, b) == dels_of(file, c, a)
 }
 
 // The first action after b and before the end that equals b, and the end where there is none.
 fn equal_after(file: &[u8], c: Counts, b: usize, end: usize) -> usize
-    requires { ⌜ Ranged c × (length (now file) ≡ rightLength c) × (b < c .actions) × (end ≤ c .actions) ⌝ }
+    requires { ⌜ PlainFile (now file) c × (b < c .actions) × (end ≤ c .actions) ⌝ }
     ensures { λ r. ⌜ After (actionsOf (now (file .entry)) c) b end r ⌝ }
 {
     let next = b + 1;
@@ -96,7 +108,7 @@ fn equal_after(file: &[u8], c: Counts, b: usize, end: usize) -> usize
 
 // The same once all are marked: where no later action has the mark of b, none is compared with it.
 fn equal_marked(file: &[u8], c: Counts, marked: &[u8], b: usize, end: usize) -> usize
-    requires { ⌜ Ranged c × (length (now file) ≡ rightLength c) × Marked (actionsOf (now file) c) (c .actions) (now marked) × (b < c .actions) × (end ≤ c .actions) ⌝ }
+    requires { ⌜ PlainFile (now file) c × Marked (actionsOf (now file) c) (c .actions) (now marked) × (b < c .actions) × (end ≤ c .actions) ⌝ }
     ensures { λ r. ⌜ After (actionsOf (now (file .entry)) c) b end r ⌝ }
 {
     let m = mark(file, c, b);
@@ -108,7 +120,7 @@ fn equal_marked(file: &[u8], c: Counts, marked: &[u8], b: usize, end: usize) -> 
 
 // The first action that equals an earlier one, and the number of actions where there is none: each is looked for only before the one found last.
 fn first_marked(file: &[u8], c: Counts, marked: &[u8]) -> usize
-    requires { ⌜ Ranged c × (length (now file) ≡ rightLength c) × Marked (actionsOf (now file) c) (c .actions) (now marked) ⌝ }
+    requires { ⌜ PlainFile (now file) c × Marked (actionsOf (now file) c) (c .actions) (now marked) ⌝ }
     ensures { λ r. ⌜ r ≡ firstEqual (actionsOf (now (file .entry)) c) ⌝ }
 {
     let mut first = c.actions;
@@ -120,7 +132,7 @@ fn first_marked(file: &[u8], c: Counts, marked: &[u8]) -> usize
 
 // The same by marks, of many actions.
 fn first_of_many(file: &[u8], c: Counts) -> usize
-    requires { ⌜ Ranged c × (length (now file) ≡ rightLength c) ⌝ }
+    requires { ⌜ PlainFile (now file) c ⌝ }
     ensures { λ r. ⌜ r ≡ firstEqual (actionsOf (now (file .entry)) c) ⌝ }
 {
     let mut marked = [0u8; MARKS];
@@ -133,7 +145,7 @@ fn first_of_many(file: &[u8], c: Counts) -> usize
 
 // The same without marks, of few actions: to clear the marks takes longer.
 fn first_of_few(file: &[u8], c: Counts) -> usize
-    requires { ⌜ Ranged c × (length (now file) ≡ rightLength c) ⌝ }
+    requires { ⌜ PlainFile (now file) c ⌝ }
     ensures { λ r. ⌜ r ≡ firstEqual (actionsOf (now (file .entry)) c) ⌝ }
 {
     let mut first = c.actions;
@@ -145,7 +157,7 @@ fn first_of_few(file: &[u8], c: Counts) -> usize
 
 // The same of any number of actions.
 fn first_equal(file: &[u8], c: Counts) -> usize
-    requires { ⌜ Ranged c × (length (now file) ≡ rightLength c) ⌝ }
+    requires { ⌜ PlainFile (now file) c ⌝ }
     ensures { λ r. ⌜ r ≡ firstEqual (actionsOf (now (file .entry)) c) ⌝ }
 {
     if c.actions <= FEW {
@@ -154,14 +166,14 @@ fn first_equal(file: &[u8], c: Counts) -> usize
     first_of_many(file, c)
 }
 
-// Cause 15.
+// Cause 15, of a file of version 1.
 pub(crate) fn check_equal(file: &[u8], c: Counts) -> Check
-    requires { ⌜ Ranged c × (length (now file) ≡ rightLength c) ⌝ }
+    requires { ⌜ PlainFile (now file) c ⌝ }
     ensures { λ r. ⌜ checkVerdict r ≡ equalRule (now (file .entry)) c ⌝ }
 {
     let a = first_equal(file, c);
     if a < c.actions {
-        return Check::Refused(Refusal::EqualAction(pre_at(a)));
+        return Check::Refused(Refusal::EqualAction(action_at(a)));
     }
     Check::Passed
 }

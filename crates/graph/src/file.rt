@@ -2,20 +2,29 @@
 use crate::equal::check_equal;
 use crate::format::ACTIONS_OFFSET;
 use crate::format::Counts;
+use crate::format::EFFECTS_OFFSET;
+use crate::format::EFFECTS_VERSION;
 use crate::format::HEAD_BYTES;
+use crate::format::LONG_HEAD;
+use crate::format::PLAIN_VERSION;
 use crate::format::PROPS_OFFSET;
 use crate::format::SET_BYTES;
 use crate::format::STATES_OFFSET;
 use crate::limits::MAX_ACTIONS;
+use crate::limits::MAX_EFFECTS;
 use crate::refusal::Check;
 use crate::refusal::Refusal;
 use words::sets::PROP_WIDTH;
 use words::sets::Props;
 use words::sets::STATE_WIDTH;
 ghost use mathlib.Core.Path.{_≡_};
-ghost use Prim.Native.Nat.{_+_, _*_, _≤_, _<_};
+ghost use mathlib.Core.Bool.{So};
+ghost use Prim.Native.Nat.{_+_, _*_, _^_, _≤_, _<_};
 ghost use lib.ListN.{length, getD};
+ghost use Rattle.rules.specs.Test.{fails};
 ghost use Rattle.rules.specs.Over.{joinOver};
+ghost use Rattle.words.specs.Width.{propWidth};
+ghost use Rattle.graph.specs.Verdict.{accepted};
 ghost use Rattle.graph.specs.Checks.{checkVerdict};
 ghost use Rattle.graph.specs.File.{Ranged};
 ghost use Rattle.graph.specs.File as R;
@@ -61,16 +70,47 @@ fn letters(file: &[u8]) -> bool
     true
 }
 
-// The counts that stand in the head.
-fn counts(file: &[u8]) -> Counts
+// The version that stands in the head.
+fn version(file: &[u8]) -> usize
     requires { ⌜ F.headBytes ≤ length (now file) ⌝ }
+    ensures { λ r. ⌜ r ≡ F.version (now (file .entry)) ⌝ }
+{
+    byte(file, 3) + 256 * byte(file, 4)
+}
+
+// Where the number of effects stands: in version 1 it is that of the actions.
+fn effects_offset(version: usize) -> usize
+    ensures { λ r. ⌜ r ≡ F.effectsPlace version ⌝ }
+{
+    if version == PLAIN_VERSION {
+        return ACTIONS_OFFSET;
+    }
+    EFFECTS_OFFSET
+}
+
+// The version and the counts that stand in the head.
+fn counts(file: &[u8]) -> Counts
+    requires { ⌜ (F.headBytes ≤ length (now file)) × (F.effectsPlace (F.version (now file)) < length (now file)) ⌝ }
     ensures { λ r. ⌜ r ≡ F.countsIn (now (file .entry)) ⌝ }
 {
+    let version = version(file);
     Counts {
+        version,
         props: byte(file, PROPS_OFFSET),
         actions: byte(file, ACTIONS_OFFSET),
+        effects: byte(file, effects_offset(version)),
         states: byte(file, STATES_OFFSET),
     }
+}
+
+// How many bytes the head of a version has.
+fn head_of(version: usize) -> usize
+    ensures { λ r. ⌜ r ≡ R.headOf version ⌝ }
+{
+    if version == EFFECTS_VERSION {
+        return LONG_HEAD;
+    }
+    HEAD_BYTES
 }
 
 // Cause 1.
@@ -83,6 +123,9 @@ fn check_head(file: &[u8]) -> Check
     if !letters(file) {
         return Check::Refused(Refusal::Head);
     }
+    if file.len() < head_of(version(file)) {
+        return Check::Refused(Refusal::Head);
+    }
     Check::Passed
 }
 
@@ -91,11 +134,14 @@ fn check_version(file: &[u8]) -> Check
     requires { ⌜ F.headBytes ≤ length (now file) ⌝ }
     ensures { λ r. ⌜ checkVerdict r ≡ R.versionRule (now (file .entry)) ⌝ }
 {
-    let version = byte(file, 3) + 256 * byte(file, 4);
-    if version != 1 {
-        return Check::Refused(Refusal::Version);
+    let version = version(file);
+    if version == PLAIN_VERSION {
+        return Check::Passed;
     }
-    Check::Passed
+    if version == EFFECTS_VERSION {
+        return Check::Passed;
+    }
+    Check::Refused(Refusal::Version)
 }
 
 // Cause 3.
@@ -117,6 +163,9 @@ fn check_counts(c: Counts) -> Check
     if STATE_WIDTH < c.states {
         return Check::Refused(Refusal::Count(STATES_OFFSET));
     }
+    if MAX_EFFECTS < c.effects {
+        return Check::Refused(Refusal::Count(EFFECTS_OFFSET));
+    }
     Check::Passed
 }
 
@@ -132,31 +181,96 @@ fn check_length(file: &[u8], c: Counts) -> Check
     Check::Passed
 }
 
-// What is in some set of the file. No way leads out of the loop, so that it takes many sets at a time.
-fn joined_sets(file: &[u8], count: usize) -> u32
-    requires { ⌜ (count ≤ 160) × (F.headBytes + F.setBytes * count ≤ length (now file)) ⌝ }
-    ensures { λ r. ⌜ r ≡ joinOver count (λ i. F.setAt (now (file .entry)) (F.headBytes + F.setBytes * i)) ⌝ }
+// What is in some of so many sets that lie one behind the other. No way leads out of the loop, so that it takes many sets at a time.
+fn joined_sets(file: &[u8], at: usize, count: usize) -> u32
+    requires { ⌜ (at ≤ 1000) × (count ≤ 160) × (at + F.setBytes * count ≤ length (now file)) ⌝ }
+    ensures { λ r. ⌜ r ≡ joinOver count (λ i. F.setAt (now (file .entry)) (at + F.setBytes * i)) ⌝ }
 {
     let mut joined = 0u32;
     for i in 0..count {
-        joined = joined | set_at(file, HEAD_BYTES + SET_BYTES * i);
+        joined = joined | set_at(file, at + SET_BYTES * i);
     }
     joined
 }
 
-// Cause 5, of a file that has such a set.
-fn find_set(file: &[u8], c: Counts) -> Check
+// Version 2: what is in some set of an effect.
+fn joined_effects(file: &[u8], c: Counts) -> u32
+    requires { ⌜ Ranged c × (F.effectAt c (c .effects) ≤ length (now file)) ⌝ }
+    ensures { λ r. ⌜ r ≡ joinOver (c .effects) (λ e. joinOver 3 (λ i. F.setAt (now (file .entry)) (F.whenAt c e + F.setBytes * i))) ⌝ }
+{
+    let mut joined = 0u32;
+    for e in 0..c.effects {
+        joined = joined | joined_sets(file, c.when_at(e), 3);
+    }
+    joined
+}
+
+// What is in some set of the file.
+fn joined_all(file: &[u8], c: Counts) -> u32
+    requires { ⌜ Ranged c × (length (now file) ≡ F.rightLength c) ⌝ }
+    ensures { λ r. ⌜ (r < 2 ^ c .props → accepted tt ≡ R.setsRule (now (file .entry)) c) ⌝ }
+{
+    if c.version == PLAIN_VERSION {
+        return joined_sets(file, HEAD_BYTES, 3 * c.actions + c.states);
+    }
+    joined_sets(file, LONG_HEAD, c.actions)
+        | joined_effects(file, c)
+        | joined_sets(file, c.states_at(), c.states)
+}
+
+// Cause 5, of so many sets that lie one behind the other.
+fn find_set(file: &[u8], props: usize, at: usize, count: usize) -> Check
+    requires { ⌜ (props ≤ propWidth) × (at ≤ 1000) × (count ≤ 160) × (at + F.setBytes * count ≤ length (now file)) ⌝ }
+    ensures { λ r. ⌜ checkVerdict r ≡ R.setsFrom (now (file .entry)) props count at ⌝ }
+{
+    for i in 0..count {
+        let here = at + SET_BYTES * i;
+        if Props::first(props).0 < set_at(file, here) {
+            return Check::Refused(Refusal::PropSet(here));
+        }
+    }
+    Check::Passed
+}
+
+// Version 2: cause 5, of the effects' sets.
+fn find_effect_set(file: &[u8], c: Counts) -> Check
+    requires { ⌜ Ranged c × (F.effectAt c (c .effects) ≤ length (now file)) ⌝ }
+    ensures { λ r. ⌜ checkVerdict r ≡ R.effectSets (now (file .entry)) c (c .effects) 0 ⌝ }
+{
+    for e in 0..c.effects {
+        let sets = find_set(file, c.props, c.when_at(e), 3);
+        if let Check::Refused(why) = sets {
+            return Check::Refused(why);
+        }
+    }
+    Check::Passed
+}
+
+// Cause 5, of the sets before the start states.
+fn find_action_set(file: &[u8], c: Counts) -> Check
+    requires { ⌜ Ranged c × (length (now file) ≡ F.rightLength c) ⌝ }
+    ensures { λ r. ⌜ checkVerdict r ≡ R.actionSets (now (file .entry)) c ⌝ }
+{
+    if c.version == PLAIN_VERSION {
+        return find_set(file, c.props, HEAD_BYTES, 3 * c.actions);
+    }
+    let pre = find_set(file, c.props, LONG_HEAD, c.actions);
+    if let Check::Refused(why) = pre {
+        return Check::Refused(why);
+    }
+    find_effect_set(file, c)
+}
+
+// Cause 5, of all sets of the file, one after the other.
+fn find_sets(file: &[u8], c: Counts) -> Check
     requires { ⌜ Ranged c × (length (now file) ≡ F.rightLength c) ⌝ }
     ensures { λ r. ⌜ checkVerdict r ≡ R.setsRule (now (file .entry)) c ⌝ }
 {
-    let mut at = HEAD_BYTES;
-    while at < file.len() {
-        if Props::first(c.props).0 < set_at(file, at) {
-            return Check::Refused(Refusal::PropSet(at));
-        }
-        at += SET_BYTES;
+    let actions = find_action_set(file, c);
+    if let Check::Refused(why) = actions {
+        return Check::Refused(why);
     }
-    Check::Passed
+    find_set(file, c.props, c.states_at(), c.states)
 }
 
 // Cause 5: with the most propositions no set has room for another; else, where no proposition of P or above is in all sets together, none has one.
@@ -167,13 +281,38 @@ fn check_sets(file: &[u8], c: Counts) -> Check
     if PROP_WIDTH <= c.props {
         return Check::Passed;
     }
-    if joined_sets(file, c.set_count()) <= Props::first(c.props).0 {
+    if joined_all(file, c) <= Props::first(c.props).0 {
         return Check::Passed;
     }
-    find_set(file, c)
+    find_sets(file, c)
 }
 
-// Causes 1 to 5 and 15, in order.
+// Version 2: cause 16.
+fn find_stray(file: &[u8], c: Counts) -> Check
+    requires { ⌜ Ranged c × So (fails (F.plain c)) × (length (now file) ≡ F.rightLength c) ⌝ }
+    ensures { λ r. ⌜ checkVerdict r ≡ R.ownersRule (now (file .entry)) c ⌝ }
+{
+    for e in 0..c.effects {
+        let at = c.effect_at(e);
+        if c.actions <= byte(file, at) {
+            return Check::Refused(Refusal::EffectAction(at));
+        }
+    }
+    Check::Passed
+}
+
+// Causes 16 and 15: in version 1 each effect has its action, and in version 2 equal actions are not looked for.
+fn check_actions(file: &[u8], c: Counts) -> Check
+    requires { ⌜ Ranged c × (length (now file) ≡ F.rightLength c) ⌝ }
+    ensures { λ r. ⌜ checkVerdict r ≡ R.actionsRule (now (file .entry)) c ⌝ }
+{
+    if c.version == PLAIN_VERSION {
+        return check_equal(file, c);
+    }
+    find_stray(file, c)
+}
+
+// Causes 1 to 5, 16 and 15, in order.
 pub fn check_file(file: &[u8]) -> FileAnswer
     ensures { λ r. ⌜ R.fileVerdict r ≡ R.fileRule (now (file .entry)) ⌝ }
 {
@@ -198,8 +337,8 @@ pub fn check_file(file: &[u8]) -> FileAnswer
     if let Check::Refused(why) = sets {
         return FileAnswer::Refused(why);
     }
-    let equal = check_equal(file, c);
-    if let Check::Refused(why) = equal {
+    let actions = check_actions(file, c);
+    if let Check::Refused(why) = actions {
         return FileAnswer::Refused(why);
     }
     FileAnswer::Taken(c)

@@ -3,7 +3,7 @@ use crate::limits::MAX_DEPTH;
 ghost use mathlib.Core.Path.{_≡_};
 ghost use Rattle.graph.specs.Verdict.{numberOf, placeOf};
 
-// The causes in the order of their numbers, 1 to 15, with the place where it varies.
+// The causes in the order of their numbers, 1 to 16, with the place where it varies.
 pub enum Refusal {
     Head,
     Version,
@@ -20,6 +20,7 @@ pub enum Refusal {
     NoLevel(usize),
     Uncovered(usize),
     EqualAction(usize),
+    EffectAction(usize),
 }
 
 // What a single check comes to.
@@ -47,6 +48,7 @@ pub fn number(r: Refusal) -> usize
         Refusal::NoLevel(_) => 13,
         Refusal::Uncovered(_) => 14,
         Refusal::EqualAction(_) => 15,
+        Refusal::EffectAction(_) => 16,
     }
 }
 
@@ -69,5 +71,6 @@ pub fn place(r: Refusal) -> usize
         Refusal::NoLevel(i) => i,
         Refusal::Uncovered(i) => i,
         Refusal::EqualAction(i) => i,
+        Refusal::EffectAction(i) => i,
     }
 }

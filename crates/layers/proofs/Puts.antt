@@ -16,7 +16,7 @@ use Rattle.rules.proofs.Layers.{length-listOver, getD-listOver, listOver-eq, la
 use Rattle.words.specs.Memory.{putAt}
 use Rattle.words.specs.Rows.{rowLength, cell}
 use Rattle.words.proofs.Writes.{Runs, run-more, put-put}
-use Rattle.layers.specs.Write.{apart, Diagonal, actionRow, actionWords}
+use Rattle.layers.specs.Write.{apart, Diagonal, effectRow, actionWords}
 
 -- ---- the pairs of n elements: p rows are written, up to `at`
 
@@ -33,29 +33,29 @@ module _ (n : ℕ) (labels t : List ℕ) {to p at : ℕ} {w₀ w : List ℕ} (s 
       let q : p * rowLength + p + 1 + k ≡ p * rowLength + (p + 1 + k) = omega arith in
       ap (λ (x : ℕ). without (common (getD labels p 0) (getD labels (p + 1 + k) 0)) (getD t x 0)) q)))
 
--- ---- the pairs of each of a actions, with the later ones and with n propositions
+-- ---- the pairs of each of a effects, with the later ones and with n propositions
 
 module _ (n a : ℕ) (live labels mates r : List ℕ) where
-  row-length : (i : ℕ) → length (actionRow n a live labels mates r i) ≡ (a - 1 - i) + n
-  unfolding actionRow
+  row-length : (i : ℕ) → length (effectRow n a live labels mates r i) ≡ (a - 1 - i) + n
+  unfolding effectRow
   row-length i = length-append (listOver (a - 1 - i) _) (listOver n _) ∙ ap₂ (λ (x y : ℕ). x + y) (length-listOver (a - 1 - i) _) (length-listOver n _)
 
-  pub rows-length : (i : ℕ) → i ≤ a → length (runOver i (actionRow n a live labels mates r)) ≡ pairs a - pairs (a - i) + i * n
+  pub rows-length : (i : ℕ) → i ≤ a → length (runOver i (effectRow n a live labels mates r)) ≡ pairs a - pairs (a - i) + i * n
   unfolding runOver
   rows-length zero h = let e : pairs (a - 0) ≡ pairs a = ap pairs (sub-zero a) in omega (arith, zero-mul n)
   rows-length (suc i) h =
-      length-append (runOver i (actionRow n a live labels mates r)) (actionRow n a live labels mates r i)
+      length-append (runOver i (effectRow n a live labels mates r)) (effectRow n a live labels mates r i)
       ∙ omega (arith, rows-length i (omega arith), row-length i, pairs-row a i (omega arith), pairs-sub a i, suc-mul i n)
 
-  module _ {to i at : ℕ} {w₀ w : List ℕ} (s : Runs (actionRow n a live labels mates r) to a w₀ i at w) (room : to + (pairs a + a * n) ≤ length w₀) where
+  module _ {to i at : ℕ} {w₀ w : List ℕ} (s : Runs (effectRow n a live labels mates r) to a w₀ i at w) (room : to + (pairs a + a * n) ≤ length w₀) where
     pub rows-room : i < a → at + ((a - 1 - i) + n) ≤ length w₀
     rows-room h = omega (arith, s .here, rows-length i (omega arith), pairs-row a i h, pairs-sub a i, suc-mul i n, mul-le-mul-right n h)
 
     pub rows-more : {w₁ w' : List ℕ} → i < a
         → w₁ ≡ putAt at (listOver (a - 1 - i) (λ k. without (common (getD live i 0) (getD live (i + 1 + k) 0)) (getD mates (i * rowLength + i + 1 + k) 0))) w
         → w' ≡ putAt (at + (a - 1 - i)) (listOver n (λ q. without (common (getD live i 0) (getD labels (0 + q) 0)) (getD r (i * rowLength + q) 0))) w₁
-        → Runs (actionRow n a live labels mates r) to a w₀ (i + 1) (at + ((a - 1 - i) + n)) w'
-    unfolding actionRow apart cell
+        → Runs (effectRow n a live labels mates r) to a w₀ (i + 1) (at + ((a - 1 - i) + n)) w'
+    unfolding effectRow apart cell
     rows-more {w₁} {w'} h e₁ e₂ =
         let xs = listOver (a - 1 - i) (λ k. without (common (getD live i 0) (getD live (i + 1 + k) 0)) (getD mates (i * rowLength + (i + 1 + k)) 0)) in
         let ys = listOver n (λ q. without (common (getD live i 0) (getD labels q 0)) (getD r (i * rowLength + q) 0)) in
@@ -74,7 +74,7 @@ module _ (n a : ℕ) (live labels mates r : List ℕ) where
     unfolding pairs
     rows-end h =
         let e : i ≡ a = omega (arith, s .within) in
-        sym (s .here) ∙ ap (λ (x : ℕ). to + length (runOver x (actionRow n a live labels mates r))) e
+        sym (s .here) ∙ ap (λ (x : ℕ). to + length (runOver x (effectRow n a live labels mates r))) e
         ∙ omega (arith, rows-length a (omega arith), none)
       where
         none : pairs (a - a) ≡ 0
@@ -89,7 +89,7 @@ no-pairs n = let e : n - n ≡ 0 = omega arith in ap (λ (x : ℕ). x * (x - 1) 
 pub rows-full : (n : ℕ) (m : ℕ → ℕ → ℕ) → length (runOver n (rowOf n m)) ≡ pairs n
 rows-full n m = length-rows n m n (omega arith) ∙ omega (arith, no-pairs n)
 
-rows-all : (n a : ℕ) (live labels mates r : List ℕ) → length (runOver a (actionRow n a live labels mates r)) ≡ pairs a + a * n
+rows-all : (n a : ℕ) (live labels mates r : List ℕ) → length (runOver a (effectRow n a live labels mates r)) ≡ pairs a + a * n
 rows-all n a live labels mates r = rows-length n a live labels mates r a (omega arith) ∙ omega (arith, no-pairs a)
 
 -- the pairs of a + n elements
@@ -136,13 +136,13 @@ props-put n labels t w₀ w₁ w₂ few room diag e₁ e₂ =
 
 pub actions-put : (n a at : ℕ) (live labels t mates r w₀ w₁ w₂ w₃ w₄ : List ℕ) → a ≤ length live → n ≤ length labels → size (a + n) ≤ length w₀
     → w₁ ≡ putAt 0 (take a live) w₀ → w₂ ≡ putAt a (take n labels) w₁
-    → w₃ ≡ putAt (a + n) (runOver a (actionRow n a live labels mates r)) w₂ → at ≡ a + n + (pairs a + a * n)
+    → w₃ ≡ putAt (a + n) (runOver a (effectRow n a live labels mates r)) w₂ → at ≡ a + n + (pairs a + a * n)
     → w₄ ≡ putAt at (runOver n (rowOf n (apart labels t))) w₃ → w₄ ≡ putAt 0 (actionWords n a live labels t mates r) w₀
 unfolding actionWords
 actions-put n a at live labels t mates r w₀ w₁ w₂ w₃ w₄ fa fn room e₁ e₂ e₃ ea e₄ =
     let xs = take a live in
     let ys = take n labels in
-    let rows = runOver a (actionRow n a live labels mates r) in
+    let rows = runOver a (effectRow n a live labels mates r) in
     let last = runOver n (rowOf n (apart labels t)) in
     let lx : length xs ≡ a = length-take-le a live fa in
     let ly : length ys ≡ n = length-take-le n labels fn in

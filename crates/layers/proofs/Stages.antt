@@ -2,7 +2,7 @@
 -- Assumes nothing.
 use Prim.Native.Nat.{ℕ, _+_, _-_, _*_, _≤_, _<_, _^_}
 use mathlib.Core.Path.{_≡_, refl, sym, ap, ap₂, subst, _∙_}
-use mathlib.Core.Bool.{Bool, true, false, So}
+use mathlib.Core.Bool.{Bool, true, So}
 use mathlib.Core.Logic.{⊎-elim}
 use mathlib.Core.List.{List}
 use native.Mathlib.Omega.{arith}
@@ -16,29 +16,30 @@ use Rattle.rules.specs.Test.{_and_, _or_, fails, same, choose}
 use Rattle.rules.specs.Word.{bit, common, union, without, single, first}
 use Rattle.rules.specs.Over.{keep, joinOver, joinOf, meetOf}
 use Rattle.rules.specs.Lists.{listOver, runOver}
-use Rattle.rules.specs.Domain.{Domain, Actions, persistence, clobbers, domain}
+use Rattle.rules.specs.Domain.{Domain, Actions, condition, persistence, interfereOf, domain}
 use Rattle.rules.specs.Layer.{size, rowOf, layerOf, labelIn, freeIn}
 use Rattle.rules.specs.Shared.{startLabel, vertexLabel, actionLayer, nextLayer}
-use Rattle.rules.specs.Together.{layerBy, Consistent, beside, nextTogether}
-use Rattle.rules.proofs.Tests.{choose-held, choose-failed, and-of, and-left, and-right, or-left, or-right, or-at, fails-of, fails-at, holds-or, test-eq, same-of, same-at, below-of}
-use Rattle.rules.proofs.Words.{bit-common, bit-union, bit-without, bit-single, bit-first, bit-below, common-lt, first-lt, without-lt, ext-all, no-bit-zero}
-use Rattle.rules.proofs.Overs.{joinOver-eq, bit-joinOver, any-of}
+use Rattle.rules.specs.Together.{layerBy, beside, nextTogether}
+use Rattle.rules.proofs.Tests.{choose-held, choose-failed, and-of, and-right, or-left, or-right, or-at, fails-of, fails-at}
+use Rattle.rules.proofs.Tests.{holds-or, test-eq, same-of, same-at, below-of}
+use Rattle.rules.proofs.Words.{bit-union, bit-without, bit-single, bit-first, bit-below, first-lt, without-lt, ext-all, no-bit-zero}
+use Rattle.rules.proofs.Overs.{bit-joinOver, any-of}
 use Rattle.rules.proofs.Layers.{length-layerOf, length-listOver, getD-listOver, listOver-eq, runOver-eq, list-append, run-append}
 use Rattle.rules.proofs.Members.{meet-only, join-only, startLabel-lt}
-use Rattle.rules.proofs.Domains.{needs-action, action-below}
+use Rattle.rules.proofs.Domains.{needs-effect, effect-below, interfere-turn}
 use Rattle.rules.proofs.Togethers.{vertex-label, label-at, free-own, free-turn, action-by, next-by, next-together, layerBy-eq, consistent-eq}
 use Rattle.rules.proofs.Steps as S
 use Rattle.rules.proofs.Steps.{Sets}
 use Rattle.words.specs.Memory.{putAt}
-use Rattle.words.specs.Rows.{rowLength, tableLength, cell, InParts}
+use Rattle.words.specs.Rows.{rowLength, cell}
 use Rattle.words.proofs.Writes.{put-word, put-length, put-within}
 use lib.Dec.{eqb}
 use borrow.Author.Tests.{eqb-true}
-use Rattle.together.specs.Cells.{Width, needsWith, labelFor, withProp, withAction, independentOf, withIndependent, rowIn, mateOf, besideFor}
-use Rattle.layers.specs.Write.{apart, Diagonal, actionRow, actionWords}
+use Rattle.together.specs.Cells.{Width, needsWith, labelFor, rowFor, withProp, withEffect, independentOf, withIndependent, rowIn, mateOf, besideFor}
+use Rattle.layers.specs.Write.{apart, Diagonal, effectRow, actionWords}
 use Rattle.layers.proofs.Puts.{put-behind}
 use Rattle.together.proofs.Rows.{parts-le}
-use Rattle.layers.specs.Step.{Told, Tells, overOf, Admitted, Mated, Next, Nexting, Deletes, Ready, Stepped, stepWords}
+use Rattle.layers.specs.Step.{Told, Tells, overOf, Admitted, Kept, Mated, Next, Nexting, Deletes, Ready, Stepped, stepWords}
 
 -- a word of a row
 pub row-cell : (table : List ℕ) (i q : ℕ) → q < rowLength → getD (rowIn table i) q 0 ≡ cell table i q
@@ -49,52 +50,63 @@ module _ (A : Actions) (all : ℕ) (sets : Sets rowLength A) (labels t : List �
   abbrev free : ℕ → ℕ → ℕ
   free = freeIn (domain A .vertices) (overOf A all t)
 
-  -- the label of an action, as the layer has it
-  pub label-is : (i : ℕ) → i < A .count → labelIn (overOf A all t) i ≡ vertexLabel (domain A .props) all (layerBy (domain A .props) (cell t)) (A .pre i)
+  -- the label of an effect, as the layer has it
+  pub label-is : (i : ℕ) → i < A .effects → labelIn (overOf A all t) i ≡ vertexLabel (domain A .props) all (layerBy (domain A .props) (cell t)) (condition A i)
   unfolding domain
-  label-is i h = vertex-label (domain A) all (cell t) (is .consistent) (action-below A h)
-      ∙ ap (vertexLabel (A .props) all (layerBy (A .props) (cell t))) (needs-action A h)
+  label-is i h = vertex-label (domain A) all (cell t) (is .consistent) (effect-below A h)
+      ∙ ap (vertexLabel (A .props) all (layerBy (A .props) (cell t))) (needs-effect A h)
 
-  with-is : (i q : ℕ) → q < A .props → needsWith all labels t (A .pre i) q ≡ S.needsWith rowLength all A sets (is .consistent) i q
+  with-is : (i q : ℕ) → q < A .props → needsWith all labels t (condition A i) q ≡ S.needsWith rowLength all A sets (is .consistent) i q
   unfolding needsWith
-  with-is i q h = ap (λ (x : ℕ). meetOf rowLength (A .pre i) (λ p. cell t p q) (common x all)) (is .diagonal q h)
+  with-is i q h = ap (λ (x : ℕ). meetOf rowLength (condition A i) (λ p. cell t p q) (common x all)) (is .diagonal q h)
 
-  label-code : (i : ℕ) → i < A .count → labelFor all labels t (A .pre i) ≡ vertexLabel (domain A .props) all (layerBy (domain A .props) (cell t)) (A .pre i)
+  label-code : (i : ℕ) → i < A .effects → labelFor all labels t (condition A i)
+      ≡ vertexLabel (domain A .props) all (layerBy (domain A .props) (cell t)) (condition A i)
   unfolding labelFor
   label-code i h =
-      meet-only (A .pre i) all (λ q l m. with-is i q (bit-below (sets .pre i h) m))
+      meet-only (condition A i) all (λ q l m. with-is i q (bit-below (sets .needs i h) m))
       ∙ S.admitted rowLength all A sets (is .consistent) h
 
-  pub label-told : (i : ℕ) → i < A .count → labelFor all labels t (A .pre i) ≡ labelIn (overOf A all t) i
+  pub label-told : (i : ℕ) → i < A .effects → labelFor all labels t (condition A i) ≡ labelIn (overOf A all t) i
   label-told i h = label-code i h ∙ sym (label-is i h)
 
-  pub prop-told : (i q : ℕ) → i < A .count → q < A .props → withProp all labels t (A .pre i) (A .del i) q ≡ free i (persistence A q)
+  -- an effect with a proposition, whatever it deletes
+  abbrev rowWith : ℕ → ℕ → ℕ
+  rowWith = S.rowWith rowLength all A sets (is .consistent)
+
+  row-told : (live r : List ℕ) → Admitted A all labels t live r → (i q : ℕ) → i < A .effects → q < A .props → cell r i q ≡ rowWith i q
+  unfolding rowFor
+  row-told live r adm i q h k = adm .row i q h k ∙ ap₂ common (with-is i q k) (label-code i h)
+
+  -- and with its persistence
+  pub kept-told : (dels live r : List ℕ) → Admitted A all labels t live r → Deletes A dels → (i q : ℕ) → i < A .effects → q < A .props
+      → withProp dels r i q ≡ free i (persistence A q)
   unfolding withProp
-  prop-told i q h k =
-      ap₂ (λ (x y : ℕ). choose (bit q (A .del i)) 0 (common x y)) (with-is i q k) (label-code i h)
-      ∙ S.with-prop rowLength all A sets (is .consistent) h k
+  kept-told dels live r adm del i q h k =
+      ap₂ (λ (x y : ℕ). choose (bit q x) 0 y) (del i h) (row-told live r adm i q h k) ∙ S.with-prop rowLength all A sets (is .consistent) h k
 
-  -- ---- two actions
+  -- ---- two effects
 
-  module _ (n : ℕ) (needs adds adders interferers live r : List ℕ) (told : Told A n needs adds adders interferers) (adm : Admitted A all t live r) where
-    lives : (i : ℕ) → i < A .count → getD live i 0 ≡ vertexLabel (domain A .props) all (layerBy (domain A .props) (cell t)) (A .pre i)
+  module _ (n : ℕ) (needs adds dels adders interferers live r : List ℕ) (told : Told A n needs adds adders interferers) (del : Deletes A dels)
+      (adm : Admitted A all labels t live r) where
+    lives : (i : ℕ) → i < A .effects → getD live i 0 ≡ vertexLabel (domain A .props) all (layerBy (domain A .props) (cell t)) (condition A i)
     lives i h = adm .label i h ∙ label-is i h
 
-    need-lt : (i p : ℕ) → i < A .count → So (bit p (getD needs i 0)) → p < A .props
-    need-lt i p h m = bit-below (sets .pre i h) (ap (bit p) (sym (told .pre i h)) ∙ m)
+    need-lt : (i p : ℕ) → i < A .effects → So (bit p (getD needs i 0)) → p < A .props
+    need-lt i p h m = bit-below (sets .needs i h) (ap (bit p) (sym (told .need i h)) ∙ m)
 
     -- by rows
-    pub pair-told : (turned : List ℕ) → ((j p : ℕ) → j < A .count → p < A .props → cell turned p j ≡ cell r j p) → (i j : ℕ) → i < A .count → j < A .count
-        → withAction needs interferers live turned i j ≡ free i j
-    unfolding withAction
+    pub pair-told : (turned : List ℕ) → ((j p : ℕ) → j < A .effects → p < A .props → cell turned p j ≡ cell r j p) → (i j : ℕ) → i < A .effects → j < A .effects
+        → withEffect needs interferers live turned i j ≡ free i j
+    unfolding withEffect
     pair-told turned turns i j h k = ⊎-elim
         (λ e. choose-held _ e ∙ adm .label i h ∙ sym (free-own (domain A .vertices) (overOf A all t) i) ∙ ap (free i) (same-at e))
         (λ d. choose-failed _ _ d
         ∙ ap (λ (x : ℕ). choose (bit j (getD interferers i 0)) 0 x)
         (meet-only (getD needs i 0) _ (λ p l m.
-        let hp : p < A .props = need-lt i p h m in turns j p k hp ∙ adm .with-props j p k hp)
-        ∙ ap₂ (λ (set w : ℕ). meetOf rowLength set (λ p. free j (persistence A p)) w) (told .pre i h) (ap₂ common (lives j k) (lives i h)))
-        ∙ S.with-action rowLength all A sets (is .consistent) h k (λ q. fails-at d (same-of q)) (told .interfere i j h k))
+        let hp : p < A .props = need-lt i p h m in turns j p k hp ∙ row-told live r adm j p k hp)
+        ∙ ap₂ (λ (set w : ℕ). meetOf rowLength set (rowWith j) w) (told .need i h) (ap₂ common (lives j k) (lives i h)))
+        ∙ S.with-effect rowLength all A sets (is .consistent) h k (λ q. fails-at d (same-of q)) (told .interfere i j h k))
         (holds-or (same i j))
 
     -- one by one
@@ -107,47 +119,47 @@ module _ (A : Actions) (all : ℕ) (sets : Sets rowLength A) (labels t : List �
     unfolding independentOf
     independent-lt i = without-lt (length needs) _ (first-lt (length needs))
 
-    independent-is : (i j : ℕ) → i < A .count → So (bit j (independentOf needs interferers i)) → (j < A .count) × So (fails (bit j (getD interferers i 0))) × (i ≡ j → ⊥)
+    independent-is : (i j : ℕ) → i < A .effects → So (bit j (independentOf needs interferers i))
+        → (j < A .effects) × So (fails (bit j (getD interferers i 0))) × (i ≡ j → ⊥)
     independent-is i j h m =
         let u = sym (independent-bits i j) ∙ m in (
-          subst (λ (x : ℕ). j < x) (sym (told .count)) (bit-below (independent-lt i) m),
+          subst (λ (x : ℕ). j < x) (sym (told .effects)) (bit-below (independent-lt i) m),
           fails-of (λ x. fails-at (and-right _ u) (or-left _ x)),
           λ e. fails-at (and-right _ u) (or-right _ (same-of (sym e))),
         )
 
-    interferers-is : (i j : ℕ) → i < A .count → j < A .count → (i ≡ j → ⊥) → So (fails (bit j (independentOf needs interferers i))) → So (bit j (getD interferers i 0))
+    interferers-is : (i j : ℕ) → i < A .effects → j < A .effects → (i ≡ j → ⊥) → So (fails (bit j (independentOf needs interferers i)))
+        → So (bit j (getD interferers i 0))
     interferers-is i j h k ne m = ⊎-elim
         (λ x. x)
-        (λ x. absurd (fails-at m (independent-bits i j ∙ and-of (bit-first j (length needs) ∙ below-of (subst (λ (y : ℕ). j < y) (told .count) k))
+        (λ x. absurd (fails-at m (independent-bits i j ∙ and-of (bit-first j (length needs) ∙ below-of (subst (λ (y : ℕ). j < y) (told .effects) k))
         (fails-of (λ o. ⊎-elim (fails-at x) (λ e. ne (sym (same-at e))) (or-at o))))))
         (holds-or (bit j (getD interferers i 0)))
 
-    turned-interfere : (i j : ℕ) → i < A .count → j < A .count → bit j (getD interferers i 0) ≡ (clobbers A j i or clobbers A i j)
-    turned-interfere i j h k = told .interfere i j h k ∙ test-eq (swap _ _) (swap _ _)
-      where
-        swap : (a b : Bool) → So (a or b) → So (b or a)
-        swap a b t = ⊎-elim (λ x. or-right b x) (λ x. or-left a x) (or-at t)
+    turned-interfere : (i j : ℕ) → i < A .effects → j < A .effects → bit j (getD interferers i 0) ≡ interfereOf A j i
+    turned-interfere i j h k = told .interfere i j h k ∙ test-eq (interfere-turn A i j) (interfere-turn A j i)
 
-    both-ways : (i j : ℕ) → i < A .count → j < A .count → (i ≡ j → ⊥)
-        → choose (bit j (getD interferers i 0)) 0 (meetOf rowLength (A .pre j) (λ p. free i (persistence A p))
-        (common (vertexLabel (domain A .props) all (layerBy (domain A .props) (cell t)) (A .pre i)) (vertexLabel (domain A .props) all (layerBy (domain A .props) (cell t)) (A .pre j)))) ≡ free i j
+    both-ways : (i j : ℕ) → i < A .effects → j < A .effects → (i ≡ j → ⊥)
+        → choose (bit j (getD interferers i 0)) 0 (meetOf rowLength (condition A j) (rowWith i)
+        (common (vertexLabel (domain A .props) all (layerBy (domain A .props) (cell t)) (condition A i))
+        (vertexLabel (domain A .props) all (layerBy (domain A .props) (cell t)) (condition A j)))) ≡ free i j
     both-ways i j h k ne =
-        S.with-action rowLength all A sets (is .consistent) k h (λ q. ne (sym q)) (turned-interfere i j h k)
+        S.with-effect rowLength all A sets (is .consistent) k h (λ q. ne (sym q)) (turned-interfere i j h k)
         ∙ free-turn (domain A .vertices) (overOf A all t) j i
 
-    apart-none : (i j : ℕ) → i < A .count → j < A .count → (i ≡ j → ⊥) → So (fails (bit j (independentOf needs interferers i))) → free i j ≡ 0
+    apart-none : (i j : ℕ) → i < A .effects → j < A .effects → (i ≡ j → ⊥) → So (fails (bit j (independentOf needs interferers i))) → free i j ≡ 0
     apart-none i j h k ne m = sym (both-ways i j h k ne) ∙ choose-held _ (interferers-is i j h k ne m)
 
-    independent-told : (i j : ℕ) → i < A .count → So (bit j (independentOf needs interferers i)) → withIndependent needs live (rowIn r i) i j ≡ free i j
+    independent-told : (i j : ℕ) → i < A .effects → So (bit j (independentOf needs interferers i)) → withIndependent needs live (rowIn r i) i j ≡ free i j
     unfolding withIndependent
     independent-told i j h m =
         let (k, f, ne) = independent-is i j h m in
         meet-only (getD needs j 0) _ (λ q l n.
-        let hq : q < A .props = need-lt j q k n in row-cell r i q l ∙ adm .with-props i q h hq)
-        ∙ ap₂ (λ (set w : ℕ). meetOf rowLength set (λ p. free i (persistence A p)) w) (told .pre j k) (ap₂ common (lives i h) (lives j k))
+        let hq : q < A .props = need-lt j q k n in row-cell r i q l ∙ row-told live r adm i q h hq)
+        ∙ ap₂ (λ (set w : ℕ). meetOf rowLength set (rowWith i) w) (told .need j k) (ap₂ common (lives i h) (lives j k))
         ∙ sym (choose-failed (bit j (getD interferers i 0)) 0 f) ∙ both-ways i j h k ne
 
-    pub mate-told : (i j : ℕ) → i < A .count → j < A .count → mateOf needs interferers live r i j ≡ free i j
+    pub mate-told : (i j : ℕ) → i < A .effects → j < A .effects → mateOf needs interferers live r i j ≡ free i j
     unfolding mateOf
     mate-told i j h k = ⊎-elim
         (λ e. choose-held _ e ∙ adm .label i h ∙ sym (free-own (domain A .vertices) (overOf A all t) i) ∙ ap (free i) (sym (same-at e)))
@@ -157,26 +169,26 @@ module _ (A : Actions) (all : ℕ) (sets : Sets rowLength A) (labels t : List �
         (holds-or (bit j (independentOf needs interferers i))))
         (holds-or (same j i))
 
-    pub beside-told : (i p : ℕ) → i < A .count → p < A .props → besideFor needs adds interferers live r i p ≡ beside (domain A) (overOf A all t) i p
+    pub beside-told : (i p : ℕ) → i < A .effects → p < A .props → besideFor needs adds dels interferers live r i p ≡ beside (domain A) (overOf A all t) i p
     unfolding besideFor
     beside-told i p h k =
         ap₂ union
-        (ap₂ union (adm .with-props i p h k) (join-only (independentOf needs interferers i) (λ j l m.
+        (ap₂ union (kept-told dels live r adm del i p h k) (join-only (independentOf needs interferers i) (λ j l m.
         let (g, f, ne) = independent-is i j h m in ap₂ (λ (x y : ℕ). keep (bit p x) y) (told .add j g) (independent-told i j h m))))
         (ap₂ (λ (x y : ℕ). keep (bit p x) y) (told .add i h) (adm .label i h ∙ sym (free-own (domain A .vertices) (overOf A all t) i)))
         ∙ S.beside-few rowLength all A sets (is .consistent) h k
-        (subst (λ (x : ℕ). independentOf needs interferers i < 2 ^ x) (sym (told .count)) (independent-lt i))
+        (subst (λ (x : ℕ). independentOf needs interferers i < 2 ^ x) (sym (told .effects)) (independent-lt i))
         (λ j g ne m. apart-none i j h g (λ q. ne (sym q)) m)
 
     -- rows joined over the adders of a proposition
-    adder-lt : (p j : ℕ) → p < A .props → So (bit j (getD adders p 0)) → j < A .count
-    adder-lt p j k m = bit-below (startLabel-lt (A .count) (A .add) p) (ap (bit j) (sym (told .by p k)) ∙ m)
+    adder-lt : (p j : ℕ) → p < A .props → So (bit j (getD adders p 0)) → j < A .effects
+    adder-lt p j k m = bit-below (startLabel-lt (A .effects) (A .add) p) (ap (bit j) (sym (told .by p k)) ∙ m)
 
-    pub rows-told : (turned mates : List ℕ) → ((j p : ℕ) → j < A .count → p < A .props → cell turned p j ≡ cell r j p)
-        → ((i j : ℕ) → i < A .count → j < A .count → cell mates i j ≡ free i j) → (i p : ℕ) → i < A .count → p < A .props
-        → union (cell turned p i) (joinOf rowLength (getD adders p 0) (λ j. cell mates j i)) ≡ beside (domain A) (overOf A all t) i p
-    rows-told turned mates turns pair i p h k =
-        ap₂ union (turns i p h k ∙ adm .with-props i p h k)
+    pub rows-told : (cut mates : List ℕ) → ((j p : ℕ) → j < A .effects → p < A .props → cell cut p j ≡ withProp dels r j p)
+        → ((i j : ℕ) → i < A .effects → j < A .effects → cell mates i j ≡ free i j) → (i p : ℕ) → i < A .effects → p < A .props
+        → union (cell cut p i) (joinOf rowLength (getD adders p 0) (λ j. cell mates j i)) ≡ beside (domain A) (overOf A all t) i p
+    rows-told cut mates cuts pair i p h k =
+        ap₂ union (cuts i p h k ∙ kept-told dels live r adm del i p h k)
         (join-only (getD adders p 0) (λ j l m. pair j i (adder-lt p j k m) h) ∙ ap (λ (x : ℕ). joinOf rowLength x (λ j. free j i)) (told .by p k))
         ∙ S.beside-rows rowLength all A sets (is .consistent) i k
 
@@ -185,14 +197,14 @@ module _ (A : Actions) (all : ℕ) (sets : Sets rowLength A) (labels t : List �
   module _ (n : ℕ) (needs adds adders interferers : List ℕ) (told : Told A n needs adds adders interferers) (spare turned besides t' : List ℕ)
       (halves : (p q : ℕ) → p < A .props → q < A .props → cell spare p q ≡ union (cell t p q) (joinOf rowLength (getD adders p 0) (λ i. cell besides i q)))
       (turns : (p q : ℕ) → p < A .props → q < A .props → cell turned q p ≡ cell spare p q)
-      (with-adders : (i p : ℕ) → i < A .count → p < A .props → cell besides i p ≡ beside (domain A) (overOf A all t) i p)
+      (with-adders : (i p : ℕ) → i < A .effects → p < A .props → cell besides i p ≡ beside (domain A) (overOf A all t) i p)
       (joined : (p q : ℕ) → p < A .props → q < A .props → cell t' p q ≡ union (cell spare p q) (cell turned p q)) where
     half-told : (p q : ℕ) → p < A .props → q < A .props
-        → cell spare p q ≡ union (cell t p q) (joinOf rowLength (startLabel (A .count) (A .add) p) (λ i. beside (domain A) (overOf A all t) i q))
+        → cell spare p q ≡ union (cell t p q) (joinOf rowLength (startLabel (A .effects) (A .add) p) (λ i. beside (domain A) (overOf A all t) i q))
     half-told p q h k =
         halves p q h k ∙ ap (union (cell t p q))
         (join-only (getD adders p 0) (λ i l m. with-adders i q
-        (bit-below (startLabel-lt (A .count) (A .add) p) (ap (bit i) (sym (told .by p h)) ∙ m)) k)
+        (bit-below (startLabel-lt (A .effects) (A .add) p) (ap (bit i) (sym (told .by p h)) ∙ m)) k)
         ∙ ap (λ (x : ℕ). joinOf rowLength x (λ i. beside (domain A) (overOf A all t) i q)) (told .by p h))
 
     pub cell-told : (p q : ℕ) → p < A .props → q < A .props → cell t' p q ≡ nextTogether (domain A) (overOf A all t) p q
@@ -257,10 +269,10 @@ module _ (a n : ℕ) (f : ℕ → ℕ → ℕ) where
       (run-append a n (rowOf (a + n) word)
       ∙ ap₂ (λ (x y : List ℕ). x ++ y) (runOver-eq a row-split) (runOver-eq n (λ p h. row-last p)))
 
-pub actions-told : (A : Actions) (all : ℕ) (sets : Sets rowLength A) (labels t live r mates besides : List ℕ) → Tells A all labels t → Admitted A all t live r → Mated A all t mates besides
-    → actionWords (A .props) (A .count) live labels t mates r ≡ overOf A all t
-unfolding actionWords actionRow apart domain persistence
-actions-told A all sets labels t live r mates besides is adm mat =
+pub actions-told : (A : Actions) (all : ℕ) (sets : Sets rowLength A) (labels t live r cut mates besides : List ℕ) → Tells A all labels t
+    → Admitted A all labels t live r → Kept A all t cut → Mated A all t mates besides → actionWords (A .props) (A .effects) live labels t mates cut ≡ overOf A all t
+unfolding actionWords effectRow apart domain persistence
+actions-told A all sets labels t live r cut mates besides is adm kept-is mat =
     sym (action-by (domain A) all (layerBy (A .props) (cell t)) ∙ layer-split a n free ∙ ap₂ (λ (x y : List ℕ). x ++ y)
     (ap₂ (λ (x y : List ℕ). x ++ y) (listOver-eq own) (listOver-eq kept))
     (ap₂ (λ (x y : List ℕ). x ++ y)
@@ -268,25 +280,27 @@ actions-told A all sets labels t live r mates besides is adm mat =
     (listOver-eq (λ k l.
     let hk : i + 1 + k < a = omega arith in
     ap₂ without (ap₂ common (own i h) (own (i + 1 + k) hk)) (sym (mat .pair i (i + 1 + k) h hk))))
-    (listOver-eq (λ q l. ap₂ without (ap₂ common (own i h) (kept q l)) (sym (adm .with-props i q h l))))))
+    (listOver-eq (λ q l. ap₂ without (ap₂ common (own i h) (kept q l)) (sym (kept-is i q h l))))))
     (runOver-eq n (λ p h. rows p h))))
   where
     a : ℕ
-    a = A .count
+    a = A .effects
 
     n : ℕ
     n = A .props
 
     free : ℕ → ℕ → ℕ
-    free = freeIn (A .count + A .props) (overOf A all t)
+    free = freeIn (A .effects + A .props) (overOf A all t)
 
-    own : (i : ℕ) → i < A .count → free i i ≡ getD live i 0
-    own i h = free-own (A .count + A .props) (overOf A all t) i ∙ sym (adm .label i h)
+    own : (i : ℕ) → i < A .effects → free i i ≡ getD live i 0
+    own i h = free-own (A .effects + A .props) (overOf A all t) i ∙ sym (adm .label i h)
 
-    kept : (p : ℕ) → p < A .props → free (A .count + p) (A .count + p) ≡ getD labels p 0
+    kept : (p : ℕ) → p < A .props → free (A .effects + p) (A .effects + p) ≡ getD labels p 0
     kept p h = S.both-kept rowLength all A sets (is .consistent) h h ∙ sym (is .diagonal p h)
 
-    rows : (p : ℕ) → p < A .props → rowOf (A .props) (λ p q. without (common (free (A .count + p) (A .count + p)) (free (A .count + q) (A .count + q))) (free (A .count + p) (A .count + q))) p
+    rows : (p : ℕ) → p < A .props
+        → rowOf (A .props) (λ p q. without (common (free (A .effects + p) (A .effects + p)) (free (A .effects + q) (A .effects + q)))
+        (free (A .effects + p) (A .effects + q))) p
         ≡ rowOf (A .props) (λ p q. without (common (getD labels p 0) (getD labels q 0)) (cell t p q)) p
     rows p h = unfold rowOf in listOver-eq (λ k l.
         let hk : p + 1 + k < A .props = omega arith in
@@ -308,45 +322,51 @@ sets-of A n width needs adds adders interferers told wide =
     let le : width ≤ rowLength = parts-le (wide .parts) in
     record {
       props = omega (arith, told .props, wide .props);
-      count = omega (arith, told .count, wide .actions);
-      pre = λ i h. subst (λ (x : ℕ). x < 2 ^ A .props) (told .pre i h) (subst (λ (x : ℕ). getD needs i 0 < 2 ^ x) (sym (told .props))
-          (wide .inside i (subst (λ (x : ℕ). i < x) (told .count) h)));
+      effects = omega (arith, told .effects, wide .effects);
+      needs = λ i h. subst (λ (x : ℕ). x < 2 ^ A .props) (told .need i h) (subst (λ (x : ℕ). getD needs i 0 < 2 ^ x) (sym (told .props))
+          (wide .inside i (subst (λ (x : ℕ). i < x) (told .effects) h)));
     }
 
--- the actions' tables, one by one or by rows
-module _ (A : Actions) (all n width : ℕ) (needs adds adders interferers live r labels t : List ℕ) (told : Told A n needs adds adders interferers) (wide : Width n width needs)
-    (is : Tells A all labels t) (adm : Admitted A all t live r) where
+-- the effects' tables, one by one or by rows
+module _ (A : Actions) (all n width : ℕ) (needs adds dels adders interferers live r labels t : List ℕ) (told : Told A n needs adds adders interferers)
+    (wide : Width n width needs) (del : Deletes A dels) (is : Tells A all labels t) (adm : Admitted A all labels t live r) where
   sets : Sets rowLength A
   sets = sets-of A n width needs adds adders interferers told wide
 
-  act : (i : ℕ) → i < A .count → i < length needs
-  act i h = subst (λ (x : ℕ). i < x) (told .count) h
+  act : (i : ℕ) → i < A .effects → i < length needs
+  act i h = subst (λ (x : ℕ). i < x) (told .effects) h
 
   prop : (p : ℕ) → p < A .props → p < n
   prop p h = subst (λ (x : ℕ). p < x) (told .props) h
 
   pub few-made : (mates besides : List ℕ) → ((i j : ℕ) → i < length needs → j < rowLength → cell mates i j ≡ mateOf needs interferers live r i j)
-      → ((i p : ℕ) → i < length needs → p < width → cell besides i p ≡ besideFor needs adds interferers live r i p) → Mated A all t mates besides
+      → ((i p : ℕ) → i < length needs → p < width → cell besides i p ≡ besideFor needs adds dels interferers live r i p) → Mated A all t mates besides
   few-made mates besides pair by = record {
-    pair = λ i j h k. pair i j (act i h) (omega (arith, act j k, wide .actions, parts-le (wide .parts)))
-        ∙ mate-told A all sets labels t is n needs adds adders interferers live r told adm i j h k;
+    pair = λ i j h k. pair i j (act i h) (omega (arith, act j k, wide .effects, parts-le (wide .parts)))
+        ∙ mate-told A all sets labels t is n needs adds dels adders interferers live r told del adm i j h k;
     with-adders = λ i p h k. by i p (act i h) (omega (arith, prop p k, wide .props))
-        ∙ beside-told A all sets labels t is n needs adds adders interferers live r told adm i p h k;
+        ∙ beside-told A all sets labels t is n needs adds dels adders interferers live r told del adm i p h k;
   }
 
-  pub rows-made : (turned mates spare besides : List ℕ) → length adders ≡ n → ((i j : ℕ) → i < length needs → j < n → cell turned j i ≡ cell r i j)
-      → ((i j : ℕ) → i < length needs → j < width → cell mates i j ≡ withAction needs interferers live turned i j)
-      → ((p k : ℕ) → p < length adders → k < width → cell spare p k ≡ union (cell turned p k) (joinOf rowLength (getD adders p 0) (λ i. cell mates i k)))
+  pub rows-made : (turned mates cut spare besides : List ℕ) → length adders ≡ n → length dels ≡ length needs
+      → ((i j : ℕ) → i < length needs → j < n → cell turned j i ≡ cell r i j)
+      → ((i j : ℕ) → i < length needs → j < width → cell mates i j ≡ withEffect needs interferers live turned i j)
+      → ((i q : ℕ) → i < length dels → cell cut q i ≡ choose (bit q (getD dels i 0)) 0 (cell turned q i))
+      → ((p k : ℕ) → p < length adders → k < width → cell spare p k ≡ union (cell cut p k) (joinOf rowLength (getD adders p 0) (λ i. cell mates i k)))
       → ((i j : ℕ) → i < n → j < length needs → cell besides j i ≡ cell spare i j) → Mated A all t mates besides
-  rows-made turned mates spare besides long turns pair joined back = record {
+  rows-made turned mates cut spare besides long dels-long turns pair cuts joined back = record {
     pair = paired;
-    with-adders = λ i p h k. back p i (prop p k) (act i h) ∙ joined p i (omega (arith, prop p k)) (omega (arith, act i h, wide .actions))
-        ∙ rows-told A all sets labels t is n needs adds adders interferers live r told adm turned mates (λ j q g l. turns j q (act j g) (prop q l)) paired i p h k;
+    with-adders = λ i p h k. back p i (prop p k) (act i h) ∙ joined p i (omega (arith, prop p k)) (omega (arith, act i h, wide .effects))
+        ∙ rows-told A all sets labels t is n needs adds dels adders interferers live r told del adm cut mates gone paired i p h k;
   }
     where
-      paired : (i j : ℕ) → i < A .count → j < A .count → cell mates i j ≡ freeIn (domain A .vertices) (overOf A all t) i j
-      paired i j h k = pair i j (act i h) (omega (arith, act j k, wide .actions))
-          ∙ pair-told A all sets labels t is n needs adds adders interferers live r told adm turned (λ j q g l. turns j q (act j g) (prop q l)) i j h k
+      gone : (j p : ℕ) → j < A .effects → p < A .props → cell cut p j ≡ withProp dels r j p
+      gone j p h k = unfold withProp in
+          cuts j p (omega (arith, act j h, dels-long)) ∙ ap (λ (x : ℕ). choose (bit p (getD dels j 0)) 0 x) (turns j p (act j h) (prop p k))
+
+      paired : (i j : ℕ) → i < A .effects → j < A .effects → cell mates i j ≡ freeIn (domain A .vertices) (overOf A all t) i j
+      paired i j h k = pair i j (act i h) (omega (arith, act j k, wide .effects))
+          ∙ pair-told A all sets labels t is n needs adds dels adders interferers live r told del adm turned (λ j q g l. turns j q (act j g) (prop q l)) i j h k
 
 pub next-made : (A : Actions) (all n width fresh : ℕ) (needs adds adders interferers mates labels t besides spare turned t' labels' : List ℕ)
     → Told A n needs adds adders interferers → Width n width needs → Nexting n width adders besides t spare turned labels → Tells A all labels t → Mated A all t mates besides
@@ -396,53 +416,66 @@ length-actions' : (D : Domain) (all : ℕ) (l : List ℕ) → length (actionLaye
 unfolding actionLayer
 length-actions' D all l = length-layerOf (D .vertices) _ _
 
-pub admit-made : (A : Actions) (all n width : ℕ) (needs adds adders interferers dels labels t live live' r' : List ℕ) → Told A n needs adds adders interferers → Width n width needs
-    → Deletes A dels → Tells A all labels t → length live ≡ rowLength
+pub admit-made : (A : Actions) (all n width : ℕ) (needs adds adders interferers labels t live live' r' : List ℕ)
+    → Told A n needs adds adders interferers → Width n width needs → Tells A all labels t → length live ≡ rowLength
     → live' ≡ putAt 0 (listOver (length needs) (λ i. labelFor all labels t (getD needs i 0))) live
-    → ((i q : ℕ) → i < length needs → q < width → cell r' i q ≡ withProp all labels t (getD needs i 0) (getD dels i 0) q) → Admitted A all t live' r'
-admit-made A all n width needs adds adders interferers dels labels t live live' r' told wide del is long e cells = record {
-  label = λ i h. ap (λ (l : List ℕ). getD l i 0) e ∙ front-word (length needs) i _ live (omega (arith, wide .actions, parts-le (wide .parts))) (act i h)
-      ∙ ap (labelFor all labels t) (told .pre i h) ∙ label-told A all ready labels t is i h;
-  with-props = λ i q h k. cells i q (act i h) (omega (arith, subst (λ (x : ℕ). q < x) (told .props) k, wide .props))
-      ∙ ap₂ (λ (x y : ℕ). withProp all labels t x y q) (told .pre i h) (del i h) ∙ prop-told A all ready labels t is i q h k;
+    → ((i q : ℕ) → i < length needs → q < width → cell r' i q ≡ rowFor all labels t (getD needs i 0) q) → Admitted A all labels t live' r'
+admit-made A all n width needs adds adders interferers labels t live live' r' told wide is long e cells = record {
+  label = λ i h. ap (λ (l : List ℕ). getD l i 0) e ∙ front-word (length needs) i _ live (omega (arith, wide .effects, parts-le (wide .parts))) (act i h)
+      ∙ ap (labelFor all labels t) (told .need i h) ∙ label-told A all ready labels t is i h;
+  row = λ i q h k. cells i q (act i h) (omega (arith, subst (λ (x : ℕ). q < x) (told .props) k, wide .props))
+      ∙ ap (λ (x : ℕ). rowFor all labels t x q) (told .need i h);
 }
   where
-    act : (i : ℕ) → i < A .count → i < length needs
-    act i h = subst (λ (x : ℕ). i < x) (told .count) h
+    act : (i : ℕ) → i < A .effects → i < length needs
+    act i h = subst (λ (x : ℕ). i < x) (told .effects) h
 
     ready : Sets rowLength A
     ready = sets-of A n width needs adds adders interferers told wide
 
-pub step-made : (A : Actions) (all n width at : ℕ) (still : Bool) (needs adds dels adders interferers labels live t r mates besides spare w live' r' mates' besides' w₁ labels' t' p : List ℕ)
+pub step-made : (A : Actions) (all n width at : ℕ) (still : Bool)
+    (needs adds dels adders interferers labels live t r mates besides spare w live' r' mates' besides' cut w₁ labels' t' p : List ℕ)
     → Ready n width at needs adds dels adders interferers labels live t r mates besides spare w → Told A n needs adds adders interferers → Deletes A dels → Tells A all labels t
     → live' ≡ putAt 0 (listOver (length needs) (λ i. labelFor all labels t (getD needs i 0))) live
-    → ((i q : ℕ) → i < length needs → q < width → cell r' i q ≡ withProp all labels t (getD needs i 0) (getD dels i 0) q)
-    → ((A : Actions) (all : ℕ) (labels t : List ℕ) → Told A n needs adds adders interferers → Tells A all labels t → Admitted A all t live' r' → Mated A all t mates' besides')
-    → w₁ ≡ putAt 0 (actionWords n (length needs) live' labels t mates' r') w
+    → ((i q : ℕ) → i < length needs → q < width → cell r' i q ≡ rowFor all labels t (getD needs i 0) q)
+    → ((A : Actions) (all : ℕ) (labels t : List ℕ) → Told A n needs adds adders interferers → Deletes A dels → Tells A all labels t
+    → Admitted A all labels t live' r' → Mated A all t mates' besides')
+    → ((i q : ℕ) → i < length dels → q < rowLength → cell cut i q ≡ withProp dels r' i q)
+    → w₁ ≡ putAt 0 (actionWords n (length needs) live' labels t mates' cut) w
     → ((A : Actions) (all : ℕ) (needs adds interferers mates : List ℕ) → Told A n needs adds adders interferers → Width n width needs → Tells A all labels t
     → Mated A all t mates besides' → Next A all t labels' t' still)
     → p ≡ putAt 0 (layerBy n (cell t')) (take (length w₁ - at) (drop at w₁))
     → Stepped A all t labels' t' w (putMid at (length w₁ - at) w₁ p) still
-step-made A all n width at still needs adds dels adders interferers labels live t r mates besides spare w live' r' mates' besides' w₁ labels' t' p ready told del is el cells mate e₁ next ep =
+step-made A all n width at still needs adds dels adders interferers labels live t r mates besides spare w
+    live' r' mates' besides' cut w₁ labels' t' p ready told del is el cells mate cuts e₁ next ep =
     record { next = nx; is = unfold stepWords in back }
   where
-    adm : Admitted A all t live' r'
-    adm = admit-made A all n width needs adds adders interferers dels labels t live live' r' told (ready .mating .wide) del is (ready .mating .live-long) el cells
+    sets : Sets rowLength A
+    sets = sets-of A n width needs adds adders interferers told (ready .mating .wide)
+
+    adm : Admitted A all labels t live' r'
+    adm = admit-made A all n width needs adds adders interferers labels t live live' r' told (ready .mating .wide) is (ready .mating .live-long) el cells
 
     mat : Mated A all t mates' besides'
-    mat = mate A all labels t told is adm
+    mat = mate A all labels t told del is adm
+
+    kept : Kept A all t cut
+    kept i q h k =
+        cuts i q (omega (arith, subst (λ (x : ℕ). i < x) (told .effects) h, ready .mating .dels-long)) (omega (arith, sets .props))
+        ∙ kept-told A all sets labels t is dels live' r' adm del i q h k
 
     nx : Next A all t labels' t' still
     nx = next A all needs adds interferers mates' told (ready .mating .wide) is mat
 
     words : w₁ ≡ putAt 0 (overOf A all t) w
     words =
-        e₁ ∙ ap₂ (λ (x y : ℕ). putAt 0 (actionWords x y live' labels t mates' r') w) (sym (told .props)) (sym (told .count))
+        e₁ ∙ ap₂ (λ (x y : ℕ). putAt 0 (actionWords x y live' labels t mates' cut) w) (sym (told .props)) (sym (told .effects))
         ∙ ap (λ (l : List ℕ). putAt 0 l w)
-        (actions-told A all (sets-of A n width needs adds adders interferers told (ready .mating .wide)) labels t live' r' mates' besides' is adm mat)
+        (actions-told A all sets labels t live' r' cut mates' besides' is adm kept mat)
 
     long : length (overOf A all t) ≡ at
-    long = unfold domain in length-actions' (domain A) all (layerBy (A .props) (cell t)) ∙ ap₂ (λ (x y : ℕ). size (x + y)) (told .count) (told .props) ∙ sym (ready .place)
+    long = unfold domain in
+        length-actions' (domain A) all (layerBy (A .props) (cell t)) ∙ ap₂ (λ (x y : ℕ). size (x + y)) (told .effects) (told .props) ∙ sym (ready .place)
 
     next-words : layerBy n (cell t') ≡ nextLayer (domain A) (overOf A all t)
     next-words = unfold domain in ap (λ (x : ℕ). layerBy x (cell t')) (sym (told .props)) ∙ nx .layer

@@ -1,35 +1,34 @@
--- A step of the graph, by the lists of the actions' sets and the tables of what is together.
+-- A step of the graph, by the lists of the effects' sets and the tables of what is together.
 use Prim.Native.Nat.{ℕ, _+_, _≤_, _<_}
 use mathlib.Core.Path.{_≡_}
 use mathlib.Core.Bool.{Bool, true}
 use mathlib.Core.List.{List, _++_}
 use lib.ListN.{length, getD}
-use Rattle.rules.specs.Test.{_or_}
 use Rattle.rules.specs.Word.{bit}
-use Rattle.rules.specs.Domain.{Domain, Actions, persistence, clobbers, domain}
+use Rattle.rules.specs.Domain.{Domain, Actions, condition, persistence, interfereOf, domain}
 use Rattle.rules.specs.Layer.{size, labelIn, freeIn}
 use Rattle.rules.specs.Shared.{startLabel, actionLayer, nextLayer}
-use Rattle.rules.specs.Together.{layerBy, Consistent, beside, nextTogether}
+use Rattle.rules.specs.Together.{layerBy, Consistent, beside}
 use Rattle.words.specs.Memory.{putAt}
 use Rattle.words.specs.Rows.{rowLength, tableLength, cell, InParts, Inside}
-use Rattle.together.specs.Cells.{Width}
+use Rattle.together.specs.Cells.{Width, rowFor}
 
 -- the action layer over the proposition layer l, and the next proposition layer behind it
 unfoldable pub stepWords : Domain → ℕ → List ℕ → List ℕ
 stepWords D all l = actionLayer D all l ++ nextLayer D (actionLayer D all l)
 
--- the lists tell these actions: their needs and adds, the adders of each proposition, and those that interfere with each
+-- the lists tell the effects of these actions: their needs and adds, the adders of each proposition, and those that interfere with each
 pub record Told (A : Actions) (n : ℕ) (needs adds adders interferers : List ℕ) : Type 0 where
   pub props : A .props ≡ n
-  pub count : A .count ≡ length needs
-  pub pre : (i : ℕ) → i < A .count → getD needs i 0 ≡ A .pre i
-  pub add : (i : ℕ) → i < A .count → getD adds i 0 ≡ A .add i
-  pub by : (p : ℕ) → p < A .props → getD adders p 0 ≡ startLabel (A .count) (A .add) p
-  pub interfere : (i j : ℕ) → i < A .count → j < A .count → bit j (getD interferers i 0) ≡ (clobbers A i j or clobbers A j i)
+  pub effects : A .effects ≡ length needs
+  pub need : (i : ℕ) → i < A .effects → getD needs i 0 ≡ condition A i
+  pub add : (i : ℕ) → i < A .effects → getD adds i 0 ≡ A .add i
+  pub by : (p : ℕ) → p < A .props → getD adders p 0 ≡ startLabel (A .effects) (A .add) p
+  pub interfere : (i j : ℕ) → i < A .effects → j < A .effects → bit j (getD interferers i 0) ≡ interfereOf A i j
 
 -- and these what each deletes
 abbrev pub Deletes : Actions → List ℕ → Type 0
-Deletes A dels = (i : ℕ) → i < A .count → getD dels i 0 ≡ A .del i
+Deletes A dels = (i : ℕ) → i < A .effects → getD dels i 0 ≡ A .del i
 
 -- the table tells what is together in a proposition layer, and `labels` its labels
 pub record Tells (A : Actions) (all : ℕ) (labels t : List ℕ) : Type 0 where
@@ -40,20 +39,25 @@ pub record Tells (A : Actions) (all : ℕ) (labels t : List ℕ) : Type 0 where
 abbrev pub overOf : Actions → ℕ → List ℕ → List ℕ
 overOf A all t = actionLayer (domain A) all (layerBy (domain A .props) (cell t))
 
--- `live` has the labels of the actions, and r what each is together with among the propositions
-pub record Admitted (A : Actions) (all : ℕ) (t live r : List ℕ) : Type 0 where
-  pub label : (i : ℕ) → i < A .count → getD live i 0 ≡ labelIn (overOf A all t) i
-  pub with-props : (i q : ℕ) → i < A .count → q < A .props → cell r i q ≡ freeIn (domain A .vertices) (overOf A all t) i (persistence A q)
+-- `live` has the labels of the effects, and r what each is together with among the propositions, whatever it deletes
+pub record Admitted (A : Actions) (all : ℕ) (labels t live r : List ℕ) : Type 0 where
+  pub label : (i : ℕ) → i < A .effects → getD live i 0 ≡ labelIn (overOf A all t) i
+  pub row : (i q : ℕ) → i < A .effects → q < A .props → cell r i q ≡ rowFor all labels t (condition A i) q
 
--- `mates` has what two actions are together in, and `besides` what each is together with among the adders of a proposition
+-- r has what each is together with among the persistences: that, without what it deletes
+abbrev pub Kept : Actions → ℕ → List ℕ → List ℕ → Type 0
+Kept A all t r = (i q : ℕ) → i < A .effects → q < A .props → cell r i q ≡ freeIn (domain A .vertices) (overOf A all t) i (persistence A q)
+
+-- `mates` has what two effects are together in, and `besides` what each is together with among the adders of a proposition
 pub record Mated (A : Actions) (all : ℕ) (t mates besides : List ℕ) : Type 0 where
-  pub pair : (i j : ℕ) → i < A .count → j < A .count → cell mates i j ≡ freeIn (domain A .vertices) (overOf A all t) i j
-  pub with-adders : (i p : ℕ) → i < A .count → p < A .props → cell besides i p ≡ beside (domain A) (overOf A all t) i p
+  pub pair : (i j : ℕ) → i < A .effects → j < A .effects → cell mates i j ≡ freeIn (domain A .vertices) (overOf A all t) i j
+  pub with-adders : (i p : ℕ) → i < A .effects → p < A .props → cell besides i p ≡ beside (domain A) (overOf A all t) i p
 
 -- what the code asks that finds them
-pub record Mating (n width : ℕ) (needs adds adders interferers live r mates besides spare : List ℕ) : Type 0 where
+pub record Mating (n width : ℕ) (needs adds dels adders interferers live r mates besides spare : List ℕ) : Type 0 where
   pub wide : Width n width needs
   pub adds-long : length adds ≡ length needs
+  pub dels-long : length dels ≡ length needs
   pub adders-long : length adders ≡ n
   pub adders-inside : Inside rowLength adders
   pub interferers-long : length interferers ≡ length needs
@@ -84,9 +88,7 @@ pub record Nexting (n width : ℕ) (adders besides t spare turned labels : List 
 
 -- what it asks of a whole step: `at` is where the proposition layer goes behind the action layer
 pub record Ready (n width at : ℕ) (needs adds dels adders interferers labels live t r mates besides spare words : List ℕ) : Type 0 where
-  pub mating : Mating n width needs adds adders interferers live r mates besides spare
-  pub dels-long : length dels ≡ length needs
-  pub deletes : Inside n dels
+  pub mating : Mating n width needs adds dels adders interferers live r mates besides spare
   pub labels-long : length labels ≡ rowLength
   pub t-long : length t ≡ tableLength
   pub place : at ≡ size (length needs + n)

@@ -1,7 +1,9 @@
-// The step: labels and pairs of the actions, the action layer's words, what is together in the next proposition layer, and its words.
+// The step: labels and pairs of the effects, the action layer's words, what is together in the next proposition layer, and its words.
 use crate::write::put_actions;
 use crate::write::put_props;
 use together::admit::admit;
+use together::cut::cut_columns;
+use together::cut::cut_rows;
 use together::few::few;
 use together::pairs::join_rows;
 use together::pairs::pairs;
@@ -10,8 +12,8 @@ use words::tables::join_tables;
 use words::tables::turn;
 ghost use mathlib.Core.Path.{_≡_};
 ghost use mathlib.Core.List.{List};
-ghost use Prim.Native.Nat.{ℕ, _≤_, _<_};
-ghost use lib.ListN.{length, getD};
+ghost use Prim.Native.Nat.{ℕ, _≤_};
+ghost use lib.ListN.{length};
 ghost use Rattle.rules.specs.Lists.{listOver};
 ghost use Rattle.rules.specs.Domain.{Actions};
 ghost use Rattle.words.specs.Memory.{putAt};
@@ -20,12 +22,14 @@ ghost use Rattle.together.specs.Cells.{Width};
 ghost use Rattle.layers.specs.Write.{Diagonal};
 ghost use Rattle.layers.specs.Step.{Told, Tells, Admitted, Mated, Mating, Next, Nexting, Ready, Stepped, Deletes};
 
-// Which actions are together, and what each is together with among the adders of each proposition: by rows, or one by one where there are few pairs.
+// Which effects are together, and what each is together with among the adders of each proposition: by rows, or one by one where there are few pairs.
+// Pairs go by the rows of r as they are; what an effect deletes is cut out behind them, since it does not part the effects of one action.
 fn mate(
     many: bool,
     n: usize,
     needs: &[u32],
     adds: &[u32],
+    dels: &[u32],
     adders: &[u64],
     interferers: &[u64],
     live: &[u64],
@@ -35,14 +39,26 @@ fn mate(
     spare: &mut [u64],
     width: usize,
 )
-    requires { ⌜ Mating n width (now needs) (now adds) (now adders) (now interferers) (now live) (now r) (now mates) (now besides) (now spare) ⌝ }
-    ensures { λ _. ⌜ ((A : Actions) (all : ℕ) (labels t : List ℕ) → Told A n (now (needs .entry)) (now (adds .entry)) (now (adders .entry)) (now (interferers .entry)) → Tells A all labels t → Admitted A all t (now (live .entry)) (now (r .entry)) → Mated A all t (now (mates .exit)) (now (besides .exit))) ⌝ }
+    requires { ⌜ Mating n width (now needs) (now adds) (now dels) (now adders) (now interferers) (now live) (now r) (now mates) (now besides) (now spare) ⌝ }
+    ensures { λ _. ⌜ ((A : Actions) (all : ℕ) (labels t : List ℕ) → Told A n (now (needs .entry)) (now (adds .entry)) (now (adders .entry)) (now (interferers .entry)) → Deletes A (now (dels .entry)) → Tells A all labels t → Admitted A all labels t (now (live .entry)) (now (r .entry)) → Mated A all t (now (mates .exit)) (now (besides .exit))) ⌝ }
 {
     if !many {
-        return few(needs, adds, interferers, live, r, mates, besides, n, width);
+        return few(
+            needs,
+            adds,
+            dels,
+            interferers,
+            live,
+            r,
+            mates,
+            besides,
+            n,
+            width,
+        );
     }
     turn(&mut *besides, r, needs.len(), n);
     pairs(needs, interferers, live, &*besides, &mut *mates, n, width);
+    cut_columns(&mut *besides, dels);
     join_rows(&mut *spare, &*besides, &*mates, adders, width);
     turn(besides, &*spare, n, needs.len());
 }
@@ -57,7 +73,8 @@ fn diagonal(t: &[u64], labels: &mut [u64], n: usize)
     }
 }
 
-// The table of the next proposition layer and its labels: what is together in the layer before, by two actions, or by an action and a persistence. Whether nothing changed.
+// The table of the next proposition layer and its labels: what is together in the layer before, by two effects, or by an effect and a persistence.
+// Whether nothing changed.
 fn next(
     n: usize,
     adders: &[u64],
@@ -102,22 +119,13 @@ pub fn step(
     requires { ⌜ Ready n width at (now needs) (now adds) (now dels) (now adders) (now interferers) (now labels) (now live) (now t) (now r) (now mates) (now besides) (now spare) (now words) ⌝ }
     ensures { λ still. ⌜ ((A : Actions) → Told A n (now (needs .entry)) (now (adds .entry)) (now (adders .entry)) (now (interferers .entry)) → Deletes A (now (dels .entry)) → Tells A all (now (labels .entry)) (now (t .entry)) → Stepped A all (now (t .entry)) (now (labels .exit)) (now (t .exit)) (now (words .entry)) (now (words .exit)) still) ⌝ }
 {
-    admit(
-        needs,
-        dels,
-        all,
-        &*labels,
-        &*t,
-        &mut *r,
-        &mut *live,
-        n,
-        width,
-    );
+    admit(needs, all, &*labels, &*t, &mut *r, &mut *live, n, width);
     mate(
         many,
         n,
         needs,
         adds,
+        dels,
         adders,
         interferers,
         &*live,
@@ -127,6 +135,7 @@ pub fn step(
         &mut *spare,
         width,
     );
+    cut_rows(&mut *r, dels);
     put_actions(
         &mut *words,
         n,

@@ -9,7 +9,7 @@ ghost use Rattle.rules.specs.Layer.{pairs, size, rowOf};
 ghost use Rattle.rules.specs.Together.{layerBy};
 ghost use Rattle.words.specs.Memory.{putAt};
 ghost use Rattle.words.specs.Rows.{rowLength, tableLength, cell};
-ghost use Rattle.layers.specs.Write.{apart, Diagonal, Laid, actionRow, actionWords, Labelled};
+ghost use Rattle.layers.specs.Write.{apart, Diagonal, Laid, effectRow, actionWords, Labelled};
 
 // Words from `to` on.
 fn put_words(words: &mut [u64], to: usize, from: &[u64])
@@ -43,7 +43,7 @@ fn put_pairs(words: &mut [u64], to: usize, n: usize, labels: &[u64], t: &[u64])
     }
 }
 
-// The pairs of each action: with the later actions, then with each of n propositions. Where they end.
+// The pairs of each effect: with the later effects, then with each of n propositions. Where they end.
 fn put_rows(
     words: &mut [u64],
     to: usize,
@@ -55,7 +55,7 @@ fn put_rows(
     r: &[u64],
 ) -> usize
     requires { ⌜ Labelled n a (now live) (now labels) × (length (now mates) ≡ tableLength) × (length (now r) ≡ tableLength) × (to + (pairs a + a * n) ≤ length (now words)) ⌝ }
-    ensures { λ at. ⌜ (at ≡ to + (pairs a + a * n)) × (now (words .exit) ≡ putAt to (runOver a (actionRow n a (now (live .entry)) (now (labels .entry)) (now (mates .entry)) (now (r .entry)))) (now (words .entry))) ⌝ }
+    ensures { λ at. ⌜ (at ≡ to + (pairs a + a * n)) × (now (words .exit) ≡ putAt to (runOver a (effectRow n a (now (live .entry)) (now (labels .entry)) (now (mates .entry)) (now (r .entry)))) (now (words .entry))) ⌝ }
 {
     let mut at = to;
     for i in 0..a {

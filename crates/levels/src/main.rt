@@ -18,7 +18,7 @@ fn print(file: &[u8]) {
     print_in(file, &mut text);
 }
 
-// Only the first 4,096 bytes are read and judged: no file that is taken is longer than 648.
+// Only the first 4,096 bytes are read and judged: no file that is taken is longer than 809.
 fn main() {
     let mut file = io::buffer();
     let n = io::read_full(0, &mut file);

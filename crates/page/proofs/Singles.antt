@@ -17,9 +17,9 @@ use Rattle.graph.specs.Format.{shapeIn}
 use Rattle.graph.specs.File.{fileRule}
 use Rattle.graph.specs.Checks.{setRule, outputRule, askedRule, graphRule, Passed}
 use Rattle.graph.specs.declared.format.Counts.{Counts}
-use Rattle.graph.proofs.Ladder.{passed-then, accepted-is, output-means, asked-of, graph-means, graph-of}
+use Rattle.graph.proofs.Ladder.{output-means, asked-of, graph-means, graph-of}
 use Rattle.graph.proofs.Links.{deep-enough, wide-goal, fit-goal}
-use Rattle.graph.proofs.Verdicts.{then-refused, then-accepted}
+use Rattle.graph.proofs.Verdicts.{then-refused, then-accepted, passed-then, accepted-is}
 use Rattle.level.specs.Rule.{levelTaken, levelRule}
 use Rattle.level.proofs.Answers.{level-at, level-none, met-le}
 use Rattle.page.specs.Rule.{neverEntry, notByDepthEntry, entryOf, entries, pageTaken, pageRule}

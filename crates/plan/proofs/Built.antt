@@ -10,7 +10,8 @@ use Rattle.graph.specs.Format.{actionsOf}
 use Rattle.graph.specs.File.{Taken, fileRule}
 use Rattle.graph.specs.Checks.{Passed, askedRule}
 use Rattle.graph.specs.declared.format.Counts.{Counts}
-use Rattle.graph.proofs.Ladder.{passed-then, taken-means, graph-means, output-means}
+use Rattle.graph.proofs.Verdicts.{passed-then}
+use Rattle.graph.proofs.Ladder.{taken-means, graph-means, output-means}
 use Rattle.plan.specs.Plan.{plannedVerdict, planTaken, planRule}
 
 -- the file is taken, each check is passed, and the words are those of the definition

@@ -14,14 +14,14 @@ use lib.Seq.{drop-cons}
 use Rattle.rules.specs.Test.{same, choose}
 use Rattle.rules.specs.Word.{bit, common, single}
 use Rattle.rules.specs.Lists.{listOver}
-use Rattle.rules.specs.Domain.{Actions, persistence, addsOf}
+use Rattle.rules.specs.Domain.{Actions, condition, persistence, addsOf}
 use Rattle.rules.specs.Layer.{labelIn}
 use Rattle.rules.specs.Plan.{Support, takes, order, support, Covered, covered, uncovered, coverFrom, cover}
 use Rattle.rules.proofs.Tests.{holds-or, same-at, same-of, same-not, below-not, is-fails, fails-at, choose-held, choose-failed}
 use Rattle.rules.proofs.Words.{single-has}
 use Rattle.rules.proofs.Layers.{length-listOver, getD-listOver}
 use Rattle.plan.specs.Search.{took}
-use Rattle.plan.proofs.Turns.{took-none, takes-action, takes-kept}
+use Rattle.plan.proofs.Turns.{took-none, takes-effect, takes-kept}
 
 -- the propositions from p on
 unfoldable pub resting : Actions → List ℕ → List ℕ → ℕ → ℕ → List ℕ → Covered
@@ -35,9 +35,9 @@ after A labels wanted n p s = choose (same (s .left) 0) (coverFrom A labels want
 unfoldable pub searching : Actions → List ℕ → List ℕ → ℕ → ℕ → Support → Covered
 searching A labels wanted p k s = after A labels wanted (A .props - suc p) p (support A labels p (drop k (order A p)) s)
 
-order-length : (A : Actions) (p : ℕ) → length (order A p) ≡ suc (A .count)
+order-length : (A : Actions) (p : ℕ) → length (order A p) ≡ suc (A .effects)
 unfolding order
-order-length A p = ap suc (length-listOver (A .count) (λ a. a))
+order-length A p = ap suc (length-listOver (A .effects) (λ a. a))
 
 module _ (A : Actions) (labels wanted : List ℕ) where
   rest-open : (p marks : ℕ) (needed : List ℕ) → p < A .props
@@ -63,7 +63,7 @@ module _ (A : Actions) (labels wanted : List ℕ) where
       ap (after A labels wanted (A .props - suc p) p) (stays p (drop k (order A p)) s e) ∙ simp (same-of e, add-one)
 
   -- past all vertices, with states left
-  pub search-end : (p k : ℕ) (s : Support) → A .count < k → (s .left ≡ 0 → ⊥) → searching A labels wanted p k s ≡ uncovered
+  pub search-end : (p k : ℕ) (s : Support) → A .effects < k → (s .left ≡ 0 → ⊥) → searching A labels wanted p k s ≡ uncovered
   unfolding searching after support choose
   search-end p k s l e =
       let long : length (order A p) ≤ k = omega (arith, order-length A p) in
@@ -71,7 +71,7 @@ module _ (A : Actions) (labels wanted : List ℕ) where
       ∙ simp (same-not e)
 
   -- one vertex on
-  search-on : (p k v : ℕ) (s t : Support) → getD (order A p) k 0 ≡ v → k ≤ A .count → (s .left ≡ 0 → ⊥)
+  search-on : (p k v : ℕ) (s t : Support) → getD (order A p) k 0 ≡ v → k ≤ A .effects → (s .left ≡ 0 → ⊥)
       → t ≡ choose (bit p (addsOf A v)) (takes A labels v s) s → searching A labels wanted p k s ≡ searching A labels wanted p (k + 1) t
   unfolding searching support choose
   search-on p k v s t h l e q =
@@ -88,43 +88,43 @@ module _ (A : Actions) (labels wanted : List ℕ) where
           (choose (bit p (addsOf A (getD (order A p) k 0))) (takes A labels (getD (order A p) k 0) s) s))) f
 
   -- 'persistence first'
-  order-first : (p : ℕ) → getD (order A p) 0 0 ≡ A .count + p
+  order-first : (p : ℕ) → getD (order A p) 0 0 ≡ A .effects + p
   unfolding order persistence
   order-first p = refl
 
-  -- 'Then actions .. in rising number'
-  order-then : (p a : ℕ) → a < A .count → getD (order A p) (a + 1) 0 ≡ a
+  -- then the effects 'in rising number'
+  order-then : (p a : ℕ) → a < A .effects → getD (order A p) (a + 1) 0 ≡ a
   unfolding order
   order-then p a h = rw add-one (getD-listOver (λ a. a) h)
 
-  kept-adds : (p : ℕ) → So (bit p (addsOf A (A .count + p)))
+  kept-adds : (p : ℕ) → So (bit p (addsOf A (A .effects + p)))
   unfolding addsOf
   kept-adds p =
-      let e : A .count + p - A .count ≡ p = omega arith in
+      let e : A .effects + p - A .effects ≡ p = omega arith in
       ap (bit p) (choose-failed _ _ (is-fails (below-not (omega arith))) ∙ ap single e) ∙ single-has p refl
 
   -- the persistence of p takes what it can
   pub search-kept : (p : ℕ) (s : Support) → length (s .needed) ≡ A .props
-      → searching A labels wanted p 0 s ≡ searching A labels wanted p 1 (took (labelIn labels (A .count + p)) (single p) 0 s)
+      → searching A labels wanted p 0 s ≡ searching A labels wanted p 1 (took (labelIn labels (A .effects + p)) (single p) 0 s)
   search-kept p s long = ⊎-elim
       (λ e.
       search-clear p 0 s (same-at e) ∙ sym (search-clear p 1 s (same-at e))
-      ∙ ap (searching A labels wanted p 1) (sym (took-none _ _ _ s (ap (λ (x : ℕ). common x (labelIn labels (A .count + p))) (same-at e)))))
-      (λ e. search-on p 0 (A .count + p) s _ (order-first p) (omega arith) (λ q. fails-at e (same-of q))
+      ∙ ap (searching A labels wanted p 1) (sym (took-none _ _ _ s (ap (λ (x : ℕ). common x (labelIn labels (A .effects + p))) (same-at e)))))
+      (λ e. search-on p 0 (A .effects + p) s _ (order-first p) (omega arith) (λ q. fails-at e (same-of q))
       (sym (choose-held _ (kept-adds p) ∙ takes-kept A labels s long p)))
       (holds-or (same (s .left) 0))
 
-  -- an action that adds p takes what it can
-  pub search-action : (p a : ℕ) (s : Support) → length (s .needed) ≡ A .props → a < A .count → (s .left ≡ 0 → ⊥) → So (bit p (addsOf A a))
-      → searching A labels wanted p (a + 1) s ≡ searching A labels wanted p (a + 1 + 1) (took (labelIn labels a) (A .pre a) (single a) s)
-  search-action p a s long h e t =
-      search-on p (a + 1) a s _ (order-then p a h) (omega arith) e (sym (choose-held _ t ∙ takes-action A labels s long a h))
+  -- an effect that adds p takes what it can
+  pub search-effect : (p a : ℕ) (s : Support) → length (s .needed) ≡ A .props → a < A .effects → (s .left ≡ 0 → ⊥) → So (bit p (addsOf A a))
+      → searching A labels wanted p (a + 1) s ≡ searching A labels wanted p (a + 1 + 1) (took (labelIn labels a) (condition A a) (single (A .owner a)) s)
+  search-effect p a s long h e t =
+      search-on p (a + 1) a s _ (order-then p a h) (omega arith) e (sym (choose-held _ t ∙ takes-effect A labels s long a h))
 
   -- one that does not is passed over
-  pass-one : (p a : ℕ) (s : Support) → (a < A .count → bit p (addsOf A a) ≡ false)
+  pass-one : (p a : ℕ) (s : Support) → (a < A .effects → bit p (addsOf A a) ≡ false)
       → searching A labels wanted p (a + 1) s ≡ searching A labels wanted p (a + 1 + 1) s
   unfolding searching choose
-  pass-one p a s h = by-cases (decLt a (A .count))
+  pass-one p a s h = by-cases (decLt a (A .effects))
       (λ l. ⊎-elim
       (λ e. search-clear p (a + 1) s (same-at e) ∙ sym (search-clear p (a + 1 + 1) s (same-at e)))
       (λ e. search-on p (a + 1) a s s (order-then p a l) (omega arith) (λ q. fails-at e (same-of q))
@@ -136,7 +136,7 @@ module _ (A : Actions) (labels wanted : List ℕ) where
       ap (λ (vs : List ℕ). after A labels wanted (A .props - suc p) p (support A labels p vs s))
       (drop-of-length-le (order A p) one ∙ sym (drop-of-length-le (order A p) two)))
 
-  pass-over : (d p a : ℕ) (s : Support) → ((j : ℕ) → a ≤ j → j < a + d → j < A .count → bit p (addsOf A j) ≡ false)
+  pass-over : (d p a : ℕ) (s : Support) → ((j : ℕ) → a ≤ j → j < a + d → j < A .effects → bit p (addsOf A j) ≡ false)
       → searching A labels wanted p (a + 1) s ≡ searching A labels wanted p (a + d + 1) s
   pass-over zero p a s h = ap (λ (x : ℕ). searching A labels wanted p (x + 1) s) (sym (add-zero a))
   pass-over (suc d) p a s h =
@@ -145,8 +145,8 @@ module _ (A : Actions) (labels wanted : List ℕ) where
       ∙ pass-over d p (a + 1) s (λ j l m n. h j (omega arith) (omega arith) n)
       ∙ ap (λ (x : ℕ). searching A labels wanted p (x + 1) s) e
 
-  -- up to action b
-  pub pass-to : (p a b : ℕ) (s : Support) → a ≤ b → ((j : ℕ) → a ≤ j → j < b → j < A .count → bit p (addsOf A j) ≡ false)
+  -- up to effect b
+  pub pass-to : (p a b : ℕ) (s : Support) → a ≤ b → ((j : ℕ) → a ≤ j → j < b → j < A .effects → bit p (addsOf A j) ≡ false)
       → searching A labels wanted p (a + 1) s ≡ searching A labels wanted p (b + 1) s
   pass-to p a b s l h =
       let e : a + (b - a) ≡ b = omega arith in
@@ -173,7 +173,7 @@ module _ (A : Actions) (labels wanted : List ℕ) where
   -- p is opened, and its persistence takes what it can
   pub rest-kept : (p marks : ℕ) (needed : List ℕ) → p < A .props → length needed ≡ A .props
       → resting A labels wanted p marks needed
-      ≡ searching A labels wanted p 1 (took (labelIn labels (A .count + p)) (single p) 0 (record { left = labelIn wanted p; marks = marks; needed = needed }))
+      ≡ searching A labels wanted p 1 (took (labelIn labels (A .effects + p)) (single p) 0 (record { left = labelIn wanted p; marks = marks; needed = needed }))
   rest-kept p marks needed l long = rest-open p marks needed l ∙ search-kept p _ long
 
   -- a layer begins with nothing needed below

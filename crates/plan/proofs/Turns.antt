@@ -14,7 +14,7 @@ use Rattle.rules.specs.Word.{bit, common, union, without, single}
 use Rattle.rules.specs.Over.{keep}
 use Rattle.rules.specs.Lists.{listOver}
 use Rattle.rules.specs.Layer.{labelIn}
-use Rattle.rules.specs.Domain.{Actions, needsOf}
+use Rattle.rules.specs.Domain.{Actions, condition, needsOf}
 use Rattle.rules.specs.Plan.{Support, takes}
 use Rattle.rules.proofs.Tests.{holds-or, same-of, same-at, same-not, below-of, below-not, fails-at, is-fails, choose-held, choose-failed}
 use Rattle.rules.proofs.Words.{bit-union, bit-single, union-lt}
@@ -110,17 +110,17 @@ module _ (A : Actions) (labels : List ℕ) (s : Support) (long : length (s .need
   row-is v set e =
       ap₂ (λ (n x : ℕ). listOver n (λ q. union (labelIn (s .needed) q) (keep (bit q x) (common (s .left) (labelIn labels v))))) (sym long) e
 
-  -- an action
-  pub takes-action : (a : ℕ) → a < A .count → takes A labels a s ≡ took (labelIn labels a) (A .pre a) (single a) s
+  -- an effect, whose action is marked
+  pub takes-effect : (a : ℕ) → a < A .effects → takes A labels a s ≡ took (labelIn labels a) (condition A a) (single (A .owner a)) s
   unfolding takes took needsOf choose
-  takes-action a h = support-path refl (marked _ (same (common (s .left) (labelIn labels a)) 0) (s .marks) _ (below-of h))
-      (row-is a (A .pre a) (choose-held _ (below-of h)))
+  takes-effect a h = support-path refl (marked _ (same (common (s .left) (labelIn labels a)) 0) (s .marks) _ (below-of h))
+      (row-is a (condition A a) (choose-held _ (below-of h)))
 
   -- a persistence
-  pub takes-kept : (p : ℕ) → takes A labels (A .count + p) s ≡ took (labelIn labels (A .count + p)) (single p) 0 s
+  pub takes-kept : (p : ℕ) → takes A labels (A .effects + p) s ≡ took (labelIn labels (A .effects + p)) (single p) 0 s
   unfolding takes took needsOf choose
   takes-kept p =
-      let e : A .count + p - A .count ≡ p = omega arith in
-      let b = below-not {i = A .count + p} {j = A .count} (omega arith) in
-      support-path refl (unmarked _ (same (common (s .left) (labelIn labels (A .count + p))) 0) (s .marks) _ b)
-      (row-is (A .count + p) (single p) (choose-failed _ _ (is-fails b) ∙ ap single e))
+      let e : A .effects + p - A .effects ≡ p = omega arith in
+      let b = below-not {i = A .effects + p} {j = A .effects} (omega arith) in
+      support-path refl (unmarked _ (same (common (s .left) (labelIn labels (A .effects + p))) 0) (s .marks) _ b)
+      (row-is (A .effects + p) (single p) (choose-failed _ _ (is-fails b) ∙ ap single e))

@@ -1,4 +1,4 @@
--- The plan's search as the code holds it: what the actions need and who adds each proposition in two lists, the layer below in lent memory.
+-- The plan's search as the code holds it: what the effects need, whose they are and which add each proposition in three lists, the layer below in lent memory.
 use Prim.Native.Nat.{ℕ, _+_, _^_, _≤_, _<_}
 use mathlib.Core.Path.{_≡_}
 use mathlib.Core.Bool.{false}
@@ -15,7 +15,7 @@ use Rattle.rules.specs.Plan.{Support, Covered, covered, uncovered, cover, Plann
 use Rattle.rules.specs.declared.Shape.{Shape}
 use Rattle.words.specs.Width.{propWidth}
 use Rattle.words.specs.Rows.{Inside}
-use Rattle.graph.specs.Limits.{maxActions}
+use Rattle.graph.specs.Limits.{maxActions, maxEffects}
 use Rattle.graph.specs.Format.{shapeIn}
 use Rattle.graph.specs.Checks.{Room}
 use Rattle.graph.specs.declared.format.Counts.{Counts}
@@ -25,25 +25,31 @@ use Rattle.plan.specs.declared.layer.LayerAnswer.the-variants as layer
 use Rattle.plan.specs.declared.descent.Descent.{Descent}
 use Rattle.plan.specs.declared.descent.Descent.the-variants as descent
 
--- the actions that these lists tell of: what each needs, and of each proposition the actions that add it; a plan reads no delete
-unfoldable pub listedActions : List ℕ → List ℕ → Actions
-listedActions needs adders = record {
+-- the effects that these lists tell of: what each needs (here all as its antecedent), its action, and of each proposition those that add it; a plan reads
+-- no delete
+unfoldable pub listedActions : List ℕ → List ℕ → List ℕ → Actions
+listedActions needs owners adders = record {
   props = length adders;
-  count = length needs;
-  pre = λ a. getD needs a 0;
+  count = maxActions;
+  pre = λ a. 0;
+  effects = length needs;
+  owner = λ e. getD owners e 0;
+  when = λ e. getD needs e 0;
   add = startLabel (length adders) (λ p. getD adders p 0);
-  del = λ a. 0;
+  del = λ e. 0;
 }
 
--- how many propositions and vertices the graph of such actions has
+-- how many propositions and vertices the graph of such effects has
 abbrev pub listedShape : List ℕ → List ℕ → Shape
 listedShape needs adders = record { props = length adders; vertices = length needs + length adders }
 
--- no list is too long, and each names members of the other only
-pub record Tables (needs adders : List ℕ) : Type 0 where
+-- no list is too long, needs and adders name members of each other only, and each effect has an action
+pub record Tables (needs owners adders : List ℕ) : Type 0 where
   pub props : length adders ≤ propWidth
-  pub few : length needs ≤ maxActions
-  pub pre : Inside (length adders) needs
+  pub few : length needs ≤ maxEffects
+  pub need : Inside (length adders) needs
+  pub owned : length owners ≡ length needs
+  pub owner : (e : ℕ) → e < length needs → getD owners e 0 < maxActions
   pub add : Inside (length needs) adders
 
 -- of what is needed, all propositions that are needed at all are among these
@@ -71,17 +77,18 @@ pub record Turned (label needs mark : ℕ) (s : Took) (under : List ℕ) (r : To
   pub live : Live (r .live) under'
 
 -- what one layer's search asks of its lists: `wanted` has a word for each proposition, `labels` one for each vertex
-pub record LayerLists (wanted : List ℕ) (among : ℕ) (labels needs adders : List ℕ) : Type 0 where
-  pub tables : Tables needs adders
+pub record LayerLists (wanted : List ℕ) (among : ℕ) (labels needs owners adders : List ℕ) : Type 0 where
+  pub tables : Tables needs owners adders
   pub wide : length wanted ≡ length adders
   pub live : Live among wanted
   pub labelled : length needs + length adders ≤ length labels
 
 -- what the plan's memory is asked to be, for a level and a goal: the lists are as long as they must be, and empty
-pub record Lent (c : Counts) (goal : ℕ) (words needs adders needed plan out : List ℕ) : Type 0 where
+pub record Lent (c : Counts) (goal : ℕ) (words needs owners adders needed plan out : List ℕ) : Type 0 where
   pub room : Room (shapeIn c) (length plan) words
   pub goal-in : goal < 2 ^ c .props
-  pub each-action : length needs ≡ c .actions
+  pub each-need : length needs ≡ c .effects
+  pub each-owner : length owners ≡ c .effects
   pub each-prop : adders ≡ listOver (c .props) (λ p. 0)
   pub nothing : needed ≡ listOver (c .props) (λ p. 0)
   pub fits : length plan ≤ length out

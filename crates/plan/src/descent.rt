@@ -36,18 +36,19 @@ pub fn descend(
     goal: u32,
     words: &[u64],
     needs: &[u32],
+    owners: &[u8],
     adders: &[u64],
     plan: &mut [u32],
 ) -> Descent
-    requires { ⌜ Tables (now needs) (now adders) × Room (listedShape (now needs) (now adders)) (length (now plan)) (now words) × (length (now needed) ≡ length (now adders)) × Live goal (now needed) ⌝ }
+    requires { ⌜ Tables (now needs) (now owners) (now adders) × Room (listedShape (now needs) (now adders)) (length (now plan)) (now words) × (length (now needed) ≡ length (now adders)) × Live goal (now needed) ⌝ }
     ensures { λ r. ⌜ plannedAs r (now (plan .exit))
-        ≡ P.descend (listedActions (now (needs .entry)) (now (adders .entry))) (now (words .entry)) (length (now (plan .entry))) (now (needed .entry)) [] ⌝ }
+        ≡ P.descend (listedActions (now (needs .entry)) (now (owners .entry)) (now (adders .entry))) (now (words .entry)) (length (now (plan .entry))) (now (needed .entry)) [] ⌝ }
 {
     let mut live = goal;
     let mut t = plan.len();
     while 0 < t {
         t -= 1;
-        let answer = fall(&mut *needed, live, words, t, needs, adders);
+        let answer = fall(&mut *needed, live, words, t, needs, owners, adders);
         let LayerAnswer::Marked(marks, below) = answer else {
             return Descent::Uncovered(t + 1);
         };

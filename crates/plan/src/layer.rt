@@ -50,10 +50,10 @@ fn carry(s: Took, p: usize, label: u64, under: &mut [u64]) -> Took
     }
 }
 
-// Action a takes what it can of the states left; one that takes some is marked.
-fn turn(s: Took, a: usize, label: u64, needs: u32, under: &mut [u64]) -> Took
-    requires { ⌜ (a < maxActions) × (needs < 2 ^ length (now under)) × (length (now under) ≤ propWidth) × Live (s .live) (now under) ⌝ }
-    ensures { λ r. ⌜ Turned label needs (W.single a) s (now (under .entry)) r (now (under .exit)) ⌝ }
+// An effect takes what it can of the states left; where it takes some its action is marked.
+fn turn(s: Took, action: usize, label: u64, needs: u32, under: &mut [u64]) -> Took
+    requires { ⌜ (action < maxActions) × (needs < 2 ^ length (now under)) × (length (now under) ≤ propWidth) × Live (s .live) (now under) ⌝ }
+    ensures { λ r. ⌜ Turned label needs (W.single action) s (now (under .entry)) r (now (under .exit)) ⌝ }
 {
     let t = s.left & label;
     if t == 0 {
@@ -62,7 +62,7 @@ fn turn(s: Took, a: usize, label: u64, needs: u32, under: &mut [u64]) -> Took
     spread(&mut *under, Props(needs), t);
     Took {
         left: s.left ^ (s.left & t),
-        marks: Props(s.marks).union(Props::single(a)).0,
+        marks: Props(s.marks).union(Props::single(action)).0,
         live: s.live | needs,
     }
 }
@@ -73,11 +73,12 @@ fn support(
     live: u32,
     labels: &[u64],
     needs: &[u32],
+    owners: &[u8],
     adders: &[u64],
     under: &mut [u64],
 ) -> LayerAnswer
-    requires { ⌜ LayerLists (now wanted) live (now labels) (now needs) (now adders) × (now under ≡ listOver (length (now adders)) (λ q. 0)) ⌝ }
-    ensures { λ r. ⌜ Covers (listedActions (now (needs .entry)) (now (adders .entry))) (now (labels .entry)) (now (wanted .entry)) r (now (under .exit)) ⌝ }
+    requires { ⌜ LayerLists (now wanted) live (now labels) (now needs) (now owners) (now adders) × (now under ≡ listOver (length (now adders)) (λ q. 0)) ⌝ }
+    ensures { λ r. ⌜ Covers (listedActions (now (needs .entry)) (now (owners .entry)) (now (adders .entry))) (now (labels .entry)) (now (wanted .entry)) r (now (under .exit)) ⌝ }
 {
     let mut s = Took {
         left: 0,
@@ -103,8 +104,8 @@ fn support(
             if s.left == 0 {
                 continue 'props;
             }
-            let a = lowest(by);
-            s = turn(s, a, labels[a], needs[a], &mut *under);
+            let e = lowest(by);
+            s = turn(s, owners[e] as usize, labels[e], needs[e], &mut *under);
             by = others(by);
         }
         if s.left != 0 {
@@ -130,13 +131,14 @@ fn down(
     live: u32,
     labels: &[u64],
     needs: &[u32],
+    owners: &[u8],
     adders: &[u64],
     under: &mut [u64],
 ) -> LayerAnswer
-    requires { ⌜ LayerLists (now needed) live (now labels) (now needs) (now adders) × (now under ≡ listOver (length (now adders)) (λ q. 0)) ⌝ }
-    ensures { λ r. ⌜ Covers (listedActions (now (needs .entry)) (now (adders .entry))) (now (labels .entry)) (now (needed .entry)) r (now (needed .exit)) ⌝ }
+    requires { ⌜ LayerLists (now needed) live (now labels) (now needs) (now owners) (now adders) × (now under ≡ listOver (length (now adders)) (λ q. 0)) ⌝ }
+    ensures { λ r. ⌜ Covers (listedActions (now (needs .entry)) (now (owners .entry)) (now (adders .entry))) (now (labels .entry)) (now (needed .entry)) r (now (needed .exit)) ⌝ }
 {
-    let answer = support(&*needed, live, labels, needs, adders, &mut *under);
+    let answer = support(&*needed, live, labels, needs, owners, adders, &mut *under);
     replace(&mut *needed, &*under);
     answer
 }
@@ -148,11 +150,12 @@ pub fn fall(
     words: &[u64],
     t: usize,
     needs: &[u32],
+    owners: &[u8],
     adders: &[u64],
 ) -> LayerAnswer
-    requires { ⌜ Tables (now needs) (now adders) × Room (listedShape (now needs) (now adders)) (t + 1) (now words) × (length (now needed) ≡ length (now adders)) × Live live (now needed) ⌝ }
-    ensures { λ r. ⌜ Covers (listedActions (now (needs .entry)) (now (adders .entry)))
-        (actionsIn (shapeOf (domain (listedActions (now (needs .entry)) (now (adders .entry))))) (now (words .entry)) t) (now (needed .entry)) r (now (needed .exit)) ⌝ }
+    requires { ⌜ Tables (now needs) (now owners) (now adders) × Room (listedShape (now needs) (now adders)) (t + 1) (now words) × (length (now needed) ≡ length (now adders)) × Live live (now needed) ⌝ }
+    ensures { λ r. ⌜ Covers (listedActions (now (needs .entry)) (now (owners .entry)) (now (adders .entry)))
+        (actionsIn (shapeOf (domain (listedActions (now (needs .entry)) (now (owners .entry)) (now (adders .entry))))) (now (words .entry)) t) (now (needed .entry)) r (now (needed .exit)) ⌝ }
 {
     let n = adders.len();
     let s = Shape {
@@ -167,6 +170,7 @@ pub fn fall(
         live,
         &words[at..end],
         needs,
+        owners,
         adders,
         &mut under[..n],
     )

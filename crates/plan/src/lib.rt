@@ -13,10 +13,11 @@ use graph::checks::check_output;
 use graph::file::FileAnswer;
 use graph::file::check_file;
 use graph::format::Counts;
-use graph::limits::MAX_ACTIONS;
 use graph::limits::MAX_DEPTH;
+use graph::limits::MAX_EFFECTS;
 use graph::read::added;
-use graph::read::precondition;
+use graph::read::condition;
+use graph::read::owner;
 use graph::refusal::Check;
 use graph::refusal::Refusal;
 use level::layers::first_met;
@@ -32,6 +33,7 @@ ghost use lib.ListN.{length};
 ghost use Rattle.rules.specs.Word as W;
 ghost use Rattle.rules.specs.Over.{keep};
 ghost use Rattle.rules.specs.Lists.{listOver};
+ghost use Rattle.rules.specs.Domain as D;
 ghost use Rattle.rules.specs.Shared.{startLabel};
 ghost use Rattle.rules.specs.Plan as P;
 ghost use Rattle.graph.specs.Verdict.{laid};
@@ -47,15 +49,18 @@ pub enum PlanAnswer {
     Refused(Refusal),
 }
 
-// Of each action what it needs, and of each proposition its adders.
-fn read_sets(file: &[u8], c: Counts, needs: &mut [u32], adders: &mut [u64])
-    requires { ⌜ Taken (now file) c × (length (now needs) ≡ c .actions) × (now adders ≡ listOver (c .props) (λ p. 0)) ⌝ }
-    ensures { λ r. ⌜ (now (needs .exit) ≡ listOver (c .actions) (actionsOf (now (file .entry)) c .pre))
-        × (now (adders .exit) ≡ listOver (c .props) (startLabel (c .actions) (actionsOf (now (file .entry)) c .add))) ⌝ }
+// Of each effect what it needs and its action, and of each proposition the effects that add it.
+fn read_effects(file: &[u8], c: Counts, needs: &mut [u32], owners: &mut [u8], adders: &mut [u64])
+    requires { ⌜ Taken (now file) c × (length (now needs) ≡ c .effects) × (length (now owners) ≡ c .effects) × (now adders ≡ listOver (c .props) (λ p. 0)) ⌝ }
+    ensures { λ r. ⌜ (now (needs .exit) ≡ listOver (c .effects) (D.condition (actionsOf (now (file .entry)) c)))
+        × (now (owners .exit) ≡ listOver (c .effects) (actionsOf (now (file .entry)) c .owner))
+        × (now (adders .exit) ≡ listOver (c .props) (startLabel (c .effects) (actionsOf (now (file .entry)) c .add))) ⌝ }
 {
-    for a in 0..needs.len() {
-        needs[a] = precondition(file, c, a);
-        spread(&mut *adders, Props(added(file, c, a)), single(a));
+    for e in 0..needs.len() {
+        needs[e] = condition(file, c, e);
+        let o = owner(file, c, e);
+        owners[e] = o as u8;
+        spread(&mut *adders, Props(added(file, c, e)), single(e));
     }
 }
 
@@ -67,18 +72,27 @@ fn plan_in(
     goal: Props,
     words: &[u64],
     needs: &mut [u32],
+    owners: &mut [u8],
     adders: &mut [u64],
     needed: &mut [u64],
     plan: &mut [u32],
     out: &mut [u32],
 ) -> PlanAnswer
-    requires { ⌜ Taken (now file) c × Lent c (goal .0) (now words) (now needs) (now adders) (now needed) (now plan) (now out) ⌝ }
+    requires { ⌜ Taken (now file) c × Lent c (goal .0) (now words) (now needs) (now owners) (now adders) (now needed) (now plan) (now out) ⌝ }
     ensures { λ r. ⌜ ((depth : ℕ) → (planVerdict r ≡ made (plannedVerdict depth (P.descend (actionsOf (now (file .entry)) c) (now (words .entry)) (length (now (plan .entry))) (listOver (c .props) (λ p. keep (W.bit p (goal .0)) (set .0))) [])))
         × (now (out .exit) ≡ laid (plannedVerdict depth (P.descend (actionsOf (now (file .entry)) c) (now (words .entry)) (length (now (plan .entry))) (listOver (c .props) (λ p. keep (W.bit p (goal .0)) (set .0))) [])) (now (out .entry)))) ⌝ }
 {
-    read_sets(file, c, &mut *needs, &mut *adders);
+    read_effects(file, c, &mut *needs, &mut *owners, &mut *adders);
     spread(&mut *needed, goal, set.0);
-    let got = descend(&mut *needed, goal.0, words, &*needs, &*adders, &mut *plan);
+    let got = descend(
+        &mut *needed,
+        goal.0,
+        words,
+        &*needs,
+        &*owners,
+        &*adders,
+        &mut *plan,
+    );
     if let Descent::Uncovered(t) = got {
         return PlanAnswer::Refused(Refusal::Uncovered(t));
     }
@@ -104,9 +118,10 @@ fn plan_over(
     if depth < t {
         return PlanAnswer::Refused(Refusal::NoLevel(depth));
     }
-    let a = c.actions;
+    let e = c.effects;
     let n = c.props;
-    let mut needs = [0u32; MAX_ACTIONS];
+    let mut needs = [0u32; MAX_EFFECTS];
+    let mut owners = [0u8; MAX_EFFECTS];
     let mut adders = [0u64; PROP_WIDTH];
     let mut needed = [0u64; PROP_WIDTH];
     let mut plan = [0u32; MAX_DEPTH];
@@ -116,7 +131,8 @@ fn plan_over(
         set,
         goal,
         words,
-        &mut needs[..a],
+        &mut needs[..e],
+        &mut owners[..e],
         &mut adders[..n],
         &mut needed[..n],
         &mut plan[..t],

@@ -11,7 +11,7 @@ use lib.ListN.{length, getD}
 use Rattle.rules.specs.Test.{_implies_, below}
 use Rattle.rules.specs.Word.{bit, within}
 use Rattle.rules.specs.Over.{keep, allBelow, firstBelow, greatest}
-use Rattle.rules.specs.Domain.{Domain, shapeOf, Actions, domain}
+use Rattle.rules.specs.Domain.{Domain, shapeOf, Actions, Sound, domain}
 use Rattle.rules.specs.Layer.{propsIn}
 use Rattle.rules.specs.Own.{admits, ownStart, ownFrom, ownProps, ownLevel}
 use Rattle.rules.specs.Shared.{propLayer}
@@ -29,7 +29,7 @@ use Rattle.rules.proofs.Agree.{props-agree}
 use Rattle.rules.proofs.Layouts.{Built, props-in, props-in-agree, actions-in-agree}
 use Rattle.rules.proofs.Rests.{first-rests, before-rest}
 use Rattle.rules.proofs.Mets.{met-layer, met-agrees}
-use Rattle.rules.proofs.Plans.{PreLt, RelaxedPlan, planOf-at, plan-made}
+use Rattle.rules.proofs.Plans.{RelaxedPlan, planOf-at, plan-made}
 
 -- in layer t of its own graph, each state of S has every goal and no two of them mutex
 abbrev pub AllAdmit : Domain → ℕ → (ℕ → ℕ) → ℕ → ℕ → ℕ → Type 0
@@ -134,11 +134,11 @@ module _ (D : Domain) (n : ℕ) (start : ℕ → ℕ) (k : ℕ) (words : List �
 -- ---- lists of actions
 
 module _ (A : Actions) {n : ℕ} (start : ℕ → ℕ) (k : ℕ) (words : List ℕ) (built : Built (domain A) n start k words) {set : ℕ} (goal : ℕ) (small : set < 2 ^ n)
-    (list : List ℕ) {ends : List ℕ} (known : (i : ℕ) → i < length list → getD list i 0 < A .count) (ran : runOf A n start set list ≡ ended ends)
+    (list : List ℕ) {ends : List ℕ} (ran : runOf A n start set list ≡ ended ends)
     (reach : (s : ℕ) → s < n → So (bit s set) → So (within goal (getD ends s 0))) where
   all-admit : AllAdmit (domain A) n start set goal (length list)
   unfolding domain
-  all-admit s h t = goal-admitted A start set list known ran h t goal (reach s h t)
+  all-admit s h t = goal-admitted A start set list ran h t goal (reach s h t)
 
   -- no list of actions that ends with the goal is shorter than the level
   pub level-bound : {t : ℕ} → levelOf (shapeOf (domain A)) k set goal words ≡ level t → t ≤ length list
@@ -146,7 +146,7 @@ module _ (A : Actions) {n : ℕ} (start : ℕ → ℕ) (k : ℕ) (words : List �
   level-bound e =
       let (l, q) = answer-says (domain A) k set goal words e in
       subst (λ (x : ℕ). x ≤ length list) (sym (q ∙ first-met (domain A) n start k words built goal small))
-      (set-bound A start set list known ran goal reach k)
+      (set-bound A start set list ran goal reach k)
 
   -- there is none where the answer is 'never'
   pub never-bound : levelOf (shapeOf (domain A)) k set goal words ≡ never → ⊥
@@ -168,14 +168,14 @@ abbrev WithoutPlan : Actions → ℕ → ℕ → ℕ → List ℕ → Type 0
 WithoutPlan A k set goal words = ((t : ℕ) → levelOf (shapeOf (domain A)) k set goal words ≡ level t → ⊥) × (planOf A k set goal words ≡ noLevel)
 
 module _ (A : Actions) (n : ℕ) (start : ℕ → ℕ) (k : ℕ) (words : List ℕ) (built : Built (domain A) n start k words) {set goal : ℕ} (small : set < 2 ^ n)
-    (pre-lt : PreLt A) (goal-lt : goal < 2 ^ A .props) where
+    (sound : Sound A) (goal-lt : goal < 2 ^ A .props) where
   -- where there is a level, a plan of as many words is answered, and it leads each state of S to the goal, deletes left out
   pub plan-of : {t : ℕ} → levelOf (shapeOf (domain A)) k set goal words ≡ level t
       → (plan : List ℕ) × (planOf A k set goal words ≡ planned plan) × RelaxedPlan A start n t set goal plan
   unfolding domain ownProps ownFrom ownStart admits
   plan-of {t} e =
       let (l, all) = level-admits (domain A) n start k words built goal small e in
-      let (plan, d, r) = plan-made A start words t pre-lt
+      let (plan, d, r) = plan-made A start words t sound
       (λ s p h i. props-in-agree (domain A) n start k words built h (omega arith) .label p i)
       (λ u s v h i j. actions-in-agree (domain A) n start k words built i (omega arith) .label v j) small goal-lt
       (λ s h b p i g. admits-has _ goal (all s h b) i g) in

@@ -9,13 +9,13 @@ use Rattle.rules.specs.Test.{_and_, _or_, _implies_, fails, same, below,
 use Rattle.rules.specs.Word.{bit, within, meets}
 use Rattle.rules.specs.Over.{keep, joinOver, meetOver, removeOver, allBelow, anyBelow, countBelow, firstBelow}
 use Rattle.rules.specs.Lists.{listOver, runOver}
-use Rattle.rules.specs.Domain.{Actions, shapeOf, persistence, needsOf, addsOf, deletesOf, clobbers, domain}
+use Rattle.rules.specs.Domain.{Actions, shapeOf, condition, persistence, needsOf, addsOf, deletesOf, siblings, clobbers, interfereOf, domain}
 use Rattle.rules.specs.Layer.{pairs, size, pairAt, rowOf, layerOf, paired, labelIn, mutexIn, stride, wordCount, propsIn, actionsIn}
 use Rattle.rules.specs.Shared.{startLabel, startLayer, needsLabel, needsApart, vertexLabel, needsMutex, vertexMutex, actionLayer, nextLabel, oneAdds}
 use Rattle.rules.specs.Shared.{twoAdd, nextMutex, nextLayer, propFrom, propLayer, vertexLayer, graphWords}
 use Rattle.rules.specs.Level.{goalMet, firstMet, layerRests, firstRest, Rest, restsAt, none, restOf, Level, level, never, notByDepth, levelOf}
 use Rattle.rules.specs.Extract.{rank, closeUp, extractOf}
-use Rattle.rules.specs.Run.{ready, after, stepped, Ran, lacks, runFrom, runOf}
+use Rattle.rules.specs.Run.{ready, fires, fired, after, stepped, Ran, lacks, runFrom, runOf}
 use Rattle.rules.specs.Plan.{takes, order, support, coverFrom, cover, Planned, planned, stuck, noLevel, ground, onCover, descend, planAt, planOf}
 use Rattle.rules.specs.Plan.{planCount}
 
@@ -25,8 +25,11 @@ lamp = record {
   props = 3;
   count = 2;
   pre = λ a. getD (1 ∷ 2 ∷ []) a 0;
-  add = λ a. getD (2 ∷ 4 ∷ []) a 0;
-  del = λ a. getD (1 ∷ 0 ∷ []) a 0;
+  effects = 2;
+  owner = λ e. e;
+  when = λ e. 0;
+  add = λ e. getD (2 ∷ 4 ∷ []) e 0;
+  del = λ e. getD (1 ∷ 0 ∷ []) e 0;
 }
 
 -- 'States: 0 at door, 1 at desk.'
@@ -105,8 +108,9 @@ table = record {
 
 pub lamp-table : computed ≡ table
 unfolding lamp start built computed table _and_ _or_ _implies_ fails same below choose bit within meets keep joinOver meetOver removeOver allBelow
-    anyBelow countBelow firstBelow listOver runOver persistence needsOf addsOf deletesOf clobbers domain pairs size pairAt rowOf layerOf paired labelIn
-    mutexIn stride wordCount propsIn actionsIn startLabel startLayer needsLabel needsApart vertexLabel needsMutex vertexMutex actionLayer nextLabel
-    oneAdds twoAdd nextMutex nextLayer propFrom vertexLayer graphWords goalMet firstMet layerRests firstRest restOf levelOf rank closeUp extractOf
-    ready after stepped runFrom runOf takes order support coverFrom cover ground onCover descend planAt planOf planCount countIn ones
+    anyBelow countBelow firstBelow listOver runOver condition persistence needsOf addsOf deletesOf siblings clobbers interfereOf domain pairs size
+    pairAt rowOf layerOf paired labelIn mutexIn stride wordCount propsIn actionsIn startLabel startLayer needsLabel needsApart vertexLabel needsMutex
+    vertexMutex actionLayer nextLabel oneAdds twoAdd nextMutex nextLayer propFrom vertexLayer graphWords goalMet firstMet layerRests firstRest restOf
+    levelOf rank closeUp extractOf ready fires fired after stepped runFrom runOf takes order support coverFrom cover ground onCover descend planAt planOf
+    planCount countIn ones
 lamp-table = refl

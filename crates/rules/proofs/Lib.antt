@@ -10,6 +10,7 @@ pub mod Steps
 pub mod Order
 pub mod Domains
 pub mod Bounds
+pub mod Plains
 pub mod Levels
 pub mod Agree
 pub mod Layouts
@@ -23,5 +24,6 @@ pub mod Supports
 pub mod Plans
 pub mod Claims
 pub mod Lamp
+pub mod Bag
 pub mod SamePlans
 pub mod SameDomains

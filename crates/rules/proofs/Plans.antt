@@ -13,7 +13,7 @@ use Rattle.rules.specs.Test.{_and_, fails, same}
 use Rattle.rules.specs.Word.{bit, within}
 use Rattle.rules.specs.Over.{keep, joinOver, allBelow}
 use Rattle.rules.specs.Lists.{listOver}
-use Rattle.rules.specs.Domain.{Domain, shapeOf, Actions, needsOf, addsOf, domain}
+use Rattle.rules.specs.Domain.{Domain, shapeOf, Actions, Sound, condition, needsOf, addsOf, domain}
 use Rattle.rules.specs.Layer.{labelIn, propsIn, actionsIn}
 use Rattle.rules.specs.Own.{layerWith, ownStart, ownActions, reached, ownNext, ownFrom, ownProps}
 use Rattle.rules.specs.Level.{level, levelOf}
@@ -24,7 +24,7 @@ use Rattle.rules.proofs.Words.{bit-union, no-bit-zero, bit-below, singl
 use Rattle.rules.proofs.Overs.{all-of, all-at, any-of, any-at, bit-keep, bit-joinOver}
 use Rattle.rules.proofs.Layers.{getD-listOver}
 use Rattle.rules.proofs.Order.{admits-has}
-use Rattle.rules.proofs.Domains.{needs-action, adds-action, needs-persistence}
+use Rattle.rules.proofs.Domains.{condition-lt, needs-effect, adds-effect, needs-persistence}
 use Rattle.rules.proofs.Supports.{adder, order-has, order-vertices, Supported, Passed, Grown, grown-none, grown-both, supported-kept, support-searched}
 use Rattle.rules.proofs.Supports.{support-covers}
 
@@ -131,36 +131,33 @@ module _ (A : Actions) (labels wanted : List ℕ) where
         (λ z. absurd (no-bit-zero i (ap (bit i) (sym (getD-listOver (λ q. 0) h)) ∙ z)))
         (λ u. u) (whole .grown .source i q h t)
 
-    pub cover-lt : marks < 2 ^ A .count
-    cover-lt = whole .grown .bounded (pow-pos (A .count))
+    pub cover-lt : Sound A → marks < 2 ^ A .count
+    cover-lt sound = whole .grown .bounded sound (pow-pos (A .count))
 
 -- ---- the run with deletes left out
 
--- preconditions are sets of the propositions
-abbrev pub PreLt : Actions → Type 0
-PreLt A = (a : ℕ) → a < A .count → A .pre a < 2 ^ A .props
-
 module _ (A : Actions) where
-  -- what was there stays, and a marked action whose precondition holds joins its adds
+  -- what was there stays, and an effect of a marked action joins its adds where what it needs holds
   step-keeps : (w x p : ℕ) → So (bit p x) → So (bit p (relaxedStep A w x))
   unfolding relaxedStep
-  step-keeps w x p t = bit-union p x (joinOver (A .count) _) ∙ or-left _ t
+  step-keeps w x p t = bit-union p x (joinOver (A .effects) _) ∙ or-left _ t
 
-  step-adds : (w x p : ℕ) {a : ℕ} → a < A .count → So (bit a w) → So (within (A .pre a) x) → So (bit p (A .add a)) → So (bit p (relaxedStep A w x))
+  step-adds : (w x p : ℕ) {e : ℕ} → e < A .effects → So (bit (A .owner e) w) → So (within (condition A e) x) → So (bit p (A .add e))
+      → So (bit p (relaxedStep A w x))
   unfolding relaxedStep
-  step-adds w x p {a} h m u t =
-      bit-union p x (joinOver (A .count) _)
-      ∙ or-right _ (bit-joinOver p _ (λ a l. bit-keep p _ (A .add a))
+  step-adds w x p h m u t =
+      bit-union p x (joinOver (A .effects) _)
+      ∙ or-right _ (bit-joinOver p _ (λ e l. bit-keep p _ (A .add e))
       ∙ any-of _ h (and-of (and-of m u) t))
 
   -- what is supported is there once the marked actions have run, where what is needed below was there before
-  step-reaches : PreLt A → {labels : List ℕ} {p i marks : ℕ} {needed : List ℕ} (x : ℕ) → p < A .props
+  step-reaches : Sound A → {labels : List ℕ} {p i marks : ℕ} {needed : List ℕ} (x : ℕ) → p < A .props
       → Supported A labels p i marks needed → ((q : ℕ) → q < A .props → So (bit i (labelIn needed q)) → So (bit q x)) → So (bit p (relaxedStep A marks x))
-  step-reaches pre-lt {p} {marks} x l s have = ⊎-elim
+  step-reaches sound {p} {marks} x l s have = ⊎-elim
       (λ h. step-adds marks x p h (s .marked h)
-      (within-of x (pre-lt (s .vertex) h)
-      (λ q k t. have q k (s .needs q k (ap (bit q) (needs-action A h) ∙ t))))
-      (ap (bit p) (sym (adds-action A h)) ∙ s .adds))
+      (within-of x (condition-lt A sound h)
+      (λ q k t. have q k (s .needs q k (ap (bit q) (needs-effect A h) ∙ t))))
+      (ap (bit p) (sym (adds-effect A h)) ∙ s .adds))
       (λ e. step-keeps marks x p (have p l (s .needs p l (single-has p (ap (needsOf A) e ∙ needs-persistence A p)))))
       (adder A p (s .adds))
 
@@ -169,9 +166,9 @@ module _ (A : Actions) where
 -- a descent from layer t that ends with a plan, on any words
 pub record Descended (A : Actions) (words : List ℕ) (t : ℕ) (wanted plan plan' : List ℕ) : Type 0 where
   pub sized : length plan' ≡ t + length plan
-  pub bounded : ((i : ℕ) → getD plan i 0 < 2 ^ A .count) → (i : ℕ) → getD plan' i 0 < 2 ^ A .count
+  pub bounded : Sound A → ((i : ℕ) → getD plan i 0 < 2 ^ A .count) → (i : ℕ) → getD plan' i 0 < 2 ^ A .count
   -- from a set that has what the labels of layer 0 say of the state i, the new words reach a set that has all that is wanted for i
-  pub reaches : PreLt A → (i x : ℕ) → ((p : ℕ) → p < A .props → So (bit i (labelIn (propsIn (shapeOf (domain A)) words 0) p)) → So (bit p x))
+  pub reaches : Sound A → (i x : ℕ) → ((p : ℕ) → p < A .props → So (bit i (labelIn (propsIn (shapeOf (domain A)) words 0) p)) → So (bit p x))
       → (y : ℕ) × (relaxedRun A plan' x ≡ relaxedRun A plan y) × ((p : ℕ) → p < A .props → So (bit i (labelIn wanted p)) → So (bit p y))
 
 module _ (A : Actions) (words : List ℕ) where
@@ -194,8 +191,8 @@ module _ (A : Actions) (words : List ℕ) where
       let d : plan ≡ plan' = cc (choose-held {x = planned plan} (stuck 0) h) in
       subst (Descended A words zero wanted plan) d (record {
         sized = omega arith;
-        bounded = λ f. f;
-        reaches = λ pre-lt i x f. (x, refl, λ p l t. f p l (within-at _ _ i (all-at _ h l) t));
+        bounded = λ sound f. f;
+        reaches = λ sound i x f. (x, refl, λ p l t. f p l (within-at _ _ i (all-at _ h l) t));
       }))
       (λ f. let z : _≡_ {A = ℕ} 0 1 = cc (choose-failed _ (planned plan) {y = stuck 0} f) in absurd (omega arith))
       (holds-or (allBelow (A .props) (λ p. within (labelIn wanted p) (labelIn (propsIn (shapeOf (domain A)) words 0) p))))
@@ -209,12 +206,12 @@ module _ (A : Actions) (words : List ℕ) where
       let labels = actionsIn (shapeOf (domain A)) words t in
       record {
         sized = omega (arith, d .sized);
-        bounded = λ f. d .bounded (at (cover-lt A labels wanted marks needed e) f);
-        reaches = λ pre-lt i x f.
-            let (y, r, g) = d .reaches pre-lt i x f in (
+        bounded = λ sound f. d .bounded sound (at (cover-lt A labels wanted marks needed e sound) f);
+        reaches = λ sound i x f.
+            let (y, r, g) = d .reaches sound i x f in (
               relaxedStep A marks y,
               r,
-              λ p l u. step-reaches A pre-lt y l (cover-supports A labels wanted marks needed e l u) g,
+              λ p l u. step-reaches A sound y l (cover-supports A labels wanted marks needed e l u) g,
             );
       }
     where
@@ -285,7 +282,7 @@ goal-bit : (A : Actions) (set goal s : ℕ) {p : ℕ} → p < A .props → bit s
 unfolding labelIn
 goal-bit A set goal s {p} h = ap (bit s) (getD-listOver (λ p. keep (bit p goal) set) h) ∙ bit-keep s (bit p goal) set
 
-module _ (A : Actions) (start : ℕ → ℕ) (words : List ℕ) {n : ℕ} (m : ℕ) (pre-lt : PreLt A)
+module _ (A : Actions) (start : ℕ → ℕ) (words : List ℕ) {n : ℕ} (m : ℕ) (sound : Sound A)
     (start-agrees : (s p : ℕ) → s < n → p < A .props → bit s (labelIn (propsIn (shapeOf (domain A)) words 0) p) ≡ bit p (start s)) where
   -- over a layer 0 that agrees, any plan that is answered works
   pub plan-works : {set goal : ℕ} → goal < 2 ^ A .props → {plan : List ℕ} → descend A words m (goals A set goal) [] ≡ planned plan
@@ -295,9 +292,9 @@ module _ (A : Actions) (start : ℕ → ℕ) (words : List ℕ) {n : ℕ} (m : �
       let d = descend-descends A words m e in
       record {
         sized = omega (arith, d .sized);
-        bounded = d .bounded (λ i. pow-pos (A .count));
+        bounded = d .bounded sound (λ i. pow-pos (A .count));
         works = λ s h t.
-            let (y, r, f) = d .reaches pre-lt s (start s) (λ q k u. sym (start-agrees s q h k) ∙ u) in
+            let (y, r, f) = d .reaches sound s (start s) (λ q k u. sym (start-agrees s q h k) ∙ u) in
             within-of (relaxedRun A plan (start s)) known (λ p l g. ap (bit p) r ∙ f p l (goal-bit A set goal s l ∙ and-of g t));
       }
 

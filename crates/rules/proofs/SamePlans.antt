@@ -17,7 +17,7 @@ use Rattle.rules.specs.Level.{Level, level, never, notByDepth, levelOf}
 use Rattle.rules.specs.declared.Shape.{Shape}
 use Rattle.rules.specs.Plan.{Support, takes, order, support, Covered, covered, uncovered, coverFrom, cover, planned, stuck, ground, descend, planAt}
 use Rattle.rules.specs.Plan.{planOf}
-use Rattle.rules.proofs.Tests.{choose-held, choose-failed, and-of, and-left, and-right, holds-or, test-eq}
+use Rattle.rules.proofs.Tests.{choose-held, choose-failed, choose-same, and-of, and-left, and-right, holds-or, test-eq, below-at}
 use Rattle.rules.proofs.Words.{bit-common, common-lt, ext, width, within-of, within-at}
 use Rattle.rules.proofs.Overs.{all-eq, bit-keep}
 use Rattle.rules.proofs.Layers.{getD-listOver}
@@ -27,7 +27,8 @@ use Rattle.rules.proofs.Plans.{goals, searchOf, cover-source, descend-n
 -- the same actions, as far as a plan reads them
 pub record SameNeeds (A A' : Actions) : Type 0 where
   pub props : A .props ≡ A' .props
-  pub count : A .count ≡ A' .count
+  pub effects : A .effects ≡ A' .effects
+  pub owner : (e : ℕ) → e < A .effects → A .owner e ≡ A' .owner e
   pub needs : (v : ℕ) → needsOf A v ≡ needsOf A' v
   pub adds : (v : ℕ) → addsOf A v ≡ addsOf A' v
 
@@ -59,16 +60,27 @@ WantedIn A set wanted = (q : ℕ) → q < A .props → Inside set (labelIn wante
 -- ---- one layer
 
 module _ (A : Actions) {A' : Actions} (same-needs : SameNeeds A A') (set : ℕ) (labels labels' : List ℕ)
-    (agree : (v : ℕ) → v < A .count + A .props → AgreeIn set (labelIn labels v) (labelIn labels' v)) where
-  takes-same : {v : ℕ} → v < A .count + A .props → (s : Support) → Inside set (s .left) → takes A labels v s ≡ takes A' labels' v s
+    (agree : (v : ℕ) → v < A .effects + A .props → AgreeIn set (labelIn labels v) (labelIn labels' v)) where
+  takes-same : {v : ℕ} → v < A .effects + A .props → (s : Support) → Inside set (s .left) → takes A labels v s ≡ takes A' labels' v s
   unfolding takes
   takes-same {v} l s h j =
-      let took : ℕ = common-same set (s .left) (labelIn labels v) (labelIn labels' v) h (agree v l) j in
+      let took : ℕ = took-same j in
       record {
         left = without (s .left) took;
-        marks = choose (below v (same-needs .count j) and fails (same took 0)) (union (s .marks) (single v)) (s .marks);
+        marks = marks-same j;
         needed = listOver (same-needs .props j) (λ q. union (labelIn (s .needed) q) (keep (bit q (same-needs .needs v j)) took));
       }
+    where
+      took-same : common (s .left) (labelIn labels v) ≡ common (s .left) (labelIn labels' v)
+      took-same = common-same set (s .left) (labelIn labels v) (labelIn labels' v) h (agree v l)
+
+      marked : Actions → ℕ → ℕ → ℕ
+      marked B took a = choose (below v (B .effects) and fails (same took 0)) (union (s .marks) (single a)) (s .marks)
+
+      marks-same : marked A (common (s .left) (labelIn labels v)) (A .owner v) ≡ marked A' (common (s .left) (labelIn labels' v)) (A' .owner v)
+      marks-same =
+          choose-same _ (λ b. ap (λ (a : ℕ). union (s .marks) (single a)) (same-needs .owner v (below-at (and-left _ b))))
+          ∙ λ j. choose (below v (same-needs .effects j) and fails (same (took-same j) 0)) (union (s .marks) (single (A' .owner v))) (s .marks)
 
   still-inside : (p v : ℕ) (s : Support) → Inside set (s .left) → Inside set (choose (bit p (addsOf A' v)) (takes A' labels' v s) s .left)
   still-inside p v s h i b = ⊎-elim
@@ -76,7 +88,7 @@ module _ (A : Actions) {A' : Actions} (same-needs : SameNeeds A A') (set : ℕ) 
       (λ t. h i (subst (λ (x : Support). So (bit i (x .left))) (choose-failed _ _ t) b))
       (holds-or (bit p (addsOf A' v)))
 
-  support-same : (p : ℕ) (vs : List ℕ) (s : Support) → Inside set (s .left) → ((v : ℕ) → List·Memᴰ v vs → v < A .count + A .props)
+  support-same : (p : ℕ) (vs : List ℕ) (s : Support) → Inside set (s .left) → ((v : ℕ) → List·Memᴰ v vs → v < A .effects + A .props)
       → support A labels p vs s ≡ support A' labels' p vs s
   unfolding support
   support-same p [] s h m = refl
@@ -88,7 +100,7 @@ module _ (A : Actions) {A' : Actions} (same-needs : SameNeeds A A') (set : ℕ) 
 
   order-same : (p : ℕ) → order A p ≡ order A' p
   unfolding order persistence
-  order-same p j = (same-needs .count j + p) ∷ listOver (same-needs .count j) (λ a. a)
+  order-same p j = (same-needs .effects j + p) ∷ listOver (same-needs .effects j) (λ e. e)
 
   module _ (wanted : List ℕ) (inside : WantedIn A set wanted) where
     search-same : {p : ℕ} (marks : ℕ) (needed : List ℕ) → p < A .props → searchOf A labels wanted p marks needed ≡ searchOf A' labels' wanted p marks needed
@@ -115,7 +127,7 @@ module _ (A : Actions) {A' : Actions} (same-needs : SameNeeds A A') (set : ℕ) 
 
 module _ {A A' : Actions} (same-needs : SameNeeds A A') (set : ℕ) {k : ℕ} (words words' : List ℕ)
     (props-agree : (p : ℕ) → p < A .props → AgreeIn set (labelIn (propsIn (shapeOf (domain A)) words 0) p) (labelIn (propsIn (shapeOf (domain A')) words' 0) p))
-    (actions-agree : (t : ℕ) → t < k → (v : ℕ) → v < A .count + A .props
+    (actions-agree : (t : ℕ) → t < k → (v : ℕ) → v < A .effects + A .props
     → AgreeIn set (labelIn (actionsIn (shapeOf (domain A)) words t) v) (labelIn (actionsIn (shapeOf (domain A')) words' t) v)) where
   ground-same : (wanted plan : List ℕ) → WantedIn A set wanted → ground A words wanted plan ≡ ground A' words' wanted plan
   unfolding ground
@@ -157,7 +169,7 @@ goals-inside A set goal q h i b =
 module _ {A B : Actions} (same-needs : SameNeeds A B) where
   shape-same : shapeOf (domain A) ≡ shapeOf (domain B)
   unfolding domain
-  shape-same i = record { props = same-needs .props i; vertices = same-needs .count i + same-needs .props i }
+  shape-same i = record { props = same-needs .props i; vertices = same-needs .effects i + same-needs .props i }
 
   at-same : (set goal : ℕ) (words : List ℕ) (l : Level) → planAt A set goal words l ≡ planAt B set goal words l
   unfolding planAt

@@ -1,43 +1,44 @@
--- A step from one proposition layer to the next, for actions and persistences: each word as it is met over needs or joined over adders.
--- Sets are read as words of up to m bits, which has room for all actions and propositions.
+-- A step from one proposition layer to the next, for effects and persistences: each word as it is met over needs or joined over adders.
+-- Sets are read as words of up to m bits, which has room for all effects and propositions.
 -- Assumes nothing.
 use Prim.Native.Nat.{ℕ, _+_, _-_, _≤_, _<_, _^_}
-use mathlib.Core.Path.{_≡_, refl, sym, ap, ap₂, subst, _∙_}
-use mathlib.Core.Bool.{Bool, true, false, So}
+use mathlib.Core.Path.{_≡_, sym, ap, ap₂, subst, _∙_}
+use mathlib.Core.Bool.{Bool, false, So}
 use mathlib.Core.Logic.{⊎-elim, by-cases}
 use native.Mathlib.Decide.{decLe}
 use native.Mathlib.Omega.{arith}
 use mathlib.Core.List.{List}
 use Rattle.rules.specs.Test.{_and_, _or_, fails, same, choose}
-use Rattle.rules.specs.Word.{bit, common, union, single}
+use Rattle.rules.specs.Word.{bit, common, union}
 use Rattle.rules.specs.Over.{keep, joinOver, joinOf, meetOf, anyBelow}
-use Rattle.rules.specs.Domain.{Domain, Actions, persistence, needsOf, addsOf, deletesOf, clobbers, domain}
-use Rattle.rules.specs.Layer.{paired, labelIn, freeIn}
-use Rattle.rules.specs.Shared.{startLabel, vertexLabel, actionLayer, nextLayer}
+use Rattle.rules.specs.Domain.{Actions, condition, persistence, siblings, interfereOf, domain}
+use Rattle.rules.specs.Layer.{paired, freeIn}
+use Rattle.rules.specs.Shared.{startLabel, vertexLabel, actionLayer}
 use Rattle.rules.specs.Together.{layerBy, Consistent, beside, nextTogether}
 use Rattle.rules.proofs.Tests.{choose-held, choose-failed, and-of, and-left, and-right, or-left, or-right, or-at, fails-of, fails-at, holds-or, test-eq}
 use Rattle.rules.proofs.Tests.{same-of, same-at}
 use Rattle.rules.proofs.Words.{bit-common, bit-union, bit-below, no-bit-zero, single-has, single-only, ext-all}
-use Rattle.rules.proofs.Members.{bit-joinOf, meetOf-at, meetOf-of, bit-startLabel, startLabel-lt}
+use Rattle.rules.proofs.Members.{bit-joinOf, meetOf-at, meetOf-of, meet-only, bit-startLabel, startLabel-lt}
 use Rattle.rules.proofs.Overs.{any-of, any-at, bit-keep, bit-joinOver}
-use Rattle.rules.proofs.Layers.{paired-of, paired-turn, ordered}
-use Rattle.rules.proofs.Domains.{needs-action, adds-action, deletes-action, needs-persistence, adds-persistence, clobbers-of, clobbers-apart}
-use Rattle.rules.proofs.Domains.{persistence-below, action-below, persistence-clobbers, clobbers-persistence}
+use Rattle.rules.proofs.Layers.{paired-of, ordered}
+use Rattle.rules.proofs.Domains.{persistence-below, effect-below, needs-effect, adds-effect, deletes-effect, needs-persistence, adds-persistence}
+use Rattle.rules.proofs.Domains.{clobbers-of, siblings-turn, interfere-of, interfere-turn, interfere-apart, clobbers-apart, persistence-alone}
+use Rattle.rules.proofs.Domains.{persistence-clobbers, clobbers-persistence}
 use Rattle.rules.proofs.Togethers.{Has, label-at, label-of, vertex-label, Goes, goes-at, goes-of, free-turn, free-own}
-use Rattle.rules.proofs.Togethers.{Added, added-at, added-of, added-turn, beside-at, beside-of, common-turn}
+use Rattle.rules.proofs.Togethers.{Added, added-at, added-of, added-turn, beside-at, beside-of}
 
--- each set of an action is one of its propositions
+-- effects and propositions are no more than m, and what an effect needs is a set of the propositions
 pub record Sets (m : ℕ) (A : Actions) : Type 0 where
   pub props : A .props ≤ m
-  pub count : A .count ≤ m
-  pub pre : (i : ℕ) → i < A .count → A .pre i < 2 ^ A .props
+  pub effects : A .effects ≤ m
+  pub needs : (e : ℕ) → e < A .effects → condition A e < 2 ^ A .props
 
--- an action of so many, or the persistence of a proposition
-vertex-cases : (A : Actions) (P : ℕ → Type 0) → ((i : ℕ) → i < A .count → P i) → ((p : ℕ) → p < A .props → P (persistence A p)) → {v : ℕ}
+-- an effect of so many, or the persistence of a proposition
+vertex-cases : (A : Actions) (P : ℕ → Type 0) → ((i : ℕ) → i < A .effects → P i) → ((p : ℕ) → p < A .props → P (persistence A p)) → {v : ℕ}
     → v < domain A .vertices → P v
 unfolding domain persistence
-vertex-cases A P f g {v} h = by-cases (decLe (A .count) v)
-    (λ l. let e : A .count + (v - A .count) ≡ v = omega arith in subst P e (g (v - A .count) (omega arith)))
+vertex-cases A P f g {v} h = by-cases (decLe (A .effects) v)
+    (λ l. let e : A .effects + (v - A .effects) ≡ v = omega arith in subst P e (g (v - A .effects) (omega arith)))
     (λ l. f v (omega arith))
 
 module _ (m all : ℕ) (A : Actions) (sets : Sets m A) {t : ℕ → ℕ → ℕ} (is : Consistent (domain A .props) all t) where
@@ -48,51 +49,56 @@ module _ (m all : ℕ) (A : Actions) (sets : Sets m A) {t : ℕ → ℕ → ℕ}
   free = freeIn (domain A .vertices) layer
 
   abbrev label : ℕ → ℕ
-  label i = vertexLabel (domain A .props) all (layerBy (domain A .props) t) (A .pre i)
+  label i = vertexLabel (domain A .props) all (layerBy (domain A .props) t) (condition A i)
 
   -- of the needs of i with q
   abbrev pub needsWith : ℕ → ℕ → ℕ
-  needsWith i q = meetOf m (A .pre i) (λ p. t p q) (common (t q q) all)
+  needsWith i q = meetOf m (condition A i) (λ p. t p q) (common (t q q) all)
 
-  member-lt : {i p : ℕ} → i < A .count → So (bit p (A .pre i)) → p < A .props
+  -- of i itself with q, whatever i deletes
+  abbrev pub rowWith : ℕ → ℕ → ℕ
+  rowWith i q = common (needsWith i q) (label i)
+
+  member-lt : {i p : ℕ} → i < A .effects → So (bit p (condition A i)) → p < A .props
   unfolding domain
-  member-lt {i} h b = bit-below (sets .pre i h) b
+  member-lt {i} h b = bit-below (sets .needs i h) b
 
-  with-at : (s : ℕ) {i : ℕ} (q : ℕ) → i < A .count → So (bit s (needsWith i q)) → So (bit s all) × So (bit s (t q q)) × ((p : ℕ) → So (bit p (A .pre i)) → So (bit s (t p q)))
+  with-at : (s : ℕ) {i : ℕ} (q : ℕ) → i < A .effects → So (bit s (needsWith i q))
+      → So (bit s all) × So (bit s (t q q)) × ((p : ℕ) → So (bit p (condition A i)) → So (bit s (t p q)))
   unfolding domain
   with-at s {i} q h b =
-      let (u, each) = meetOf-at s (A .pre i) (common (t q q) all) (λ p. t p q) b in
+      let (u, each) = meetOf-at s (condition A i) (common (t q q) all) (λ p. t p q) b in
       let c = sym (bit-common s (t q q) all) ∙ u in
       (and-right _ c, and-left _ c, λ p n. each p (omega (arith, member-lt h n, sets .props)) n)
 
-  with-of : (s i q : ℕ) → So (bit s all) → So (bit s (t q q)) → ((p : ℕ) → p < m → So (bit p (A .pre i)) → So (bit s (t p q))) → So (bit s (needsWith i q))
+  with-of : (s i q : ℕ) → So (bit s all) → So (bit s (t q q)) → ((p : ℕ) → p < m → So (bit p (condition A i)) → So (bit s (t p q))) → So (bit s (needsWith i q))
   unfolding domain
-  with-of s i q a b each = meetOf-of s (A .pre i) (common (t q q) all) (λ p. t p q) (bit-common s (t q q) all ∙ and-of b a) each
+  with-of s i q a b each = meetOf-of s (condition A i) (common (t q q) all) (λ p. t p q) (bit-common s (t q q) all ∙ and-of b a) each
 
-  -- the label of an action
-  pub admitted : {i : ℕ} → i < A .count → meetOf m (A .pre i) (needsWith i) all ≡ label i
+  -- the label of an effect
+  pub admitted : {i : ℕ} → i < A .effects → meetOf m (condition A i) (needsWith i) all ≡ label i
   unfolding domain
-  admitted {i} h = ext-all (λ s. test-eq (λ b. let (a, each) = meetOf-at s (A .pre i) all (needsWith i) b in
+  admitted {i} h = ext-all (λ s. test-eq (λ b. let (a, each) = meetOf-at s (condition A i) all (needsWith i) b in
       label-of (domain A .props) all t is (record {
         inside = a;
         both = λ p q hp hq np nq. let (_, _, f) = with-at s q h (each q (omega (arith, sets .props)) nq) in f p np;
       }))
       (λ b. let l = label-at (domain A .props) all t is b in
-      meetOf-of s (A .pre i) all (needsWith i) (l .inside) (λ q k nq.
+      meetOf-of s (condition A i) all (needsWith i) (l .inside) (λ q k nq.
       let hq : q < A .props = member-lt h nq in
       with-of s i q (l .inside) (l .both q q hq hq nq nq) (λ p j np. l .both p q (member-lt h np) hq np nq))))
 
   -- ---- vertices of the layer
 
-  has : {s i : ℕ} → i < A .count → Has (domain A .props) all t is s (domain A .needs i) → Has (domain A .props) all t is s (A .pre i)
+  has : {s i : ℕ} → i < A .effects → Has (domain A .props) all t is s (domain A .needs i) → Has (domain A .props) all t is s (condition A i)
   unfolding domain
-  has {s} h l = subst (Has (domain A .props) all t is s) (needs-action A h) l
+  has {s} h l = subst (Has (domain A .props) all t is s) (needs-effect A h) l
 
-  interfering : {v w : ℕ} → (v ≡ w → ⊥) → So (clobbers A v w) → So (paired false (domain A .interfere) v w)
+  interfering : {v w : ℕ} → (v ≡ w → ⊥) → So (interfereOf A v w) → So (paired false (domain A .interfere) v w)
   unfolding domain
-  interfering {v} {w} ne c = paired-of _ v w (fails-of (λ e. ne (same-at e))) (ordered (λ a b. So (clobbers A a b or clobbers A b a)) (or-left _ c) (or-right _ c))
+  interfering {v} {w} ne c = paired-of _ v w (fails-of (λ e. ne (same-at e))) (ordered (λ a b. So (interfereOf A a b)) c (interfere-turn A v w c))
 
-  behind : {i : ℕ} (q : ℕ) → i < A .count → i ≡ persistence A q → ⊥
+  behind : {i : ℕ} (q : ℕ) → i < A .effects → i ≡ persistence A q → ⊥
   unfolding persistence domain
   behind q h e = omega arith
 
@@ -100,10 +106,10 @@ module _ (m all : ℕ) (A : Actions) (sets : Sets m A) {t : ℕ → ℕ → ℕ}
   unfolding persistence domain
   persistences e = omega arith
 
-  deletes-not : {i : ℕ} (q : ℕ) → i < A .count → So (fails (paired false (domain A .interfere) i (persistence A q))) → So (bit q (A .del i)) → ⊥
+  deletes-not : {i : ℕ} (q : ℕ) → i < A .effects → So (fails (paired false (domain A .interfere) i (persistence A q))) → So (bit q (A .del i)) → ⊥
   unfolding domain
-  deletes-not {i} q h f d = fails-at f (interfering (behind q h)
-      (clobbers-of A i (persistence A q) q (ap (bit q) (deletes-action A h) ∙ d) (or-left _ (single-has q (needs-persistence A q)))))
+  deletes-not {i} q h f d = fails-at f (interfering (behind q h) (interfere-of A i (persistence A q) (persistence-alone A i q)
+      (clobbers-of A i (persistence A q) q (ap (bit q) (deletes-effect A h) ∙ d) (or-left _ (single-has q (needs-persistence A q))))))
 
   -- the persistence of q has what q has
   has-prop : {s q : ℕ} → q < A .props → So (bit s (t q q)) → Has (domain A .props) all t is s (domain A .needs (persistence A q))
@@ -120,9 +126,9 @@ module _ (m all : ℕ) (A : Actions) (sets : Sets m A) {t : ℕ → ℕ → ℕ}
   unfolding domain
   prop-has {q} h l = l .both q q h h (single-has q (needs-persistence A q)) (single-has q (needs-persistence A q))
 
-  acts : {s i : ℕ} → i < A .count → Has (domain A .props) all t is s (A .pre i) → Has (domain A .props) all t is s (domain A .needs i)
+  acts : {s i : ℕ} → i < A .effects → Has (domain A .props) all t is s (condition A i) → Has (domain A .props) all t is s (domain A .needs i)
   unfolding domain
-  acts {s} h l = subst (Has (domain A .props) all t is s) (sym (needs-action A h)) l
+  acts {s} h l = subst (Has (domain A .props) all t is s) (sym (needs-effect A h)) l
 
   needs-it : (p : ℕ) → So (bit p (domain A .needs (persistence A p)))
   unfolding domain
@@ -132,24 +138,24 @@ module _ (m all : ℕ) (A : Actions) (sets : Sets m A) {t : ℕ → ℕ → ℕ}
   unfolding domain
   only {p} n = single-only (needs-persistence A p) n
 
-  -- an action and a persistence
-  prop-at : {s i q : ℕ} → i < A .count → q < A .props → So (bit s (free i (persistence A q))) → Goes (domain A) all t is s i (persistence A q)
+  -- an effect and a persistence
+  prop-at : {s i q : ℕ} → i < A .effects → q < A .props → So (bit s (free i (persistence A q))) → Goes (domain A) all t is s i (persistence A q)
   unfolding domain
-  prop-at {q} h k b = goes-at (domain A) all t is (action-below A h) (persistence-below A k) (behind q h) b
+  prop-at {q} h k b = goes-at (domain A) all t is (effect-below A h) (persistence-below A k) (behind q h) b
 
-  prop-of : {s i q : ℕ} → i < A .count → q < A .props → Has (domain A .props) all t is s (A .pre i) → So (bit s (t q q)) → (So (bit q (A .del i)) → ⊥)
-      → ((p : ℕ) → p < A .props → So (bit p (A .pre i)) → So (bit s (t p q))) → So (bit s (free i (persistence A q)))
+  prop-of : {s i q : ℕ} → i < A .effects → q < A .props → Has (domain A .props) all t is s (condition A i) → So (bit s (t q q)) → (So (bit q (A .del i)) → ⊥)
+      → ((p : ℕ) → p < A .props → So (bit p (condition A i)) → So (bit s (t p q))) → So (bit s (free i (persistence A q)))
   unfolding domain
-  prop-of {s} {i} {q} h k l b d each = goes-of (domain A) all t is (action-below A h) (persistence-below A k) (behind q h) (record {
+  prop-of {s} {i} {q} h k l b d each = goes-of (domain A) all t is (effect-below A h) (persistence-below A k) (behind q h) (record {
     left = acts h l;
     right = has-prop k b;
     apart = fails-of (clobbers-apart A i (persistence A q)
-        (clobbers-persistence A i q (λ x. d (ap (bit q) (sym (deletes-action A h)) ∙ x))) (persistence-clobbers A q i));
+        (clobbers-persistence A i q (λ x. d (ap (bit q) (sym (deletes-effect A h)) ∙ x))) (persistence-clobbers A q i));
     across = λ p r hp hr np nr.
-        ap (λ (x : ℕ). bit s (t p x)) (single-only (needs-persistence A q) nr) ∙ each p hp (ap (bit p) (sym (needs-action A h)) ∙ np);
+        ap (λ (x : ℕ). bit s (t p x)) (single-only (needs-persistence A q) nr) ∙ each p hp (ap (bit p) (sym (needs-effect A h)) ∙ np);
   })
 
-  pub with-prop : {i q : ℕ} → i < A .count → q < A .props → choose (bit q (A .del i)) 0 (common (needsWith i q) (label i)) ≡ free i (persistence A q)
+  pub with-prop : {i q : ℕ} → i < A .effects → q < A .props → choose (bit q (A .del i)) 0 (rowWith i q) ≡ free i (persistence A q)
   unfolding domain
   with-prop {i} {q} h k = ⊎-elim
       (λ d. choose-held _ d ∙ ext-all (λ s. test-eq (λ b. absurd (no-bit-zero s b)) (λ b. absurd (deletes-not q h (prop-at h k b .apart) d))))
@@ -161,52 +167,63 @@ module _ (m all : ℕ) (A : Actions) (sets : Sets m A) {t : ℕ → ℕ → ℕ}
       let g = prop-at h k b in
       let l = has h (g .left) in
       bit-common s (needsWith i q) (label i) ∙ and-of (with-of s i q (l .inside) (prop-has k (g .right)) (λ p j np.
-      g .across p q (member-lt h np) k (ap (bit p) (needs-action A h) ∙ np) (single-has q (needs-persistence A q))))
+      g .across p q (member-lt h np) k (ap (bit p) (needs-effect A h) ∙ np) (single-has q (needs-persistence A q))))
       (label-of (domain A .props) all t is l))))
       (holds-or (bit q (A .del i)))
 
-  -- two actions
-  pub with-action : {i j : ℕ} {interfere : Bool} → i < A .count → j < A .count → (i ≡ j → ⊥) → interfere ≡ (clobbers A i j or clobbers A j i)
-      → choose interfere 0 (meetOf m (A .pre i) (λ p. free j (persistence A p)) (common (label j) (label i))) ≡ free i j
+  -- two effects, by what the one has with the needs of the other
+  pub with-effect : {i j : ℕ} {interfere : Bool} → i < A .effects → j < A .effects → (i ≡ j → ⊥) → interfere ≡ interfereOf A i j
+      → choose interfere 0 (meetOf m (condition A i) (rowWith j) (common (label j) (label i))) ≡ free i j
   unfolding domain
-  with-action {i} {j} {interfere} h k ne e = ⊎-elim
-      (λ d. choose-held _ d ∙ ext-all (λ s. test-eq (λ b. absurd (no-bit-zero s b)) (λ b.
-      absurd (fails-at (goes s b .apart) (⊎-elim (interfering ne) (λ c. paired-turn (domain A .interfere) j i (interfering (λ q. ne (sym q)) c)) (or-at (sym e ∙ d)))))))
+  with-effect {i} {j} {interfere} h k ne e = ⊎-elim
+      (λ d. choose-held _ d ∙ ext-all (λ s. test-eq (λ b. absurd (no-bit-zero s b)) (λ b. absurd (fails-at (goes s b .apart) (interfering ne (sym e ∙ d))))))
       (λ d. choose-failed _ _ d ∙ ext-all (λ s. test-eq (to s d) (from s)))
       (holds-or interfere)
     where
       goes : (s : ℕ) → So (bit s (free i j)) → Goes (domain A) all t is s i j
-      goes s b = goes-at (domain A) all t is (action-below A h) (action-below A k) ne b
+      goes s b = goes-at (domain A) all t is (effect-below A h) (effect-below A k) ne b
 
-      to : (s : ℕ) → So (fails interfere) → So (bit s (meetOf m (A .pre i) (λ p. free j (persistence A p)) (common (label j) (label i)))) → So (bit s (free i j))
+      to : (s : ℕ) → So (fails interfere) → So (bit s (meetOf m (condition A i) (rowWith j) (common (label j) (label i)))) → So (bit s (free i j))
       to s d b =
-          let (u, each) = meetOf-at s (A .pre i) (common (label j) (label i)) (λ p. free j (persistence A p)) b in
+          let (u, each) = meetOf-at s (condition A i) (common (label j) (label i)) (rowWith j) b in
           let c = sym (bit-common s (label j) (label i)) ∙ u in
-          let none : So (clobbers A i j or clobbers A j i) → ⊥ = λ x. fails-at d (e ∙ x) in
-          goes-of (domain A) all t is (action-below A h) (action-below A k) ne (record {
+          goes-of (domain A) all t is (effect-below A h) (effect-below A k) ne (record {
             left = acts h (label-at (domain A .props) all t is (and-right _ c));
             right = acts k (label-at (domain A .props) all t is (and-left _ c));
-            apart = fails-of (clobbers-apart A i j (λ x. none (or-left _ x)) (λ x. none (or-right _ x)));
+            apart = fails-of (interfere-apart A i j (λ x. fails-at d (e ∙ x)));
             across = λ p q hp hq np nq.
-                let n : So (bit p (A .pre i)) = ap (bit p) (sym (needs-action A h)) ∙ np in
-                ap (bit s) (is .turn p q hp hq)
-                ∙ prop-at k hp (each p (omega (arith, sets .props)) n) .across q p hq hp nq (single-has p (needs-persistence A p));
+                let n : So (bit p (condition A i)) = ap (bit p) (sym (needs-effect A h)) ∙ np in
+                let row = sym (bit-common s (needsWith j p) (label j)) ∙ each p (omega (arith, sets .props)) n in
+                let (_, _, all-needs) = with-at s p k (and-left _ row) in
+                ap (bit s) (is .turn p q hp hq) ∙ all-needs q (ap (bit q) (sym (needs-effect A k)) ∙ nq);
           })
 
-      from : (s : ℕ) → So (bit s (free i j)) → So (bit s (meetOf m (A .pre i) (λ p. free j (persistence A p)) (common (label j) (label i))))
+      from : (s : ℕ) → So (bit s (free i j)) → So (bit s (meetOf m (condition A i) (rowWith j) (common (label j) (label i))))
       from s b =
           let g = goes s b in
           let l = has h (g .left) in
-          let r = has k (g .right) in
-          meetOf-of s (A .pre i) (common (label j) (label i)) (λ p. free j (persistence A p))
-          (bit-common s (label j) (label i) ∙ and-of (label-of (domain A .props) all t is r) (label-of (domain A .props) all t is l))
+          let r = label-of (domain A .props) all t is (has k (g .right)) in
+          meetOf-of s (condition A i) (common (label j) (label i)) (rowWith j)
+          (bit-common s (label j) (label i) ∙ and-of r (label-of (domain A .props) all t is l))
           (λ p _ np.
           let hp : p < A .props = member-lt h np in
-          let n : So (bit p (domain A .needs i)) = ap (bit p) (needs-action A h) ∙ np in
-          prop-of k hp r (l .both p p hp hp np np)
-          (λ d. fails-at (g .apart) (paired-turn (domain A .interfere) j i (interfering (λ q. ne (sym q))
-          (clobbers-of A j i p (ap (bit p) (deletes-action A k) ∙ d) (or-left _ n)))))
-          (λ q hq nq. ap (bit s) (is .turn q p hq hp) ∙ g .across p q hp hq n (ap (bit q) (needs-action A k) ∙ nq)))
+          bit-common s (needsWith j p) (label j) ∙ and-of (with-of s j p (l .inside) (l .both p p hp hp np np) (λ q _ nq.
+          let hq : q < A .props = member-lt k nq in
+          ap (bit s) (is .turn q p hq hp) ∙ g .across p q hp hq (ap (bit p) (needs-effect A h) ∙ np) (ap (bit q) (needs-effect A k) ∙ nq))) r)
+
+  -- of effects of different actions, by the persistences of those needs: where the other deletes one, the two interfere
+  pub with-other : {i j : ℕ} {interfere : Bool} → i < A .effects → j < A .effects → (i ≡ j → ⊥) → (So (siblings A i j) → ⊥) → interfere ≡ interfereOf A i j
+      → choose interfere 0 (meetOf m (condition A i) (λ p. free j (persistence A p)) (common (label j) (label i))) ≡ free i j
+  unfolding domain
+  with-other {i} {j} {interfere} h k ne f e = ⊎-elim
+      (λ d. choose-held _ d ∙ sym (choose-held _ d))
+      (λ d. choose-failed _ _ d
+      ∙ meet-only (condition A i) _ (λ p _ np. sym (with-prop k (member-lt h np)) ∙ choose-failed _ _ (fails-of (stays d p np))) ∙ sym (choose-failed _ _ d))
+      (holds-or interfere) ∙ with-effect h k ne e
+    where
+      stays : So (fails interfere) → (p : ℕ) → So (bit p (condition A i)) → So (bit p (A .del j)) → ⊥
+      stays d p np x = fails-at d (e ∙ interfere-turn A j i (interfere-of A j i (λ s. f (siblings-turn A j i s))
+          (clobbers-of A j i p (ap (bit p) (deletes-effect A k) ∙ x) (or-left _ (ap (bit p) (needs-effect A h) ∙ np)))))
 
   -- two persistences are together in what their propositions are
   kept : (s : ℕ) {p q : ℕ} → p < A .props → q < A .props → So (bit s (t p q)) → So (bit s (free (persistence A p) (persistence A q)))
@@ -247,15 +264,15 @@ module _ (m all : ℕ) (A : Actions) (sets : Sets m A) {t : ℕ → ℕ → ℕ}
   -- ---- vertices that add p
 
   abbrev pub adders : ℕ → ℕ
-  adders p = startLabel (A .count) (A .add) p
+  adders p = startLabel (A .effects) (A .add) p
 
-  adds-it : {i : ℕ} (p : ℕ) → i < A .count → So (bit p (A .add i)) → So (bit p (domain A .adds i))
+  adds-it : {i : ℕ} (p : ℕ) → i < A .effects → So (bit p (A .add i)) → So (bit p (domain A .adds i))
   unfolding domain
-  adds-it p h b = ap (bit p) (adds-action A h) ∙ b
+  adds-it p h b = ap (bit p) (adds-effect A h) ∙ b
 
-  it-adds : {i : ℕ} (p : ℕ) → i < A .count → So (bit p (domain A .adds i)) → So (bit p (A .add i))
+  it-adds : {i : ℕ} (p : ℕ) → i < A .effects → So (bit p (domain A .adds i)) → So (bit p (A .add i))
   unfolding domain
-  it-adds p h b = ap (bit p) (sym (adds-action A h)) ∙ b
+  it-adds p h b = ap (bit p) (sym (adds-effect A h)) ∙ b
 
   keeps-it : (p : ℕ) → So (bit p (domain A .adds (persistence A p)))
   unfolding domain
@@ -265,44 +282,44 @@ module _ (m all : ℕ) (A : Actions) (sets : Sets m A) {t : ℕ → ℕ → ℕ}
   unfolding domain
   it-keeps {p} b = single-only (adds-persistence A p) b
 
-  -- what v is together with among the adders of p: its persistence, and the actions
-  pub besides : (v : ℕ) {p : ℕ} → p < A .props → beside (domain A) layer v p
-      ≡ union (free v (persistence A p)) (joinOver (A .count) (λ j. keep (bit p (A .add j)) (free v j)))
+  -- what v is together with among the effects that add p
+  abbrev withAdders : ℕ → ℕ → ℕ
+  withAdders v p = joinOver (A .effects) (λ j. keep (bit p (A .add j)) (free v j))
+
+  adders-bits : (v p s : ℕ) → bit s (withAdders v p) ≡ anyBelow (A .effects) (λ j. bit p (A .add j) and bit s (free v j))
+  adders-bits v p s = bit-joinOver s _ (λ j l. bit-keep s (bit p (A .add j)) _)
+
+  -- what v is together with among the adders of p: its persistence, and the effects
+  pub besides : (v : ℕ) {p : ℕ} → p < A .props → beside (domain A) layer v p ≡ union (free v (persistence A p)) (withAdders v p)
   unfolding domain
   besides v {p} k = ext-all (λ s. test-eq (λ b. let (w, h, n, f) = beside-at (domain A) layer s v p b in
       bit-union s (free v (persistence A p)) _ ∙ vertex-cases A
-      (λ w. So (bit p (domain A .adds w)) → So (bit s (free v w)) → So (bit s (free v (persistence A p)) or bit s (joinOver (A .count) (λ j. keep (bit p (A .add j)) (free v j)))))
-      (λ j l n f. or-right _ (bits s ∙ any-of _ l (and-of (it-adds p l n) f)))
+      (λ w. So (bit p (domain A .adds w)) → So (bit s (free v w)) → So (bit s (free v (persistence A p)) or bit s (withAdders v p)))
+      (λ j l n f. or-right _ (adders-bits v p s ∙ any-of _ l (and-of (it-adds p l n) f)))
       (λ q l n f. or-left _ (subst (λ (x : ℕ). So (bit s (free v (persistence A x)))) (sym (it-keeps n)) f))
       h n f)
       (λ b. ⊎-elim
       (λ f. beside-of (domain A) layer s v p (persistence-below A k) (keeps-it p) f)
-      (λ f. let (j, l, u) = any-at (sym (bits s) ∙ f) in
-      beside-of (domain A) layer s v p (action-below A l) (adds-it p l (and-left _ u)) (and-right _ u))
+      (λ f. let (j, l, u) = any-at (sym (adders-bits v p s) ∙ f) in
+      beside-of (domain A) layer s v p (effect-below A l) (adds-it p l (and-left _ u)) (and-right _ u))
       (or-at (sym (bit-union s (free v (persistence A p)) _) ∙ b))))
-    where
-      bits : (s : ℕ) → bit s (joinOver (A .count) (λ j. keep (bit p (A .add j)) (free v j))) ≡ anyBelow (A .count) (λ j. bit p (A .add j) and bit s (free v j))
-      bits s = bit-joinOver s _ (λ j l. bit-keep s (bit p (A .add j)) _)
 
   -- by the rows of its adders
   pub beside-rows : (i : ℕ) {p : ℕ} → p < A .props → union (free i (persistence A p)) (joinOf m (adders p) (λ j. free j i)) ≡ beside (domain A) layer i p
   unfolding domain
   beside-rows i {p} k = ap (union (free i (persistence A p))) (ext-all (λ s. test-eq
       (λ b. let (j, l, u) = any-at (sym (bit-joinOf s m (adders p) (λ j. free j i)) ∙ b) in
-      let h : j < A .count = bit-below (startLabel-lt (A .count) (A .add) p) (and-left _ u) in
-      added-bits s ∙ any-of _ h (and-of (sym (bit-startLabel (A .add) p h) ∙ and-left _ u)
+      let h : j < A .effects = bit-below (startLabel-lt (A .effects) (A .add) p) (and-left _ u) in
+      adders-bits i p s ∙ any-of _ h (and-of (sym (bit-startLabel (A .add) p h) ∙ and-left _ u)
       (ap (bit s) (free-turn (domain A .vertices) layer i j) ∙ and-right _ u)))
-      (λ b. let (j, h, u) = any-at (sym (added-bits s) ∙ b) in
-      bit-joinOf s m (adders p) (λ j. free j i) ∙ any-of _ (omega (arith, sets .count)) (and-of
+      (λ b. let (j, h, u) = any-at (sym (adders-bits i p s) ∙ b) in
+      bit-joinOf s m (adders p) (λ j. free j i) ∙ any-of _ (omega (arith, sets .effects)) (and-of
       (bit-startLabel (A .add) p h ∙ and-left _ u) (ap (bit s) (free-turn (domain A .vertices) layer j i) ∙ and-right _ u)))))
       ∙ sym (besides i k)
-    where
-      added-bits : (s : ℕ) → bit s (joinOver (A .count) (λ j. keep (bit p (A .add j)) (free i j))) ≡ anyBelow (A .count) (λ j. bit p (A .add j) and bit s (free i j))
-      added-bits s = bit-joinOver s _ (λ j l. bit-keep s (bit p (A .add j)) _)
 
   -- one by one: those of a set, itself, and none of the others
-  pub beside-few : {i p set : ℕ} → i < A .count → p < A .props → set < 2 ^ A .count
-      → ((j : ℕ) → j < A .count → (j ≡ i → ⊥) → So (fails (bit j set)) → free i j ≡ 0)
+  pub beside-few : {i p set : ℕ} → i < A .effects → p < A .props → set < 2 ^ A .effects
+      → ((j : ℕ) → j < A .effects → (j ≡ i → ⊥) → So (fails (bit j set)) → free i j ≡ 0)
       → union (union (free i (persistence A p)) (joinOf m set (λ j. keep (bit p (A .add j)) (free i j)))) (keep (bit p (A .add i)) (free i i))
       ≡ beside (domain A) layer i p
   unfolding domain
@@ -311,40 +328,35 @@ module _ (m all : ℕ) (A : Actions) (sets : Sets m A) {t : ℕ → ℕ → ℕ}
       few : ℕ
       few = joinOf m set (λ j. keep (bit p (A .add j)) (free i j))
 
-      every : ℕ
-      every = joinOver (A .count) (λ j. keep (bit p (A .add j)) (free i j))
-
-      bits : (s : ℕ) → bit s every ≡ anyBelow (A .count) (λ j. bit p (A .add j) and bit s (free i j))
-      bits s = bit-joinOver s _ (λ j l. bit-keep s (bit p (A .add j)) _)
-
       to : (s : ℕ) → So (bit s (union (union (free i (persistence A p)) few) (keep (bit p (A .add i)) (free i i))))
-          → So (bit s (union (free i (persistence A p)) every))
-      to s b = bit-union s _ every ∙ ⊎-elim
+          → So (bit s (union (free i (persistence A p)) (withAdders i p)))
+      to s b = bit-union s _ (withAdders i p) ∙ ⊎-elim
           (λ u. ⊎-elim
           (λ x. or-left _ x)
           (λ x. let (j, l, y) = any-at (sym (bit-joinOf s m set _) ∙ x) in
-          or-right _ (bits s ∙ any-of _ (bit-below inside (and-left _ y)) (sym (bit-keep s (bit p (A .add j)) _) ∙ and-right _ y)))
+          or-right _ (adders-bits i p s ∙ any-of _ (bit-below inside (and-left _ y)) (sym (bit-keep s (bit p (A .add j)) _) ∙ and-right _ y)))
           (or-at (sym (bit-union s (free i (persistence A p)) few) ∙ u)))
-          (λ u. or-right _ (bits s ∙ any-of _ hi (sym (bit-keep s (bit p (A .add i)) _) ∙ u)))
+          (λ u. or-right _ (adders-bits i p s ∙ any-of _ hi (sym (bit-keep s (bit p (A .add i)) _) ∙ u)))
           (or-at (sym (bit-union s (union (free i (persistence A p)) few) _) ∙ b))
 
-      one : (s j : ℕ) → j < A .count → So (bit p (A .add j)) → So (bit s (free i j)) → So (bit s (union (free i (persistence A p)) few) or bit s (keep (bit p (A .add i)) (free i i)))
+      one : (s j : ℕ) → j < A .effects → So (bit p (A .add j)) → So (bit s (free i j))
+          → So (bit s (union (free i (persistence A p)) few) or bit s (keep (bit p (A .add i)) (free i i)))
       one s j h n f = ⊎-elim
           (λ e. let q : j ≡ i = same-at e in or-right _ (bit-keep s (bit p (A .add i)) _ ∙ and-of
           (ap (λ (x : ℕ). bit p (A .add x)) (sym q) ∙ n) (ap (λ (x : ℕ). bit s (free i x)) (sym q) ∙ f)))
           (λ d. ⊎-elim
           (λ y. or-left _ (bit-union s (free i (persistence A p)) few ∙ or-right _ (bit-joinOf s m set _
-          ∙ any-of _ (omega (arith, sets .count)) (and-of y (bit-keep s (bit p (A .add j)) _ ∙ and-of n f)))))
+          ∙ any-of _ (omega (arith, sets .effects)) (and-of y (bit-keep s (bit p (A .add j)) _ ∙ and-of n f)))))
           (λ y. absurd (no-bit-zero s (ap (bit s) (sym (none j h (λ q. fails-at d (same-of q)) y)) ∙ f)))
           (holds-or (bit j set)))
           (holds-or (same j i))
 
-      from : (s : ℕ) → So (bit s (union (free i (persistence A p)) every))
+      from : (s : ℕ) → So (bit s (union (free i (persistence A p)) (withAdders i p)))
           → So (bit s (union (union (free i (persistence A p)) few) (keep (bit p (A .add i)) (free i i))))
       from s b = bit-union s (union (free i (persistence A p)) few) _ ∙ ⊎-elim
           (λ u. or-left _ (bit-union s (free i (persistence A p)) few ∙ or-left _ u))
-          (λ u. let (j, h, y) = any-at (sym (bits s) ∙ u) in one s j h (and-left _ y) (and-right _ y))
-          (or-at (sym (bit-union s (free i (persistence A p)) every) ∙ b))
+          (λ u. let (j, h, y) = any-at (sym (adders-bits i p s) ∙ u) in one s j h (and-left _ y) (and-right _ y))
+          (or-at (sym (bit-union s (free i (persistence A p)) (withAdders i p)) ∙ b))
 
   -- ---- the next layer
 
@@ -365,12 +377,12 @@ module _ (m all : ℕ) (A : Actions) (sets : Sets m A) {t : ℕ → ℕ → ℕ}
       })
       (λ f.
       let (i, l, u) = any-at (sym (bit-joinOf s m (adders p) _) ∙ f) in
-      let h : i < A .count = bit-below (startLabel-lt (A .count) (A .add) p) (and-left _ u) in
+      let h : i < A .effects = bit-below (startLabel-lt (A .effects) (A .add) p) (and-left _ u) in
       let (w, k, n, g) = beside-at (domain A) layer s i q (and-right _ u) in
       record {
         v = i;
         w = w;
-        v-lt = action-below A h;
+        v-lt = effect-below A h;
         w-lt = k;
         adds-p = adds-it p h (sym (bit-startLabel (A .add) p h) ∙ and-left _ u);
         adds-q = n;
@@ -378,11 +390,11 @@ module _ (m all : ℕ) (A : Actions) (sets : Sets m A) {t : ℕ → ℕ → ℕ}
       })
       (or-at (sym (bit-union s (t p q) _) ∙ b))
 
-  half-of : (s p q : ℕ) {i : ℕ} → i < A .count → So (bit p (A .add i)) → So (bit s (beside (domain A) layer i q)) → So (bit s (halfOf p q))
+  half-of : (s p q : ℕ) {i : ℕ} → i < A .effects → So (bit p (A .add i)) → So (bit s (beside (domain A) layer i q)) → So (bit s (halfOf p q))
   unfolding domain
   half-of s p q h n b =
       bit-union s (t p q) _ ∙ or-right _ (bit-joinOf s m (adders p) _
-      ∙ any-of _ (omega (arith, sets .count)) (and-of (bit-startLabel (A .add) p h ∙ n) b))
+      ∙ any-of _ (omega (arith, sets .effects)) (and-of (bit-startLabel (A .add) p h ∙ n) b))
 
   pub next-cells : {p q : ℕ} → p < A .props → q < A .props → union (halfOf p q) (halfOf q p) ≡ nextTogether (domain A) layer p q
   unfolding domain

@@ -9,7 +9,7 @@ use native.Mathlib.Omega.{arith}
 use Rattle.rules.specs.Test.{_and_, _or_, fails, same, below}
 use Rattle.rules.specs.Word.{bit, common, union, single}
 use Rattle.rules.specs.Over.{keep}
-use Rattle.rules.specs.Domain.{Actions, persistence, needsOf, addsOf}
+use Rattle.rules.specs.Domain.{Actions, Sound, persistence, needsOf, addsOf}
 use Rattle.rules.specs.Layer.{labelIn}
 use Rattle.rules.specs.Plan.{Support, takes, order, support}
 use Rattle.rules.proofs.Tests.{choose-held, choose-failed, and-of, and-left, and-right, or-left, or-right, or-at, fails-of, fails-at, holds-or, same-of}
@@ -20,25 +20,25 @@ use Rattle.rules.proofs.Layers.{getD-listOver, listOver-has, listOver-o
 
 -- ---- the list of candidates
 
--- what adds p is an action or the persistence of p
-pub adder : (A : Actions) (p : ℕ) {v : ℕ} → So (bit p (addsOf A v)) → (v < A .count) ⊎ (v ≡ persistence A p)
+-- what adds p is an effect or the persistence of p
+pub adder : (A : Actions) (p : ℕ) {v : ℕ} → So (bit p (addsOf A v)) → (v < A .effects) ⊎ (v ≡ persistence A p)
 unfolding addsOf persistence
-adder A p {v} t = ⊎-elim (λ b. inl (below-at b)) (λ f. inr (kept f)) (holds-or (below v (A .count)))
+adder A p {v} t = ⊎-elim (λ b. inl (below-at b)) (λ f. inr (kept f)) (holds-or (below v (A .effects)))
   where
-    kept : So (fails (below v (A .count))) → v ≡ A .count + p
+    kept : So (fails (below v (A .effects))) → v ≡ A .effects + p
     kept f =
-        let e : p ≡ v - A .count = single-only (choose-failed _ _ f) t in
+        let e : p ≡ v - A .effects = single-only (choose-failed _ _ f) t in
         omega (arith, below-fails f)
 
 -- so each vertex that adds p is a candidate, and the candidates are vertices
 pub order-has : (A : Actions) (p : ℕ) {v : ℕ} → So (bit p (addsOf A v)) → List·Memᴰ v (order A p)
 unfolding order
-order-has A p t = ⊎-elim (λ l. List·Memᴰ·tail (listOver-has (A .count) (λ a. a) l)) (λ e. List·Memᴰ·head e) (adder A p t)
+order-has A p t = ⊎-elim (λ l. List·Memᴰ·tail (listOver-has (A .effects) (λ e. e) l)) (λ e. List·Memᴰ·head e) (adder A p t)
 
-pub order-vertices : (A : Actions) {p : ℕ} → p < A .props → {v : ℕ} → List·Memᴰ v (order A p) → v < A .count + A .props
+pub order-vertices : (A : Actions) {p : ℕ} → p < A .props → {v : ℕ} → List·Memᴰ v (order A p) → v < A .effects + A .props
 unfolding order persistence
 order-vertices A h m =
-    ⊎-elim (λ e. omega arith) (λ k. let (i, l, e) = listOver-of (A .count) k in omega arith) (List·Memᴰ·cases-cons m)
+    ⊎-elim (λ e. omega arith) (λ k. let (i, l, e) = listOver-of (A .effects) k in omega arith) (List·Memᴰ·cases-cons m)
 
 -- ---- what one vertex takes: the states of its label that are still uncovered
 
@@ -67,37 +67,38 @@ module _ (A : Actions) (labels : List ℕ) (v : ℕ) (s : Support) where
   pub takes-kept : (a : ℕ) → So (bit a (s .marks)) → So (bit a (takes A labels v s .marks))
   unfolding takes
   takes-kept a t = ⊎-elim
-      (λ h. ap (bit a) (choose-held _ h) ∙ bit-union a (s .marks) (single v) ∙ or-left _ t)
+      (λ h. ap (bit a) (choose-held _ h) ∙ bit-union a (s .marks) (single (A .owner v)) ∙ or-left _ t)
       (λ f. ap (bit a) (choose-failed _ _ f) ∙ t)
-      (holds-or (below v (A .count) and fails (same (common (s .left) (labelIn labels v)) 0)))
+      (holds-or (below v (A .effects) and fails (same (common (s .left) (labelIn labels v)) 0)))
 
-  -- an action that takes a state is marked
-  pub takes-marked : (i : ℕ) → v < A .count → So (bit i (s .left)) → So (bit i (labelIn labels v)) → So (bit v (takes A labels v s .marks))
+  -- the action of an effect that takes a state is marked
+  pub takes-marked : (i : ℕ) → v < A .effects → So (bit i (s .left)) → So (bit i (labelIn labels v)) → So (bit (A .owner v) (takes A labels v s .marks))
   unfolding takes
   takes-marked i h l t =
-      ap (bit v) (choose-held _ (and-of (below-of h) (fails-of (λ e.
+      ap (bit (A .owner v)) (choose-held _ (and-of (below-of h) (fails-of (λ e.
       no-bit-zero i (ap (bit i) (sym (same-at e)) ∙ bit-common i (s .left) (labelIn labels v) ∙ and-of l t)))))
-      ∙ bit-union v (s .marks) (single v) ∙ or-right _ (single-has v refl)
+      ∙ bit-union (A .owner v) (s .marks) (single (A .owner v)) ∙ or-right _ (single-has (A .owner v) refl)
 
-  pub takes-bounded : s .marks < 2 ^ A .count → takes A labels v s .marks < 2 ^ A .count
+  pub takes-bounded : Sound A → s .marks < 2 ^ A .count → takes A labels v s .marks < 2 ^ A .count
   unfolding takes
-  takes-bounded h =
-      choose-lt (λ c. union-lt (A .count) h (single-lt (below-at (and-left _ c)))) h
+  takes-bounded k h =
+      choose-lt (λ c. union-lt (A .count) h (single-lt (k .owner v (below-at (and-left _ c))))) h
 
 -- ---- what a search does to the states left, the marks and the needs
 
--- p is supported for the state i: by a vertex that adds p and has i in its label, is marked if it is an action, and of whose needs each is needed for i
+-- p is supported for the state i: by a vertex that adds p and has i in its label, whose action is marked if it is an effect,
+-- and of whose needs each is needed for i
 pub record Supported (A : Actions) (labels : List ℕ) (p i marks : ℕ) (needed : List ℕ) : Type 0 where
   pub vertex : ℕ
   pub adds : So (bit p (addsOf A vertex))
   pub labelled : So (bit i (labelIn labels vertex))
-  pub marked : vertex < A .count → So (bit vertex marks)
+  pub marked : vertex < A .effects → So (bit (A .owner vertex) marks)
   pub needs : (q : ℕ) → q < A .props → So (bit q (needsOf A vertex)) → So (bit i (labelIn needed q))
 
 -- a vertex that has i in its label needs q
 pub record Passed (A : Actions) (labels : List ℕ) (i q : ℕ) : Type 0 where
   pub vertex : ℕ
-  pub known : vertex < A .count + A .props
+  pub known : vertex < A .effects + A .props
   pub needs : So (bit q (needsOf A vertex))
   pub labelled : So (bit i (labelIn labels vertex))
 
@@ -106,7 +107,7 @@ pub record Grown (A : Actions) (labels : List ℕ) (from : ℕ → Type 0) (mark
   pub marked : (a : ℕ) → So (bit a marks) → So (bit a marks')
   pub kept : (i q : ℕ) → q < A .props → So (bit i (labelIn needed q)) → So (bit i (labelIn needed' q))
   pub source : (i q : ℕ) → q < A .props → So (bit i (labelIn needed' q)) → So (bit i (labelIn needed q)) ⊎ (from i × Passed A labels i q)
-  pub bounded : marks < 2 ^ A .count → marks' < 2 ^ A .count
+  pub bounded : Sound A → marks < 2 ^ A .count → marks' < 2 ^ A .count
 
 -- a search for p: states are covered one after the other, and those that are, are supported
 pub record Searched (A : Actions) (labels : List ℕ) (p : ℕ) (s s' : Support) : Type 0 where
@@ -120,7 +121,7 @@ module _ {A : Actions} {labels : List ℕ} where
     marked = λ a t. t;
     kept = λ i q h t. t;
     source = λ i q h t. inl t;
-    bounded = λ h. h;
+    bounded = λ k h. h;
   }
 
   -- one growth, then another
@@ -132,7 +133,7 @@ module _ {A : Actions} {labels : List ℕ} where
     source = λ i q h t. ⊎-elim
         (λ u. ⊎-elim inl (λ w. inr (d i (w .0), w .1)) (g .source i q h u))
         (λ u. inr (e i (u .0), u .1)) (k .source i q h t);
-    bounded = λ h. k .bounded (g .bounded h);
+    bounded = λ o h. k .bounded o (g .bounded o h);
   }
 
   -- what is supported stays so
@@ -142,7 +143,7 @@ module _ {A : Actions} {labels : List ℕ} where
     vertex = s .vertex;
     adds = s .adds;
     labelled = s .labelled;
-    marked = λ h. g .marked (s .vertex) (s .marked h);
+    marked = λ h. g .marked (A .owner (s .vertex)) (s .marked h);
     needs = λ q h t. g .kept i q h (s .needs q h t);
   }
 
@@ -161,7 +162,7 @@ module _ {A : Actions} {labels : List ℕ} where
         ⊎-elim (λ u. g .gone i u h) (λ n. supported-kept (g .grown) (f .gone i t (fails-at n))) (holds-or (bit i (s' .left)));
   }
 
-  takes-searched : {p v : ℕ} {s : Support} → v < A .count + A .props → So (bit p (addsOf A v)) → Searched A labels p s (takes A labels v s)
+  takes-searched : {p v : ℕ} {s : Support} → v < A .effects + A .props → So (bit p (addsOf A v)) → Searched A labels p s (takes A labels v s)
   takes-searched {p} {v} {s} l e = record {
     fewer = λ i t. and-left _ (sym (takes-left A labels v s i) ∙ t);
     grown = record {
@@ -215,7 +216,7 @@ module _ (A : Actions) (labels : List ℕ) (p : ℕ) where
       (holds-or (bit p (addsOf A v))))
       (holds-or (same (s .left) 0))
 
-  pub support-searched : (vs : List ℕ) {s : Support} → ((v : ℕ) → List·Memᴰ v vs → v < A .count + A .props)
+  pub support-searched : (vs : List ℕ) {s : Support} → ((v : ℕ) → List·Memᴰ v vs → v < A .effects + A .props)
       → Searched A labels p s (support A labels p vs s)
   unfolding support
   support-searched [] h = searched-none
@@ -226,7 +227,7 @@ module _ (A : Actions) (labels : List ℕ) (p : ℕ) where
       (λ f. support-searched vs (λ w m. h w (List·Memᴰ·tail m)))
 
   -- a state that a candidate covers is not left
-  pub support-covers : (vs : List ℕ) (s : Support) {v : ℕ} (i : ℕ) → ((w : ℕ) → List·Memᴰ w vs → w < A .count + A .props)
+  pub support-covers : (vs : List ℕ) (s : Support) {v : ℕ} (i : ℕ) → ((w : ℕ) → List·Memᴰ w vs → w < A .effects + A .props)
       → List·Memᴰ v vs → So (bit p (addsOf A v)) → So (bit i (labelIn labels v)) → So (bit i (support A labels p vs s .left)) → ⊥
   support-covers [] s i h m a l t = List·Memᴰ·not-nil m
   support-covers (w ∷ vs) s i h m a l t = by-step (λ (r : Support). So (bit i (r .left)) → ⊥) w vs
@@ -239,5 +240,5 @@ module _ (A : Actions) (labels : List ℕ) (p : ℕ) where
       (λ e. fails-at f (subst (λ (x : ℕ). So (bit p (addsOf A x))) e a))
       (λ k. support-covers vs s i later k a l t) (List·Memᴰ·cases-cons m)) t
     where
-      later : (x : ℕ) → List·Memᴰ x vs → x < A .count + A .props
+      later : (x : ℕ) → List·Memᴰ x vs → x < A .effects + A .props
       later x k = h x (List·Memᴰ·tail k)

@@ -6,7 +6,7 @@ use Rattle.rules.specs.Test.{_and_, fails, same, below, choose}
 use Rattle.rules.specs.Word.{bit, common, union, without, single, within}
 use Rattle.rules.specs.Over.{keep, joinOver, allBelow}
 use Rattle.rules.specs.Lists.{listOver}
-use Rattle.rules.specs.Domain.{Actions, shapeOf, persistence, needsOf, addsOf, domain}
+use Rattle.rules.specs.Domain.{Actions, shapeOf, condition, persistence, needsOf, addsOf, domain}
 use Rattle.rules.specs.Layer.{labelIn, propsIn, actionsIn}
 use Rattle.rules.specs.Level.{Level, level, never, notByDepth, levelOf}
 
@@ -16,20 +16,21 @@ pub record Support : Type 0 where
   pub marks : ℕ
   pub needed : List ℕ
 
--- 'each take the still uncovered states in their label; one that takes at least one is marked, one that takes none is not.'
+-- 'each take the still uncovered states in their label; one that takes at least one is marked, one that takes none is not':
+-- request Three, 'A plan marks an action when one of its effects is chosen'.
 -- 'What a vertex takes is needed of each of its needs at layer t-1.'
 unfoldable pub takes : Actions → List ℕ → ℕ → Support → Support
 takes A labels v s =
     let took = common (s .left) (labelIn labels v) in
     record {
       left = without (s .left) took;
-      marks = choose (below v (A .count) and fails (same took 0)) (union (s .marks) (single v)) (s .marks);
+      marks = choose (below v (A .effects) and fails (same took 0)) (union (s .marks) (single (A .owner v))) (s .marks);
       needed = listOver (A .props) (λ q. union (labelIn (s .needed) q) (keep (bit q (needsOf A v)) took));
     }
 
--- 'persistence first .. Then actions .. in rising number'
+-- 'persistence first', then the effects 'in rising number'
 unfoldable pub order : Actions → ℕ → List ℕ
-order A p = persistence A p ∷ listOver (A .count) (λ a. a)
+order A p = persistence A p ∷ listOver (A .effects) (λ e. e)
 
 -- the vertices of the list that add p, one after the other: 'The search for support ends at the first vertex that leaves no state uncovered.'
 unfoldable pub support : Actions → List ℕ → ℕ → List ℕ → Support → Support
@@ -87,9 +88,9 @@ unfoldable pub planCount : List ℕ → ℕ
 planCount [] = 0
 planCount (w ∷ plan) = ones w + planCount plan
 
--- 'all actions of a word whose preconditions held before it join their adds'
+-- request Three: a word 'joins the adds of every effect of a marked action whose needs held before it'
 unfoldable pub relaxedStep : Actions → ℕ → ℕ → ℕ
-relaxedStep A w x = union x (joinOver (A .count) (λ a. keep (bit a w and within (A .pre a) x) (A .add a)))
+relaxedStep A w x = union x (joinOver (A .effects) (λ e. keep (bit (A .owner e) w and within (condition A e) x) (A .add e)))
 
 -- 'from each state of S by itself, word by word from word 0'
 unfoldable pub relaxedRun : Actions → List ℕ → ℕ → ℕ

@@ -3,9 +3,9 @@ use Prim.Native.Nat.{ℕ, suc}
 use mathlib.Core.Bool.{Bool}
 use mathlib.Core.List.{List, [], _∷_}
 use lib.ListN.{getD}
-use Rattle.rules.specs.Test.{_implies_, choose}
+use Rattle.rules.specs.Test.{_and_, _implies_, same, choose}
 use Rattle.rules.specs.Word.{bit, union, without, within}
-use Rattle.rules.specs.Over.{allBelow}
+use Rattle.rules.specs.Over.{keep, joinOver, allBelow}
 use Rattle.rules.specs.Lists.{listOver}
 use Rattle.rules.specs.Domain.{Actions}
 
@@ -13,9 +13,17 @@ use Rattle.rules.specs.Domain.{Actions}
 unfoldable pub ready : Actions → ℕ → ℕ → ℕ → List ℕ → Bool
 ready A n set a xs = allBelow n (λ s. bit s set implies within (A .pre a) (getD xs s 0))
 
--- 'then its adds are joined and after that its deletes removed'
+-- request Three: 'A run fires every effect whose antecedent held before the step', of the action a in a state that has x
+unfoldable pub fires : Actions → ℕ → ℕ → ℕ → Bool
+fires A a x e = same (A .owner e) a and within (A .when e) x
+
+-- what the sets f of the fired effects have together
+unfoldable pub fired : Actions → ℕ → ℕ → (ℕ → ℕ) → ℕ
+fired A a x f = joinOver (A .effects) (λ e. keep (fires A a x e) (f e))
+
+-- 'all adds joined, then all deletes removed'
 unfoldable pub after : Actions → ℕ → ℕ → ℕ
-after A a x = without (union x (A .add a)) (A .del a)
+after A a x = without (union x (fired A a x (A .add))) (fired A a x (A .del))
 
 -- 'states outside S keep their start'
 unfoldable pub stepped : Actions → ℕ → ℕ → ℕ → List ℕ → List ℕ

@@ -1,10 +1,11 @@
 -- What an accepted run means, so that the laws about runs apply to what the call answers.
 -- Assumes nothing.
 use Prim.Native.Nat.{ℕ, _^_, _≤_, _<_}
-use mathlib.Core.Path.{_≡_}
-use mathlib.Core.List.{List}
+use mathlib.Core.Path.{_≡_, refl}
+use mathlib.Core.List.{List, [], _∷_}
 use lib.ListN.{length}
-use Rattle.rules.specs.Run.{Ran, ended, lacks, runOf}
+use Rattle.rules.specs.Lists.{listOver}
+use Rattle.rules.specs.Run.{Ran, ended, lacks, runFrom, runOf}
 use Rattle.graph.specs.Verdict.{accepted}
 use Rattle.graph.specs.Format.{actionsOf, startOf}
 use Rattle.graph.specs.File.{Taken, fileRule}
@@ -12,13 +13,20 @@ use Rattle.graph.specs.Checks.{setRule, outputRule}
 use Rattle.graph.specs.declared.format.Counts.{Counts}
 use Rattle.run.specs.Run.{maxSteps, sequenceRule, ranVerdict, endRule, runTaken, runRule}
 use Rattle.run.specs.Course.{Known}
-use Rattle.graph.proofs.Ladder.{passed-then, taken-means, set-means, output-means}
+use Rattle.graph.proofs.Verdicts.{passed-then}
+use Rattle.graph.proofs.Ladder.{taken-means, set-means, output-means}
 use Rattle.run.proofs.Sequences.{sequence-means}
 
 ran-means : (r : Ran) (ends : List ℕ) → ranVerdict r ≡ accepted ends → r ≡ ended ends
 unfolding ranVerdict
 ran-means (ended xs) ends e = cc
 ran-means (lacks i) ends e = cc
+
+-- a list without a step ends where it starts
+pub no-steps : (file : List ℕ) (c : Counts) (set : ℕ) (list : List ℕ) → length list ≡ 0 → endRule file c set list ≡ accepted (listOver (c .states) (startOf file c))
+unfolding endRule ranVerdict runOf runFrom
+no-steps file c set [] e = refl
+no-steps file c set (a ∷ list) e = cc
 
 -- what is known of a run that is accepted, with the sets it writes
 pub record Accepted (file : List ℕ) (set : ℕ) (list : List ℕ) (room : ℕ) (ends : List ℕ) : Type 0 where

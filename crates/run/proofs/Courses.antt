@@ -1,4 +1,4 @@
--- What the steps so far have done, told once, is what the rule does state by state.
+-- Version 1: what the steps so far have done, told once, is what the rule does state by state.
 -- Assumes nothing.
 use Prim.Native.Nat.{ℕ, _^_, _≤_, _<_}
 use mathlib.Core.Path.{_≡_, refl, sym, ap, ap₂, _∙_}
@@ -10,7 +10,7 @@ use Rattle.rules.specs.Test.{_and_, _or_, fails, same, below, choose}
 use Rattle.rules.specs.Word.{bit, common, union, without, within, first}
 use Rattle.rules.specs.Over.{meetOf}
 use Rattle.rules.specs.Lists.{listOver}
-use Rattle.rules.specs.Domain.{Actions}
+use Rattle.rules.specs.Domain.{Actions, Plain}
 use Rattle.rules.specs.Run.{ready, after, stepped}
 use Rattle.rules.proofs.Tests.{test-eq, holds-or, fails-at, and-of, and-left, and-right, or-left, or-right, or-at}
 use Rattle.rules.proofs.Tests.{implies-of, implies-at, below-of, same-of, same-at, choose-held}
@@ -18,6 +18,7 @@ use Rattle.rules.proofs.Overs.{all-of, all-at}
 use Rattle.rules.proofs.Words.{bit-common, bit-union, bit-without, bit-first, bit-below, ext, ext-all, within-of, within-at}
 use Rattle.rules.proofs.Words.{common-lt, union-lt, without-lt, first-lt}
 use Rattle.rules.proofs.Members.{meetOf-at, meetOf-of}
+use Rattle.rules.proofs.Plains.{plain-after}
 use Rattle.rules.proofs.Layers.{length-listOver, getD-listOver, listOver-eq}
 use Rattle.words.specs.Width.{propWidth, stateWidth, wordWidth}
 use Rattle.words.proofs.MemberLoops.{lowest-in, lowest-lt}
@@ -71,9 +72,9 @@ deletes-last true true true true h = refl
 deletes-last true true false true h = refl
 deletes-last true false a d h = absurd (fails-at refl (h refl))
 
-moved-is : (A : Actions) (a x : ℕ) → x < 2 ^ propWidth → moved (stayOf A a) (plusOf A a) x ≡ after A a x
-unfolding after stayOf plusOf moved
-moved-is A a x h = ext-all (λ p.
+moved-is : {A : Actions} → Plain A → (a x : ℕ) → a < A .count → x < 2 ^ propWidth → moved (stayOf A a) (plusOf A a) x ≡ after A a x
+unfolding stayOf plusOf moved
+moved-is {A} plain a x l h = ext-all (λ p.
     bit-union p (common x (without (first propWidth) (A .del a))) (without (A .add a) (A .del a))
     ∙ ap₂ _or_
     (bit-common p x (without (first propWidth) (A .del a))
@@ -82,6 +83,7 @@ moved-is A a x h = ext-all (λ p.
     (bit-without p (A .add a) (A .del a))
     ∙ deletes-last (bit p x) (below p propWidth) (bit p (A .add a)) (bit p (A .del a)) (λ t. below-of (bit-below h t))
     ∙ sym (bit-without p (union x (A .add a)) (A .del a) ∙ ap (λ (b : Bool). b and fails (bit p (A .del a))) (bit-union p x (A .add a))))
+    ∙ sym (plain-after plain x l)
 
 -- what all have, and how it stays small
 pub now-further : (stay plus : ℕ) (w : Course) (sure : ℕ) → came w sure ≡ w .now → came (further stay plus w) sure ≡ further stay plus w .now
@@ -139,16 +141,16 @@ module _ (n : ℕ) (start : ℕ → ℕ) (set : ℕ) (narrow : (s : ℕ) → s <
       go s l true t = sym (came-new w (start s) k (narrow s l) (λ p u. meetOf-at p set (first propWidth) start (sym (ap (bit p) e) ∙ u) .1 s l t))
       go s l false t = refl
 
-  pub sets-further : (A : Actions) (a : ℕ) (w : Course) → w .now < 2 ^ propWidth
+  pub sets-further : {A : Actions} → Plain A → (a : ℕ) (w : Course) → a < A .count → w .now < 2 ^ propWidth
       → stepped A n set a (setsOf n start set w) ≡ setsOf n start set (further (stayOf A a) (plusOf A a) w)
   unfolding stepped setsOf choose
-  sets-further A a w h = listOver-eq (λ s l.
+  sets-further {A} plain a w k h = listOver-eq (λ s l.
       ap (λ (x : ℕ). choose (bit s set) (after A a x) x) (getD-listOver _ l) ∙ go (start s) (narrow s l) (bit s set))
     where
       go : (x : ℕ) → x < 2 ^ propWidth → (b : Bool)
           → choose b (after A a (choose b (came w x) x)) (choose b (came w x) x)
           ≡ choose b (came (further (stayOf A a) (plusOf A a) w) x) x
-      go x l true = sym (moved-is A a (came w x) (came-lt w x h l)) ∙ came-further (stayOf A a) (plusOf A a) w x
+      go x l true = sym (moved-is plain a (came w x) k (came-lt w x h l)) ∙ came-further (stayOf A a) (plusOf A a) w x
       go x l false = refl
 
   -- the set of a state of the set

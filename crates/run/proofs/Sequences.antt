@@ -18,7 +18,8 @@ use Rattle.graph.specs.Verdict.{accepted, refused}
 use Rattle.run.specs.Run.{maxSteps, firstUnknown, numbersRule, sequenceRule}
 use Rattle.run.specs.Course.{Known, Some}
 use Rattle.graph.specs.Checks.{setRule}
-use Rattle.graph.proofs.Ladder.{passed-if-not, set-means}
+use Rattle.graph.proofs.Verdicts.{passed-if-not}
+use Rattle.graph.proofs.Ladder.{set-means}
 
 -- ---- at index i of n, f holds at all those so far
 

@@ -1,44 +1,37 @@
--- A run, step by step and block by block, and what it comes to.
+-- Version 1: a run, step by step and block by block, and what it comes to.
 -- Assumes nothing.
-use Prim.Native.Nat.{ℕ, zero, suc, _+_, _-_, _*_, _^_, _≤_, _<_}
+use Prim.Native.Nat.{ℕ, zero, suc, _+_, _-_, _^_, _≤_, _<_}
 use mathlib.Core.Path.{_≡_, refl, sym, ap, ap₂, subst, _∙_}
 use mathlib.Core.Bool.{false, So}
 use mathlib.Core.List.{List}
 use native.Mathlib.Numerals.{add-one}
 use native.Mathlib.Decide.{decLt}
-use native.Mathlib.Nat.{add-zero, min-eq-left, lt-of-lt-of-le}
+use native.Mathlib.Nat.{add-zero, min-eq-left}
 use mathlib.Core.Logic.{⊎-elim, by-cases}
 use native.Mathlib.Omega.{arith}
 use lib.Bits.{and-self}
-use lib.ListN.{length, getD, take, drop, drop-of-length-le, length-take, length-drop}
-use lib.Pow.{pow-mono}
-use lib.Seq.{drop-cons, getD-take, getD-drop}
+use lib.ListN.{length, getD, take, drop, length-take, length-drop}
+use lib.Seq.{getD-take, getD-drop}
 use Rattle.rules.specs.Test.{same, choose}
 use Rattle.rules.specs.Word.{bit, common, union, within, first}
 use Rattle.rules.specs.Over.{meetOver, meetOf}
 use Rattle.rules.specs.Lists.{listOver}
-use Rattle.rules.specs.Domain.{Actions}
+use Rattle.rules.specs.Domain.{Actions, Plain}
 use Rattle.rules.specs.Run.{ready, stepped, ended, lacks, runFrom, runOf}
 use Rattle.rules.proofs.Tests.{test-eq, same-of, same-at, and-left, and-right, or-right, or-at, choose-held, choose-failed, is-fails}
 use Rattle.rules.proofs.Overs.{all-at, bit-meetOver, meetOver-lt}
 use Rattle.rules.proofs.Words.{bit-common, bit-union, ext-all, without-lt, first-lt}
 use Rattle.rules.proofs.Layers.{length-listOver, getD-listOver}
-use Rattle.words.specs.Width.{propWidth, stateWidth}
-use Rattle.graph.specs.Format.{setAt, headBytes, setBytes, actionsOf, startOf}
+use Rattle.words.specs.Width.{propWidth}
+use Rattle.graph.specs.Format.{plain, actionsOf, startOf}
 use Rattle.graph.specs.File.{Taken}
 use Rattle.graph.specs.declared.format.Counts.{Counts}
-use Rattle.graph.proofs.Graphs.{pre-small, start-small}
+use Rattle.graph.proofs.Places.{actions-plain}
 use Rattle.run.specs.Course.{Known, Some, came, spareOf, stayOf, plusOf, further, courseAt, heldAt, Tables, Walks, Stops, setsOf}
 use Rattle.run.specs.declared.step.Course.{Course}
 use Rattle.run.specs.declared.step.Walked.{Walked}
+use Rattle.run.proofs.Runs.{Narrow, narrow-of, run-turn, run-end}
 use Rattle.run.proofs.Courses.{sets-new, sets-further, ready-sure, now-further, small-further, spare-bits, spare-is, full-bits}
-
--- the words of the file's actions and states are those of sets
-pub record Narrow (A : Actions) (n : ℕ) (start : ℕ → ℕ) : Type 0 where
-  pub few : n ≤ stateWidth
-  pub starts : (s : ℕ) → s < n → start s < 2 ^ propWidth
-  pub pre : (a : ℕ) → a < A .count → A .pre a < 2 ^ propWidth
-  pub add : (a : ℕ) → a < A .count → A .add a < 2 ^ propWidth
 
 -- what is in a part of a word, and in the word
 union-part : (x y : ℕ) → union (common x y) x ≡ x
@@ -75,11 +68,7 @@ module _ {A : Actions} {n : ℕ} {start : ℕ → ℕ} {set : ℕ} {list : List 
   turn : {i : ℕ} {w : Course} (a : ℕ) → Going A n start set list i w → i < length list → a ≡ getD list i 0
       → runOf A n start set list
       ≡ choose (ready A n set a (setsOf n start set w)) (runFrom A n set (suc i) (stepped A n set a (setsOf n start set w)) (drop (suc i) list)) (lacks i)
-  unfolding runFrom
-  turn {i} {w} a g h e =
-      let xs = setsOf n start set w in
-      g .is ∙ ap (λ (l : List ℕ). runFrom A n set i xs l) (drop-cons list i 0 h)
-      ∙ ap (λ (b : ℕ). choose (ready A n set b xs) (runFrom A n set (suc i) (stepped A n set b xs) (drop (suc i) list)) (lacks i)) (sym e)
+  turn {i} {w} a g h e = g .is ∙ run-turn A n set (setsOf n start set w) list a h e
 
   -- a precondition is asked of what all states of the set have
   module _ (some : Some n set) where
@@ -88,15 +77,15 @@ module _ {A : Actions} {n : ℕ} {start : ℕ → ℕ} {set : ℕ} {list : List 
         ready-sure n start set (narrow .starts) (narrow .few) some w (meetOf n set start (first propWidth)) refl A a (narrow .pre a l)
         ∙ ap (within (A .pre a)) (g .now-is)
 
-    pub go-more : {i : ℕ} {w : Course} (a : ℕ) → Going A n start set list i w → i < length list → a ≡ getD list i 0 → a < A .count
+    pub go-more : Plain A → {i : ℕ} {w : Course} (a : ℕ) → Going A n start set list i w → i < length list → a ≡ getD list i 0 → a < A .count
         → So (within (A .pre a) (w .now)) → Going A n start set list (i + 1) (further (stayOf A a) (plusOf A a) w)
-    go-more {i} {w} a g h e l t = record {
+    go-more plain {i} {w} a g h e l t = record {
       inside = omega arith;
-      small = small-further (stayOf A a) (plusOf A a) w (g .small) (plus-lt A a (narrow .add a l));
+      small = small-further (stayOf A a) (plusOf A a) w (g .small) (plus-lt A a (narrow .add a (subst (λ (m : ℕ). a < m) (sym (plain .effects)) l)));
       now-is = now-further (stayOf A a) (plusOf A a) w _ (g .now-is);
       is = turn a g h e ∙ choose-held _ (asked a g l ∙ t)
           ∙ ap₂ (λ (k : ℕ) (xs : List ℕ). runFrom A n set k xs (drop k list)) (sym (add-one i))
-          (sets-further n start set (narrow .starts) A a w (g .small));
+          (sets-further n start set (narrow .starts) plain a w l (g .small));
     }
 
     pub go-off : {i : ℕ} {w : Course} (a : ℕ) → Going A n start set list i w → i < length list → a ≡ getD list i 0 → a < A .count
@@ -104,8 +93,7 @@ module _ {A : Actions} {n : ℕ} {start : ℕ → ℕ} {set : ℕ} {list : List 
     go-off {i} {w} a g h e l f = sym (turn a g h e ∙ choose-failed _ _ (is-fails (asked a g l ∙ f)))
 
   pub go-done : {i : ℕ} {w : Course} → Going A n start set list i w → length list ≤ i → ended (setsOf n start set w) ≡ runOf A n start set list
-  unfolding runFrom
-  go-done {i} {w} g h = sym (g .is ∙ ap (λ (l : List ℕ). runFrom A n set i (setsOf n start set w) l) (drop-of-length-le list h))
+  go-done {i} {w} g h = sym (g .is ∙ run-end A n set (setsOf n start set w) list h)
 
 -- ---- a block of steps, by the words of the actions
 
@@ -141,7 +129,8 @@ part-of list at end h l =
       each = λ k m. getD-take (end - at) (drop at list) k 0 (omega arith) ∙ getD-drop at list k 0;
     }
 
-module _ {A : Actions} {n : ℕ} {start : ℕ → ℕ} {set : ℕ} {list : List ℕ} (narrow : Narrow A n start) (some : Some n set) (known : Known (A .count) list)
+module _ {A : Actions} {n : ℕ} {start : ℕ → ℕ} {set : ℕ} {list : List ℕ} (narrow : Narrow A n start) (plain : Plain A) (some : Some n set)
+    (known : Known (A .count) list)
     {spares stays pluses : List ℕ} (words : Words A spares stays pluses) {at : ℕ} {block : List ℕ} (part : Part list at block) {w : Course}
     (g : Going A n start set list at w) where
   number : (k : ℕ) → k < length block → getD block k 0 < A .count
@@ -162,7 +151,7 @@ module _ {A : Actions} {n : ℕ} {start : ℕ → ℕ} {set : ℕ} {list : List 
       let v = courseAt stays pluses block w m in
       let l = number m h in
       let e : at + m + 1 ≡ at + suc m = omega arith in
-      let r = go-more narrow some a (go-block m (omega arith) (λ k i. full k (omega arith))) (omega (arith, part .fits)) (part .each m h) l
+      let r = go-more narrow some plain a (go-block m (omega arith) (λ k i. full k (omega arith))) (omega (arith, part .fits)) (part .each m h) l
       (spare-bits A a (v .now) (narrow .pre a l) (λ p q. ap (bit p) (sym (spared m h)) ∙ full m (omega arith) p q)) in
       subst (λ (x : ℕ). Going A n start set list x (further (getD stays a 0) (getD pluses a 0) v)) e
       (subst (λ (x : ℕ). Going A n start set list (at + m + 1) (further x (getD pluses a 0) v)) (sym (word-at (A .count) (stayOf A) stays a (words .stay) l))
@@ -208,21 +197,10 @@ tables-of {A} {spares} {stays} {pluses} {list} {block} {at} w k p =
 
 -- ---- the run of a file
 
--- its sets are narrow
-pub narrow-of : (file : List ℕ) (c : Counts) → Taken file c → Narrow (actionsOf file c) (c .states) (startOf file c)
-unfolding actionsOf
-narrow-of file c t = record {
-  few = t .ranged .states;
-  starts = λ s h. lt-of-lt-of-le (start-small file c t s h) (pow-mono (t .ranged .props));
-  pre = λ a h. lt-of-lt-of-le (pre-small file c t a h) (pow-mono (t .ranged .props));
-  add = λ a h.
-      let e : headBytes + setBytes * (3 * a + 1) ≡ 8 + 12 * a + 4 = omega arith in
-      lt-of-lt-of-le (subst (λ (x : ℕ). setAt file x < 2 ^ c .props) e (t .sets (3 * a + 1) (omega arith))) (pow-mono (t .ranged .props));
-}
-
 -- at step `at`: what holds of the call, and what is left of the run
 pub record Running (file : List ℕ) (c : Counts) (set : ℕ) (list spares stays pluses out : List ℕ) (w : Course) (at : ℕ) : Type 0 where
   pub taken : Taken file c
+  pub plain : So (plain c)
   pub some : Some (c .states) set
   pub known : Known (actionsOf file c .count) list
   pub words : Words (actionsOf file c) spares stays pluses
@@ -230,14 +208,15 @@ pub record Running (file : List ℕ) (c : Counts) (set : ℕ) (list spares stays
   pub going : Going (actionsOf file c) (c .states) (startOf file c) set list at w
 
 module _ {file : List ℕ} {c : Counts} {set : ℕ} {list spares stays pluses out : List ℕ} where
-  pub run-none : {w : Course} → Taken file c → Some (c .states) set → Known (c .actions) list → c .states ≤ length out
+  pub run-none : {w : Course} → Taken file c → So (plain c) → Some (c .states) set → Known (c .actions) list → c .states ≤ length out
       → (spares ≡ listOver (c .actions) (spareOf (actionsOf file c))) × (stays ≡ listOver (c .actions) (stayOf (actionsOf file c)))
       × (pluses ≡ listOver (c .actions) (plusOf (actionsOf file c)))
       → w .kept ≡ first propWidth → w .now ≡ meetOf (c .states) set (startOf file c) (first propWidth)
       → Running file c set list spares stays pluses out w 0
   unfolding actionsOf
-  run-none t s k f e x y = record {
+  run-none t v s k f e x y = record {
     taken = t;
+    plain = v;
     some = s;
     known = k;
     words = record { spare = e .0; stay = e .1; plus = e .2 };
@@ -246,6 +225,9 @@ module _ {file : List ℕ} {c : Counts} {set : ℕ} {list spares stays pluses ou
   }
 
   module _ {w : Course} {at : ℕ} (g : Running file c set list spares stays pluses out w at) (end : ℕ) (h : at ≤ end) (l : end ≤ length list) where
+    plainly : Plain (actionsOf file c)
+    plainly = actions-plain c (g .plain) file (g .taken .ranged .own (g .plain))
+
     pub run-tables : Tables spares stays pluses (take (end - at) (drop at list))
     run-tables = tables-of (g .words) (g .known) (part-of list at end h l)
 
@@ -253,11 +235,13 @@ module _ {file : List ℕ} {c : Counts} {set : ℕ} {list spares stays pluses ou
         → Running file c set list spares stays pluses out (r .course) end
     run-on {r} k f = record {
       taken = g .taken;
+      plain = g .plain;
       some = g .some;
       known = g .known;
       words = g .words;
       fits = g .fits;
-      going = block-on (narrow-of file c (g .taken)) (g .some) (g .known) (g .words) (part-of list at end h l) (g .going) k f (part-end list at end h l);
+      going = block-on (narrow-of file c (g .taken)) plainly (g .some) (g .known) (g .words) (part-of list at end h l) (g .going) k f
+          (part-end list at end h l);
     }
 
     pub run-off : {r : Walked} {i : ℕ} → Walks spares stays pluses (take (end - at) (drop at list)) w r → (r .held ≡ first propWidth → ⊥)
@@ -265,8 +249,8 @@ module _ {file : List ℕ} {c : Counts} {set : ℕ} {list spares stays pluses ou
     run-off {r} {i} k f s =
         let n = narrow-of file c (g .taken) in
         let p = part-of list at end h l in
-        block-off n (g .some) (g .known) (g .words) p (g .going) s
-        (block-found n (g .some) (g .known) (g .words) p (g .going) s (r .held) (k .held-is) f)
+        block-off n plainly (g .some) (g .known) (g .words) p (g .going) s
+        (block-found n plainly (g .some) (g .known) (g .words) p (g .going) s (r .held) (k .held-is) f)
 
   pub run-done : {w : Course} {at : ℕ} → Running file c set list spares stays pluses out w at → length list ≤ at
       → ended (setsOf (c .states) (startOf file c) set w) ≡ runOf (actionsOf file c) (c .states) (startOf file c) set list

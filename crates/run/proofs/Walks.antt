@@ -1,4 +1,4 @@
--- Loops over the steps of a list, and over the actions whose words they go by.
+-- Version 1: loops over the steps of a list, and over the actions whose words they go by.
 -- Assumes nothing.
 use Prim.Native.Nat.{ℕ, _+_, _≤_, _<_}
 use mathlib.Core.Path.{_≡_, refl, sym, ap, ap₂, _∙_}
@@ -15,7 +15,7 @@ use Rattle.rules.specs.Domain.{Actions}
 use Rattle.rules.proofs.Overs.{below-suc}
 use Rattle.words.specs.Width.{propWidth}
 use Rattle.words.proofs.Writes.{Lists, list-none, list-more}
-use Rattle.graph.specs.Format.{actionsOf}
+use Rattle.graph.specs.Format.{plain, actionsOf}
 use Rattle.graph.specs.File.{Taken}
 use Rattle.graph.specs.declared.format.Counts.{Counts}
 use Rattle.run.specs.Course.{spareOf, stayOf, plusOf, further, stepAnswer, courseAt, heldAt, Tables, Walks, Stops}
@@ -121,14 +121,22 @@ module _ {spares stays pluses list : List ℕ} {w₀ : Course} where
 
 pub record Told (file : List ℕ) (c : Counts) (spares₀ stays₀ pluses₀ spares stays pluses : List ℕ) (i : ℕ) : Type 0 where
   pub taken : Taken file c
+  pub own : c .effects ≡ c .actions
   pub all : length spares₀ ≡ c .actions
   pub spare : Lists (spareOf (actionsOf file c)) 0 (c .actions) spares₀ i spares
   pub stay : Lists (stayOf (actionsOf file c)) 0 (c .actions) stays₀ i stays
   pub plus : Lists (plusOf (actionsOf file c)) 0 (c .actions) pluses₀ i pluses
 
-pub told-none : {file : List ℕ} {c : Counts} {spares stays pluses : List ℕ} → Taken file c → length spares ≡ c .actions → length stays ≡ c .actions
-    → length pluses ≡ c .actions → Told file c spares stays pluses spares stays pluses 0
-told-none t a b d = record { taken = t; all = a; spare = list-none (omega arith); stay = list-none (omega arith); plus = list-none (omega arith) }
+pub told-none : {file : List ℕ} {c : Counts} {spares stays pluses : List ℕ} → Taken file c → So (plain c) → length spares ≡ c .actions
+    → length stays ≡ c .actions → length pluses ≡ c .actions → Told file c spares stays pluses spares stays pluses 0
+told-none t v a b d = record {
+  taken = t;
+  own = t .ranged .own v;
+  all = a;
+  spare = list-none (omega arith);
+  stay = list-none (omega arith);
+  plus = list-none (omega arith);
+}
 
 -- the words of one action, from its sets and all there is
 spare-word : (A : Actions) (a all pre x : ℕ) → all ≡ first propWidth → pre ≡ A .pre a → x ≡ without all pre → x ≡ spareOf A a
@@ -149,6 +157,7 @@ pub told-more : {file : List ℕ} {c : Counts} {spares₀ stays₀ pluses₀ spa
     → Told file c spares₀ stays₀ pluses₀ (set spares i x) (set stays i y) (set pluses i z) (i + 1)
 told-more {file} {c} {i = i} all pre add del t h e p a d x y z = record {
   taken = t .taken;
+  own = t .own;
   all = t .all;
   spare = list-more (t .spare) h (sym (zero-add i)) (spare-word (actionsOf file c) i all pre _ e p x);
   stay = list-more (t .stay) h (sym (zero-add i)) (stay-word (actionsOf file c) i all del _ e d y);

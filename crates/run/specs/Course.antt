@@ -1,4 +1,4 @@
--- What the steps of a run have done to the states of the set, told once for all of them.
+-- What the steps of a run go by, and, in version 1, what they have done to the states of the set, told once for all of them.
 use Prim.Native.Nat.{ℕ, zero, suc, _≤_, _<_, _^_}
 use mathlib.Core.Path.{_≡_}
 use mathlib.Core.Bool.{false, So}
@@ -47,7 +47,7 @@ came w x = union (common x (w .kept)) (w .now)
 unfoldable pub spareOf : Actions → ℕ → ℕ
 spareOf A a = without (first propWidth) (A .pre a)
 
--- 'its adds are joined and after that its deletes removed': what stays, and what it adds to that
+-- 'its adds are joined and after that its deletes removed', of the one effect that an action has: what stays, and what it adds to that
 unfoldable pub stayOf : Actions → ℕ → ℕ
 stayOf A a = without (first propWidth) (A .del a)
 

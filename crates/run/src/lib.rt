@@ -1,6 +1,10 @@
 // Running a sequence of actions from each state of a set.
+mod fire;
 mod step;
 
+use crate::fire::lay_labels;
+use crate::fire::read_owned;
+use crate::fire::walk_effects;
 use crate::step::Course;
 use crate::step::find_missing;
 use crate::step::walk;
@@ -10,11 +14,14 @@ use graph::file::FileAnswer;
 use graph::file::byte;
 use graph::file::check_file;
 use graph::format::Counts;
+use graph::format::PLAIN_VERSION;
 use graph::limits::MAX_ACTIONS;
+use graph::limits::MAX_EFFECTS;
 use graph::read::added;
 use graph::read::deleted;
 use graph::read::precondition;
 use graph::read::start;
+use graph::read::start_labels;
 use graph::refusal::Check;
 use graph::refusal::Refusal;
 use words::members::lowest;
@@ -22,7 +29,9 @@ use words::members::others;
 use words::sets::PROP_WIDTH;
 use words::sets::Props;
 use words::sets::States;
+use words::tables::ROW;
 ghost use mathlib.Core.Path.{_≡_};
+ghost use mathlib.Core.Bool.{So};
 ghost use Prim.Native.Nat.{_≤_, _<_, max};
 ghost use lib.ListN.{length, getD};
 ghost use Rattle.rules.specs.Test.{choose};
@@ -33,9 +42,11 @@ ghost use Rattle.rules.specs.Lists.{listOver};
 ghost use Rattle.words.specs.Width.{propWidth, stateWidth};
 ghost use Rattle.words.specs.Memory.{putAt};
 ghost use Rattle.graph.specs.Verdict.{laid, written};
-ghost use Rattle.graph.specs.Format.{actionsOf, startOf};
+ghost use Rattle.graph.specs.Format.{plain, actionsOf, startOf};
 ghost use Rattle.graph.specs.File.{Taken};
 ghost use Rattle.graph.specs.Checks.{checkVerdict};
+ghost use Rattle.graph.specs.Limits.{maxEffects};
+ghost use Rattle.run.specs.Fire.{Empty};
 ghost use Rattle.run.specs.Course.{Some, Checked, PerAction, came, spareOf, stayOf, plusOf, setsOf};
 ghost use Rattle.run.specs.Run.{numbersRule, sequenceRule, endRule, runTaken, runRule, runVerdict};
 
@@ -100,7 +111,7 @@ fn check_sequence(list: &[u8], actions: usize) -> Check
     check_numbers(list, actions)
 }
 
-// What every state of the set starts with.
+// Version 1: what every state of the set starts with.
 fn shared_start(file: &[u8], c: Counts, set: States) -> Props
     requires { ⌜ Taken (now file) c × Some (c .states) (set .0) ⌝ }
     ensures { λ r. ⌜ r .0 ≡ meetOf (c .states) (set .0) (startOf (now (file .entry)) c) (first propWidth) ⌝ }
@@ -114,7 +125,7 @@ fn shared_start(file: &[u8], c: Counts, set: States) -> Props
     Props(met)
 }
 
-// What state s has in the end, if it started with x. One outside the set keeps that.
+// Version 1: what state s has in the end, if it started with x. One outside the set keeps that.
 fn state_end(x: u32, s: usize, set: States, course: Course) -> u32
     requires { ⌜ s < stateWidth ⌝ }
     ensures { λ r. ⌜ r ≡ choose (bit s (set .0)) (came course x) x ⌝ }
@@ -125,7 +136,7 @@ fn state_end(x: u32, s: usize, set: States, course: Course) -> u32
     course.came(Props(x)).0
 }
 
-// The end sets of all states, at the front of the output.
+// Version 1: the end sets of all states, at the front of the output.
 fn lay(file: &[u8], c: Counts, set: States, course: Course, out: &mut [u32])
     requires { ⌜ Taken (now file) c × (c .states ≤ length (now out)) ⌝ }
     ensures { λ r. ⌜ now (out .exit) ≡ putAt 0 (setsOf (c .states) (startOf (now (file .entry)) c) (set .0) course) (now (out .entry)) ⌝ }
@@ -135,9 +146,9 @@ fn lay(file: &[u8], c: Counts, set: States, course: Course, out: &mut [u32])
     }
 }
 
-// Of each action what the steps go by: all that it does not need, what it lets stay, and what it adds to that.
+// Version 1: of each action what the steps go by, all that it does not need, what it lets stay, and what it adds to that.
 fn read_steps(file: &[u8], c: Counts, spares: &mut [u32], stays: &mut [u32], pluses: &mut [u32])
-    requires { ⌜ Taken (now file) c × PerAction (c .actions) (now spares) (now stays) (now pluses) ⌝ }
+    requires { ⌜ Taken (now file) c × So (plain c) × PerAction (c .actions) (now spares) (now stays) (now pluses) ⌝ }
     ensures { λ r. ⌜ (now (spares .exit) ≡ listOver (c .actions) (spareOf (actionsOf (now (file .entry)) c)))
         × (now (stays .exit) ≡ listOver (c .actions) (stayOf (actionsOf (now (file .entry)) c)))
         × (now (pluses .exit) ≡ listOver (c .actions) (plusOf (actionsOf (now (file .entry)) c))) ⌝ }
@@ -162,7 +173,7 @@ fn block_end(at: usize, steps: usize) -> usize
     at + BLOCK
 }
 
-// The run, through memory for the actions' words: block by block, and a block with a step that lacks its precondition once more, step by step.
+// Version 1: the run, through memory for the actions' words, block by block, and a block with a step that lacks its precondition once more, step by step.
 // The output is written once the list has ended.
 fn run_in(
     file: &[u8],
@@ -174,7 +185,7 @@ fn run_in(
     pluses: &mut [u32],
     out: &mut [u32],
 ) -> RunAnswer
-    requires { ⌜ Checked (now file) c (set .0) (now list) (now out) × PerAction (c .actions) (now spares) (now stays) (now pluses) ⌝ }
+    requires { ⌜ Checked (now file) c (set .0) (now list) (now out) × So (plain c) × PerAction (c .actions) (now spares) (now stays) (now pluses) ⌝ }
     ensures { λ r. ⌜ (runVerdict r ≡ written (endRule (now (file .entry)) c (set .0) (now (list .entry))))
         × (now (out .exit) ≡ laid (endRule (now (file .entry)) c (set .0) (now (list .entry))) (now (out .entry))) ⌝ }
 {
@@ -195,9 +206,9 @@ fn run_in(
     RunAnswer::Ran(c.states)
 }
 
-// The run, once every check is passed.
-fn run_passed(file: &[u8], c: Counts, set: States, list: &[u8], out: &mut [u32]) -> RunAnswer
-    requires { ⌜ Checked (now file) c (set .0) (now list) (now out) ⌝ }
+// Version 1: the run, once every check is passed.
+fn run_plain(file: &[u8], c: Counts, set: States, list: &[u8], out: &mut [u32]) -> RunAnswer
+    requires { ⌜ Checked (now file) c (set .0) (now list) (now out) × So (plain c) ⌝ }
     ensures { λ r. ⌜ (runVerdict r ≡ written (endRule (now (file .entry)) c (set .0) (now (list .entry))))
         × (now (out .exit) ≡ laid (endRule (now (file .entry)) c (set .0) (now (list .entry))) (now (out .entry))) ⌝ }
 {
@@ -215,6 +226,79 @@ fn run_passed(file: &[u8], c: Counts, set: States, list: &[u8], out: &mut [u32])
         &mut pluses[..a],
         out,
     )
+}
+
+// Version 2: the run, through memory for the effects of each action, for the states that have each proposition, and for those in which each effect fires.
+// The output is written once the list has ended.
+fn run_effects_in(
+    file: &[u8],
+    c: Counts,
+    set: States,
+    list: &[u8],
+    owned: &mut [u64],
+    labels: &mut [u64],
+    fired: &mut [u64],
+    out: &mut [u32],
+) -> RunAnswer
+    requires { ⌜ Checked (now file) c (set .0) (now list) (now out) × Empty (now owned) × Empty (now labels) × (length (now fired) ≡ maxEffects) ⌝ }
+    ensures { λ r. ⌜ (runVerdict r ≡ written (endRule (now (file .entry)) c (set .0) (now (list .entry))))
+        × (now (out .exit) ≡ laid (endRule (now (file .entry)) c (set .0) (now (list .entry))) (now (out .entry))) ⌝ }
+{
+    read_owned(file, c, &mut *owned);
+    start_labels(file, c, &mut *labels);
+    let i = walk_effects(file, c, set, list, &*owned, &mut *labels, &mut *fired);
+    if i < list.len() {
+        return RunAnswer::Refused(Refusal::Precondition(i));
+    }
+    lay_labels(&*labels, c.states, &mut *out);
+    RunAnswer::Ran(c.states)
+}
+
+// Version 2: the run, once every check is passed.
+fn run_effects(file: &[u8], c: Counts, set: States, list: &[u8], out: &mut [u32]) -> RunAnswer
+    requires { ⌜ Checked (now file) c (set .0) (now list) (now out) ⌝ }
+    ensures { λ r. ⌜ (runVerdict r ≡ written (endRule (now (file .entry)) c (set .0) (now (list .entry))))
+        × (now (out .exit) ≡ laid (endRule (now (file .entry)) c (set .0) (now (list .entry))) (now (out .entry))) ⌝ }
+{
+    let mut owned = [0u64; ROW];
+    let mut labels = [0u64; ROW];
+    let mut fired = [0u64; MAX_EFFECTS];
+    run_effects_in(
+        file,
+        c,
+        set,
+        list,
+        &mut owned[..],
+        &mut labels[..],
+        &mut fired[..],
+        out,
+    )
+}
+
+// What every state starts with, at the front of the output.
+fn lay_starts(file: &[u8], c: Counts, out: &mut [u32])
+    requires { ⌜ Taken (now file) c × (c .states ≤ length (now out)) ⌝ }
+    ensures { λ r. ⌜ now (out .exit) ≡ putAt 0 (listOver (c .states) (startOf (now (file .entry)) c)) (now (out .entry)) ⌝ }
+{
+    for s in 0..c.states {
+        out[s] = start(file, c, s);
+    }
+}
+
+// The run, once every check is passed. Without a step nothing else need be read.
+fn run_passed(file: &[u8], c: Counts, set: States, list: &[u8], out: &mut [u32]) -> RunAnswer
+    requires { ⌜ Checked (now file) c (set .0) (now list) (now out) ⌝ }
+    ensures { λ r. ⌜ (runVerdict r ≡ written (endRule (now (file .entry)) c (set .0) (now (list .entry))))
+        × (now (out .exit) ≡ laid (endRule (now (file .entry)) c (set .0) (now (list .entry))) (now (out .entry))) ⌝ }
+{
+    if list.len() == 0 {
+        lay_starts(file, c, &mut *out);
+        return RunAnswer::Ran(c.states);
+    }
+    if c.version == PLAIN_VERSION {
+        return run_plain(file, c, set, list, &mut *out);
+    }
+    run_effects(file, c, set, list, &mut *out)
 }
 
 // The caller's checks over a file that was taken, then the run.

@@ -1,4 +1,4 @@
-// One action, carried out in every state of a set at once: it adds and deletes the same in each, so what was done is told once for all of them.
+// Version 1: one action, carried out in every state of a set at once. Its one effect adds and deletes the same in each, so what was done is told once for all.
 use graph::file::byte;
 use words::sets::PROP_WIDTH;
 use words::sets::Props;

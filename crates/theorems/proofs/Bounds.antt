@@ -14,8 +14,7 @@ use Rattle.graph.specs.Format.{actionsOf, startOf}
 use Rattle.graph.specs.File.{fileRule}
 use Rattle.graph.specs.declared.format.Counts.{Counts}
 use Rattle.graph.proofs.Links.{some-states, long-output}
-use Rattle.graph.proofs.Ladder.{accepted-is}
-use Rattle.graph.proofs.Verdicts.{then-accepted}
+use Rattle.graph.proofs.Verdicts.{then-accepted, accepted-is}
 use Rattle.level.specs.Rule.{levelRule}
 use Rattle.run.specs.Run.{maxSteps, sequenceRule, ranVerdict, endRule, runTaken, runRule}
 use Rattle.run.proofs.Sequences.{none-unknown}
@@ -25,23 +24,19 @@ use Rattle.theorems.proofs.Founds.{built, level-says}
 
 module _ {file : List ℕ} {c : Counts} {depth : ℕ} {found : List ℕ} (f : Found file c depth found) {set goal : ℕ} (some : StatesOf c set) (over : GoalOf c goal)
     {list : List ℕ} (r : Reaches file c set goal list) where
-  known : (i : ℕ) → i < length list → getD list i 0 < actionsOf file c .count
-  unfolding actionsOf
-  known = r .known
-
   pub level-bound : (t : ℕ) → levelRule file depth set goal found ≡ accepted (level t) → t ≤ length list
   level-bound t e =
-      claims.level-bound (actionsOf file c) (startOf file c) depth found (built f) goal (some .few) list known (r .ran)
+      claims.level-bound (actionsOf file c) (startOf file c) depth found (built f) goal (some .few) list (r .ran)
       (λ s h b. r .goals s b) (level-says f set goal some over _ e)
 
   pub never-bound : levelRule file depth set goal found ≡ accepted never → ⊥
   never-bound e =
-      claims.never-bound (actionsOf file c) (startOf file c) depth found (built f) goal (some .few) list known (r .ran)
+      claims.never-bound (actionsOf file c) (startOf file c) depth found (built f) goal (some .few) list (r .ran)
       (λ s h b. r .goals s b) (level-says f set goal some over _ e)
 
   pub depth-bound : levelRule file depth set goal found ≡ accepted notByDepth → depth < length list
   depth-bound e =
-      claims.depth-bound (actionsOf file c) (startOf file c) depth found (built f) goal (some .few) list known (r .ran)
+      claims.depth-bound (actionsOf file c) (startOf file c) depth found (built f) goal (some .few) list (r .ran)
       (λ s h b. r .goals s b) (level-says f set goal some over _ e)
 
 -- a list that the run call accepts, with end sets that have the goal

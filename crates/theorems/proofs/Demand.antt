@@ -1,17 +1,19 @@
 -- What the calls promise together, of what they answer and write themselves: for every accepted file, every depth and memory that the build accepts,
 -- every goal over the file's propositions and every non-empty set S of its states, on memory that begins with the words which the build writes.
 -- A call's answer and memory are what its rule says (buildRule, extractRule, levelRule, runRule, planRule). The setting is that of Setting.
--- What is said of a page of goals (pageRule) holds on any memory, and what is said of equal actions of any file.
+-- What is said of a page of goals (pageRule) holds on any memory, and what is said of equal actions and of effects without an action of any file.
 -- Assumes nothing.
 use mathlib.Core.Path.{_≡_}
 use mathlib.Core.Bool.{So}
 use mathlib.Core.List.{List}
 use Prim.Native.Nat.{ℕ, _≤_, _<_}
 use lib.ListN.{length, getD}
-use Rattle.rules.specs.Word.{bit, single, within}
-use Rattle.rules.specs.Domain.{SameActions}
+use Rattle.rules.specs.Test.{_or_}
+use Rattle.rules.specs.Word.{bit, union, without, single, within}
+use Rattle.rules.specs.Domain.{SameActions, condition, clobbers, domain}
 use Rattle.rules.specs.Level.{Level, level, never, notByDepth}
 use Rattle.rules.specs.Extract.{rank}
+use Rattle.rules.specs.Run.{after}
 use Rattle.rules.specs.Plan.{relaxedRun}
 use Rattle.rules.specs.Agreement.{OneState}
 use Rattle.graph.specs.Verdict.{accepted, refused, written, laid}
@@ -25,7 +27,8 @@ use Rattle.extract.specs.Rule.{extractRule, statesOf}
 use Rattle.run.specs.Run.{maxSteps, runRule}
 use Rattle.plan.specs.Plan.{planRule}
 use Rattle.plan.proofs.Built.{plan-accepted}
-use Rattle.theorems.specs.Setting.{Exactly, Found, StatesOf, GoalOf, Each, alone, Largest, EndsWith, Reaches, saidBy, EqualPair, FirstPair, Passes}
+use Rattle.theorems.specs.Setting.{Exactly, Found, StatesOf, GoalOf, Each, alone, Largest, EndsWith, Reaches, saidBy, EqualPair, FirstPair}
+use Rattle.theorems.specs.Setting.{FirstStray, Passes}
 use Rattle.theorems.proofs.Founds as founds
 use Rattle.theorems.proofs.Levels as levels
 use Rattle.theorems.proofs.Bounds as bounds
@@ -34,6 +37,7 @@ use Rattle.theorems.proofs.Plans as plans
 use Rattle.theorems.proofs.Leaks as leaks
 use Rattle.theorems.proofs.Pages as pages
 use Rattle.theorems.proofs.Pairs as pairs
+use Rattle.theorems.proofs.Effects as effects
 
 -- the memory after an accepted build is of this setting
 pub build-leaves : (file : List ℕ) (c : Counts) (depth : ℕ) (memory words : List ℕ) → fileRule file ≡ accepted c
@@ -196,3 +200,37 @@ unequal-exactly = pairs.exactly
 -- And its place is the offset of the later action of the pair whose later action comes first.
 pub unequal-place : (file : List ℕ) (place : ℕ) → fileRule file ≡ refused 15 place → FirstPair file (countsIn file) place
 unequal-place = pairs.names-first
+
+-- ---- 8: conditional effects
+
+-- Parts 1 to 6 hold of files of either version.
+
+-- Each effect of a file that a call takes has an action.
+pub taken-owned : (file : List ℕ) (c : Counts) → fileRule file ≡ accepted c → (e : ℕ) → e < c .effects → actionsOf file c .owner e < c .actions
+taken-owned = effects.owned
+
+-- Cause 16 is answered exactly for the files that have an effect without one and pass the causes 1 to 5.
+pub stray-exactly : (file : List ℕ) → Exactly ((place : ℕ) × (fileRule file ≡ refused 16 place))
+    (Passes file × ((e : ℕ) × (e < countsIn file .effects) × (countsIn file .actions ≤ actionsOf file (countsIn file) .owner e)))
+stray-exactly = pairs.stray-exactly
+
+-- And its place is the offset of the first such effect.
+pub stray-place : (file : List ℕ) (place : ℕ) → fileRule file ≡ refused 16 place → FirstStray file (countsIn file) place
+stray-place = pairs.stray-first
+
+-- A file of version 1 means what it meant.
+module _ (file : List ℕ) (c : Counts) (taken : fileRule file ≡ accepted c) (one : c .version ≡ 1) where
+  -- A vertex that is no persistence needs its action's precondition.
+  pub version-1-needs : (e : ℕ) → e < c .effects → condition (actionsOf file c) e ≡ actionsOf file c .pre e
+  version-1-needs = effects.needs file c taken one
+
+  -- In a step the action's adds are joined and after that its deletes removed.
+  pub version-1-step : (a x : ℕ) → a < c .actions
+      → after (actionsOf file c) a x ≡ without (union x (actionsOf file c .add a)) (actionsOf file c .del a)
+  version-1-step = effects.steps file c taken one
+
+  -- Any two different vertices interfere when one deletes something the other needs or adds.
+  pub version-1-interfere : (v w : ℕ) → (v ≡ w → ⊥)
+      → domainOf file c .interfere v w ≡ (clobbers (actionsOf file c) v w or clobbers (actionsOf file c) w v)
+  unfolding domain
+  version-1-interfere = effects.interfere file c taken one

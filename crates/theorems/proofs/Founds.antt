@@ -22,8 +22,8 @@ use Rattle.graph.specs.Checks.{Passed, askedRule}
 use Rattle.graph.specs.Build.{graphOf, buildRule}
 use Rattle.graph.specs.declared.format.Counts.{Counts}
 use Rattle.graph.proofs.Links.{some-states, fit-goal}
-use Rattle.graph.proofs.Ladder.{accepted-is, taken-means, asked-of, graph-of}
-use Rattle.graph.proofs.Verdicts.{then-accepted}
+use Rattle.graph.proofs.Ladder.{taken-means, asked-of, graph-of}
+use Rattle.graph.proofs.Verdicts.{then-accepted, accepted-is}
 use Rattle.graph.proofs.Graphs.{Accepted, build-means, graph-long}
 use Rattle.level.specs.Rule.{levelTaken, levelRule}
 use Rattle.theorems.specs.Setting.{Found, StatesOf, GoalOf}

@@ -26,7 +26,7 @@ use Rattle.graph.specs.declared.format.Counts.{Counts}
 use Rattle.level.specs.Rule.{levelRule}
 use Rattle.plan.specs.Plan.{plannedVerdict, planRule}
 use Rattle.theorems.specs.Setting.{Exactly, Found, StatesOf, GoalOf, Each, alone, Largest}
-use Rattle.theorems.proofs.Founds.{are, built, level-answer, level-says, is-state}
+use Rattle.theorems.proofs.Founds.{file-taken, are, built, level-answer, level-says, is-state}
 use Rattle.theorems.proofs.Levels.{largest, answered}
 use Rattle.theorems.proofs.Plans.{plan-answer, none-exactly}
 
@@ -41,17 +41,17 @@ largest-moves file c file' c' depth set goal t e g = record {
 }
 
 module _ (file : List ℕ) (c : Counts) (file' : List ℕ) (c' : Counts) (same : SameActions (actionsOf file c) (actionsOf file' c')) where
-  domain-is : domainOf file c ≡ domainOf file' c'
-  domain-is = domain-same same
-
   props-are : c .props ≡ c' .props
   unfolding actionsOf
   props-are = same .props
 
-  alone-same : (depth goal s : ℕ) → startOf file c s ≡ startOf file' c' s → alone file c depth goal s ≡ alone file' c' depth goal s
-  alone-same depth goal s e = ap₂ (λ (D : Domain) (x : ℕ). ownLevel D depth goal x) domain-is e
-
   module _ {depth : ℕ} {found found' : List ℕ} (f : Found file c depth found) (f' : Found file' c' depth found') where
+    domain-is : domainOf file c ≡ domainOf file' c'
+    domain-is = domain-same same (file-taken f' .sound)
+
+    alone-same : (goal s : ℕ) → startOf file c s ≡ startOf file' c' s → alone file c depth goal s ≡ alone file' c' depth goal s
+    alone-same goal s e = ap₂ (λ (D : Domain) (x : ℕ). ownLevel D depth goal x) domain-is e
+
     pub words-same : (s : ℕ) → s < c .states → s < c' .states → startOf file c s ≡ startOf file' c' s → (i : ℕ)
         → bit s (getD (f .words) i 0) ≡ bit s (getD (f' .words) i 0)
     words-same s h h' e i =
@@ -69,10 +69,10 @@ module _ (file : List ℕ) (c : Counts) (file' : List ℕ) (c' : Counts) (same :
       level-same t = (
         (λ e.
             let (l, g) = largest f some over t e in
-            answered f' some' over' t l (largest-moves file c file' c' depth set goal t (λ s b. alone-same depth goal s (agree s b)) g)),
+            answered f' some' over' t l (largest-moves file c file' c' depth set goal t (λ s b. alone-same goal s (agree s b)) g)),
         (λ e.
             let (l, g) = largest f' some' over' t e in
-            answered f some over t l (largest-moves file' c' file c depth set goal t (λ s b. sym (alone-same depth goal s (agree s b))) g)),
+            answered f some over t l (largest-moves file' c' file c depth set goal t (λ s b. sym (alone-same goal s (agree s b))) g)),
       )
 
       -- ---- the plan
@@ -87,20 +87,20 @@ module _ (file : List ℕ) (c : Counts) (file' : List ℕ) (c' : Counts) (same :
           ∙ sym (props-in-agree (domainOf file' c') (c' .states) (startOf file' c') depth found' (built f') (is-state some' s b) (omega arith) .label p
           (subst (λ (x : ℕ). p < x) (same .props) h))
 
-      actions-agree : (t : ℕ) → t < depth → (v : ℕ) → v < actionsOf file c .count + actionsOf file c .props
+      actions-agree : (t : ℕ) → t < depth → (v : ℕ) → v < actionsOf file c .effects + actionsOf file c .props
           → AgreeIn set (labelIn (actionsIn (shapeOf (domainOf file c)) found t) v) (labelIn (actionsIn (shapeOf (domainOf file' c')) found' t) v)
       unfolding domain
       actions-agree t l v h s b =
           actions-in-agree (domainOf file c) (c .states) (startOf file c) depth found (built f) (is-state some s b) l .label v h
           ∙ ap₂ (λ (D : Domain) (x : ℕ). ownActions D (ownProps D x t) .has v) domain-is (agree s b)
           ∙ sym (actions-in-agree (domainOf file' c') (c' .states) (startOf file' c') depth found' (built f') (is-state some' s b) l .label v
-          (subst (λ (x : ℕ). v < x) (ap₂ (λ (x y : ℕ). x + y) (same .count) (same .props)) h))
+          (subst (λ (x : ℕ). v < x) (ap₂ (λ (x y : ℕ). x + y) (same .effects) (same .props)) h))
 
       plan-at : (t : ℕ) → levelRule file depth set goal found ≡ accepted (level t)
           → planOf (actionsOf file c) depth set goal found ≡ planOf (actionsOf file' c') depth set goal found'
       plan-at t e =
           planOf-at (actionsOf file c) depth set goal found (level-says f set goal some over _ e)
-          ∙ descend-same (plan-reads same) set found found' props-agree actions-agree t
+          ∙ descend-same (plan-reads same (file-taken f' .sound)) set found found' props-agree actions-agree t
           (largest f some over t e .0)
           (goals (actionsOf file c) set goal) [] (goals-inside (actionsOf file c) set goal)
           ∙ ap (λ (n : ℕ). descend (actionsOf file' c') found' t (listOver n (λ p. keep (bit p goal) set)) []) (same .props)

@@ -7,4 +7,5 @@ pub mod Plans
 pub mod Leaks
 pub mod Pages
 pub mod Pairs
+pub mod Effects
 pub mod Demand

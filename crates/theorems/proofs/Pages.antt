@@ -19,8 +19,8 @@ use Rattle.graph.specs.Verdict.{Verdict, accepted, refused, written, laid}
 use Rattle.graph.specs.Format.{shapeIn}
 use Rattle.graph.specs.Checks.{setRule, askedRule}
 use Rattle.graph.proofs.Links.{long-output}
-use Rattle.graph.proofs.Ladder.{passed-then, asked-means, graph-means, graph-of}
-use Rattle.graph.proofs.Verdicts.{then-accepted}
+use Rattle.graph.proofs.Ladder.{asked-means, graph-means, graph-of}
+use Rattle.graph.proofs.Verdicts.{then-accepted, passed-then}
 use Rattle.level.specs.Rule.{levelTaken, levelRule}
 use Rattle.level.proofs.Answers.{level-at, level-none}
 use Rattle.page.specs.Rule.{entryOf, entries, pageTaken, pageRule}

@@ -7,10 +7,9 @@ use Prim.Native.Nat.{ℕ, _^_, _≤_, _<_}
 use native.Mathlib.Omega.{arith}
 use lib.ListN.{length}
 use Rattle.rules.specs.Word.{within}
-use Rattle.rules.specs.Domain.{shapeOf}
+use Rattle.rules.specs.Domain.{Sound, shapeOf}
 use Rattle.rules.specs.Level.{level, levelOf}
 use Rattle.rules.specs.Plan.{Planned, planned, stuck, noLevel, planOf, relaxedRun}
-use Rattle.rules.proofs.Plans.{PreLt}
 use Rattle.rules.proofs.Claims.{plan-of, plan-level, never-stuck, no-level-of, no-level-at}
 use Rattle.graph.specs.Verdict.{accepted, refused}
 use Rattle.graph.specs.Format.{actionsOf, startOf, domainOf}
@@ -19,7 +18,6 @@ use Rattle.graph.specs.declared.format.Counts.{Counts}
 use Rattle.graph.proofs.Links.{long-output}
 use Rattle.graph.proofs.Ladder.{graph-of}
 use Rattle.graph.proofs.Verdicts.{then-accepted}
-use Rattle.graph.proofs.Graphs.{pre-small}
 use Rattle.level.specs.Rule.{levelRule}
 use Rattle.plan.specs.Plan.{plannedVerdict, planTaken, planRule}
 use Rattle.theorems.specs.Setting.{Exactly, Found, StatesOf, GoalOf, Each}
@@ -55,8 +53,8 @@ module _ {file : List ℕ} {c : Counts} {depth : ℕ} {found : List ℕ} (f : Fo
       ∙ then-accepted _ _ tt (graph-of c depth _ (length found) (asked-passes f set goal some over))
       ∙ then-accepted _ _ tt (sym (long-output depth room enough))
 
-  small : PreLt (actionsOf file c)
-  small = pre-small file c (file-taken f)
+  sound : Sound (actionsOf file c)
+  sound = file-taken f .sound
 
   goal-lt : goal < 2 ^ actionsOf file c .props
   unfolding actionsOf
@@ -69,7 +67,7 @@ module _ {file : List ℕ} {c : Counts} {depth : ℕ} {found : List ℕ} (f : Fo
   level-at : (plan : List ℕ) → planRule file depth set goal found room ≡ accepted plan
       → levelOf (shapeOf (domainOf file c)) depth set goal found ≡ level (length plan)
   level-at plan e =
-      plan-level (actionsOf file c) (c .states) (startOf file c) depth found (built f) (some .few) small goal-lt (planned-at plan e)
+      plan-level (actionsOf file c) (c .states) (startOf file c) depth found (built f) (some .few) sound goal-lt (planned-at plan e)
 
   pub exactly-when-level : (t : ℕ)
       → Exactly (levelRule file depth set goal found ≡ accepted (level t))
@@ -78,7 +76,7 @@ module _ {file : List ℕ} {c : Counts} {depth : ℕ} {found : List ℕ} (f : Fo
   exactly-when-level t = (
     (λ e.
         let (plan, d, r) =
-        plan-of (actionsOf file c) (c .states) (startOf file c) depth found (built f) (some .few) small goal-lt
+        plan-of (actionsOf file c) (c .states) (startOf file c) depth found (built f) (some .few) sound goal-lt
         (level-says f set goal some over _ e) in
         (plan, plan-answer ∙ ap (plannedVerdict depth) d, r .sized)),
     (λ (plan, e, l). level-answer f set goal some over ∙ ap accepted (level-at plan e ∙ ap (λ (x : ℕ). level x) l)),
@@ -88,7 +86,7 @@ module _ {file : List ℕ} {c : Counts} {depth : ℕ} {found : List ℕ} (f : Fo
       → Each set (λ s. So (within goal (relaxedRun (actionsOf file c) plan (startOf file c s))))
   reaches plan e s b =
       let (plan', d, r) =
-      plan-of (actionsOf file c) (c .states) (startOf file c) depth found (built f) (some .few) small goal-lt (level-at plan e) in
+      plan-of (actionsOf file c) (c .states) (startOf file c) depth found (built f) (some .few) sound goal-lt (level-at plan e) in
       let same : planned plan' ≡ planned plan = sym d ∙ planned-at plan e in
       let q : plan' ≡ plan = cc in
       subst (λ (x : List ℕ). So (within goal (relaxedRun (actionsOf file c) x (startOf file c s)))) q (r .works s (is-state some s b) b)
@@ -98,14 +96,14 @@ module _ {file : List ℕ} {c : Counts} {depth : ℕ} {found : List ℕ} (f : Fo
   unfolding plannedVerdict
   none-exactly = (
     (λ h. plan-answer ∙ ap (plannedVerdict depth)
-        (no-level-of (actionsOf file c) (c .states) (startOf file c) depth found (built f) (some .few) small goal-lt
+        (no-level-of (actionsOf file c) (c .states) (startOf file c) depth found (built f) (some .few) sound goal-lt
         (λ t e. h t (level-answer f set goal some over ∙ ap accepted e)))),
     (λ e t q.
-        no-level-at (actionsOf file c) (c .states) (startOf file c) depth found (built f) (some .few) small goal-lt
+        no-level-at (actionsOf file c) (c .states) (startOf file c) depth found (built f) (some .few) sound goal-lt
         (no-level-means depth _ depth (sym plan-answer ∙ e)) (level-says f set goal some over _ q)),
   )
 
   pub never-uncovered : (place : ℕ) → planRule file depth set goal found room ≡ refused 14 place → ⊥
   never-uncovered place e =
-      never-stuck (actionsOf file c) (c .states) (startOf file c) depth found (built f) (some .few) small goal-lt
+      never-stuck (actionsOf file c) (c .states) (startOf file c) depth found (built f) (some .few) sound goal-lt
       (stuck-means depth _ place (sym plan-answer ∙ e))

@@ -10,7 +10,7 @@ use Rattle.rules.specs.Level.{Level, level, never, notByDepth}
 use Rattle.rules.specs.Own.{ownLevel}
 use Rattle.rules.specs.Run.{ended, runOf}
 use Rattle.graph.specs.Verdict.{Verdict, accepted, refused}
-use Rattle.graph.specs.Format.{preAt, countsIn, actionsOf, startOf, domainOf}
+use Rattle.graph.specs.Format.{plain, effectAt, preAt, countsIn, actionsOf, startOf, domainOf}
 use Rattle.graph.specs.File.{headRule, versionRule, countsRule, lengthRule, setsRule, fileRule}
 use Rattle.graph.specs.Build.{buildRule}
 use Rattle.graph.specs.declared.format.Counts.{Counts}
@@ -73,8 +73,9 @@ saidBy e =
     (choose (same e goalEntry) (refused 8 0)
     (accepted (level e))))
 
--- Request Two: 'Two actions with the same three sets', the earlier one b and the later one a
+-- Request Two: 'Two actions with the same three sets', the earlier one b and the later one a, 'in version 1 only'
 pub record EqualPair (file : List ℕ) (c : Counts) (b a : ℕ) : Type 0 where
+  pub version : So (plain c)
   pub earlier : b < a
   pub later : a < c .actions
   pub pre : actionsOf file c .pre b ≡ actionsOf file c .pre a
@@ -86,7 +87,7 @@ pub record FirstPair (file : List ℕ) (c : Counts) (place : ℕ) : Type 0 where
   pub b : ℕ
   pub a : ℕ
   pub pair : EqualPair file c b a
-  pub offset : place ≡ preAt a
+  pub offset : place ≡ preAt c a
   pub first : (b' a' : ℕ) → EqualPair file c b' a' → a ≤ a'
 
 -- a file that none of the causes 1 to 5 turns away
@@ -96,3 +97,11 @@ pub record Passes (file : List ℕ) : Type 0 where
   pub counts : countsRule (countsIn file) ≡ accepted tt
   pub length : lengthRule file (countsIn file) ≡ accepted tt
   pub sets : setsRule file (countsIn file) ≡ accepted tt
+
+-- Request Three: the first effect with 'an action number not below the action count', and 'its offset'
+pub record FirstStray (file : List ℕ) (c : Counts) (place : ℕ) : Type 0 where
+  pub e : ℕ
+  pub effect : e < c .effects
+  pub stray : c .actions ≤ actionsOf file c .owner e
+  pub offset : place ≡ effectAt c e
+  pub first : (e' : ℕ) → e' < e → actionsOf file c .owner e' < c .actions

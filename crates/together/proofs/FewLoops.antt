@@ -1,4 +1,4 @@
--- Actions paired one by one: the words that a loop over the actions independent of one leaves.
+-- Effects paired one by one: the words that a loop over the effects independent of one leaves.
 -- Assumes nothing.
 use Prim.Native.Nat.{ℕ, _+_, _-_, _*_, _≤_, _<_, _^_}
 use mathlib.Core.Path.{_≡_, refl, sym, ap, ap₂, subst, _∙_}
@@ -8,7 +8,6 @@ use mathlib.Core.List.{List}
 use native.Mathlib.Omega.{arith}
 use native.Mathlib.Nat.{lt-of-lt-of-le}
 use borrow.Rule.Slice.PartMut.{putMid}
-use lib.Bits.{or-zero-r}
 use lib.Count.{trailingZeros}
 use lib.ListN.{length, getD, take, drop, set, length-set}
 use lib.ListN as L
@@ -20,17 +19,15 @@ use Rattle.rules.specs.Over.{keep, joinOf, meetOf}
 use Rattle.rules.specs.Lists.{listOver}
 use Rattle.rules.specs.Layer.{labelIn}
 use Rattle.rules.proofs.Layers.{length-listOver, getD-listOver, listOver-eq}
-use Rattle.rules.proofs.Members.{join-empty}
 use Rattle.rules.proofs.Tests.{choose-held, choose-failed, holds-or, same-of, same-at, fails-at}
 use Rattle.rules.proofs.Words.{bit-zero, first-lt, without-lt}
-use Rattle.words.specs.Memory.{putAt}
 use Rattle.words.specs.Rows.{rowLength, tableLength, cell, InParts}
 use Rattle.words.specs.Width.{wordWidth}
 use Rattle.words.proofs.Cells.{Rows, rows-none}
 use Rattle.words.proofs.MemberLoops.{Members, members-none, members-more, members-done, Lanes, lanes-more, lanes-done, lowest-in, lowest-lt}
 use Rattle.words.proofs.Spreads.{bit-left, stays}
-use Rattle.together.specs.Cells.{Independent, independentOf, withIndependent, matesOf, besideOf, mateOf, besideFor}
-use Rattle.together.proofs.Rows.{parts-le, row-put, row-again, rows-row, row-long, row-word, lent, lent-row, lent-long}
+use Rattle.together.specs.Cells.{RowPut, Independent, independentOf, withIndependent, withProp, matesOf, besideOf, mateOf, besideFor}
+use Rattle.together.proofs.Rows.{parts-le, row-again, rows-row, row-long, row-word, lent, lent-row, lent-long}
 
 -- both ways the same
 either : (b : Bool) (x : ℕ) → choose b x x ≡ x
@@ -73,7 +70,7 @@ puts-done {f} {n} {set₀} {left} {row₀} {row} s h =
     let g : k < n = omega (arith, s .long) in
     ap (λ (b : Bool). choose b (f k) (getD row k 0)) (sym (ap (bit k) e ∙ bit-zero k)) ∙ s .is k g ∙ sym (getD-listOver _ g))
 
--- ---- action i with those independent of it, one after the other
+-- ---- effect i with those independent of it, one after the other
 
 -- what one of them that adds p brings it
 pub adding : (i : ℕ) → List ℕ → List ℕ → List ℕ → List ℕ → ℕ → ℕ → ℕ
@@ -151,7 +148,7 @@ module _ (i : ℕ) (needs adds interferers live row : List ℕ) {set : ℕ} (ind
       (ap (λ (x : List ℕ). getD x q 0) e ∙ getD-listOver _ h
       ∙ ap (λ (x : ℕ). union (getD beside₀ q 0) (joinOf rowLength x (λ j. keep (bit q (getD adds j 0)) (withIndependent needs live row i j)))) independent))
 
--- the independent actions, as the code finds them, are actions
+-- the independent effects, as the code finds them, are effects
 module _ (needs interferers : List ℕ) (i : ℕ) {all one : ℕ} (a : all ≡ first (length needs)) (o : one ≡ single i) where
   pub independent-are : without all (union (getD interferers i 0) one) ≡ independentOf needs interferers i
   unfolding independentOf
@@ -160,44 +157,44 @@ module _ (needs interferers : List ℕ) (i : ℕ) {all one : ℕ} (a : all ≡ f
   pub independent-lt : without all (union (getD interferers i 0) one) < 2 ^ length needs
   independent-lt = without-lt (length needs) _ (subst (λ (x : ℕ). x < 2 ^ length needs) (sym a) (first-lt (length needs)))
 
--- ---- all actions: a row of each table is lent, and comes back with what stands in these tables
+-- ---- all effects: a row of each table is lent, and comes back with what stands in these tables
 
-pub record Actions (needs adds interferers live r : List ℕ) (width i : ℕ) (mates besides : List ℕ) : Type 0 where
+pub record Effects (needs adds dels interferers live r : List ℕ) (width i : ℕ) (mates besides : List ℕ) : Type 0 where
   pub narrow : width ≤ rowLength
   pub pairs : Rows (mateOf needs interferers live r) rowLength i mates
   pub empty : (j k : ℕ) → i ≤ j → j < rowLength → k < rowLength → cell mates j k ≡ 0
-  pub with-adders : Rows (besideFor needs adds interferers live r) width i besides
+  pub with-adders : Rows (besideFor needs adds dels interferers live r) width i besides
 
-pub actions-none : (needs adds interferers live r : List ℕ) {width : ℕ} {mates besides : List ℕ} → InParts width → mates ≡ listOver tableLength (λ k. 0) → length besides ≡ tableLength
-    → Actions needs adds interferers live r width 0 mates besides
+pub effects-none : (needs adds dels interferers live r : List ℕ) {width : ℕ} {mates besides : List ℕ} → InParts width → mates ≡ listOver tableLength (λ k. 0)
+    → length besides ≡ tableLength → Effects needs adds dels interferers live r width 0 mates besides
 unfolding cell
-actions-none needs adds interferers live r parts e long = record {
+effects-none needs adds dels interferers live r parts e long = record {
   narrow = parts-le parts;
   pairs = rows-none (ap length e ∙ length-listOver tableLength _);
   empty = λ j k l h g. ap (λ (w : List ℕ). getD w (j * rowLength + k) 0) e ∙ getD-listOver _ (omega arith);
   with-adders = rows-none long;
 }
 
-module _ {needs adds interferers live r : List ℕ} {width i : ℕ} {mates besides : List ℕ} (s : Actions needs adds interferers live r width i mates besides) (parts : InParts width)
-    (h : i < rowLength) where
+module _ {needs adds dels interferers live r : List ℕ} {width i : ℕ} {mates besides : List ℕ}
+    (s : Effects needs adds dels interferers live r width i mates besides) (parts : InParts width) (h : i < rowLength) where
   abbrev row-of : List ℕ → List ℕ
   row-of table = take (i * rowLength + rowLength - i * rowLength) (drop (i * rowLength) table)
 
   word-of : (table : List ℕ) (k : ℕ) → k < rowLength → getD (row-of table) k 0 ≡ cell table i k
   word-of table k l = ap (λ (w : List ℕ). getD w k 0) (lent table i) ∙ row-word table i k l
 
-  pub actions-more : {besides₁ p q : List ℕ} → length besides₁ ≡ tableLength
-      → besides₁ ≡ putAt (i * rowLength) (listOver width (λ k. union (cell r i k) (joinOf rowLength 0 (λ j. cell r j k)))) besides
+  pub effects-more : {besides₁ p q : List ℕ} {del : ℕ} → length besides₁ ≡ tableLength → del ≡ getD dels i 0
+      → RowPut (λ k. choose (bit k del) 0 (cell r i k)) width i besides besides₁
       → p ≡ matesOf needs interferers live (row-of r) i (row-of mates) → q ≡ besideOf needs adds interferers live (row-of r) i (row-of besides₁)
-      → Actions needs adds interferers live r width (i + 1) (putMid (i * rowLength) (i * rowLength + rowLength - i * rowLength) mates p)
+      → Effects needs adds dels interferers live r width (i + 1) (putMid (i * rowLength) (i * rowLength + rowLength - i * rowLength) mates p)
       (putMid (i * rowLength) (i * rowLength + rowLength - i * rowLength) besides₁ q)
-  unfolding matesOf mateOf besideOf besideFor
-  actions-more {besides₁} {p} {q} long copied e d =
+  unfolding matesOf mateOf besideOf besideFor withProp
+  effects-more {besides₁} {p} {q} long del kept e d =
       let paired = lent-row mates i _ (s .pairs .long) h e in
-      let joined = row-again (besideFor needs adds interferers live r i) (row-put (s .with-adders .long) h (s .narrow) copied) (s .narrow) (lent-row besides₁ i _ long h d) (λ k l u.
+      let joined = row-again (besideFor needs adds dels interferers live r i) kept (s .narrow) (lent-row besides₁ i _ long h d) (λ k l u.
       ap₂ (λ (x : ℕ) (w : List ℕ). union (union x (joinOf rowLength (independentOf needs interferers i) (λ j. keep (bit k (getD adds j 0)) (withIndependent needs live w i j))))
       (keep (bit k (getD adds i 0)) (getD live i 0)))
-      (word-of besides₁ k (omega (arith, s .narrow)) ∙ u ∙ ap (union (cell r i k)) (join-empty rowLength _) ∙ or-zero-r (cell r i k)) (lent r i)) in
+      (word-of besides₁ k (omega (arith, s .narrow)) ∙ u ∙ ap (λ (x : ℕ). choose (bit k x) 0 (cell r i k)) del) (lent r i)) in
       record {
         narrow = s .narrow;
         pairs = rows-row (s .pairs) (inr refl) (lent-long mates i _ (s .pairs .long) h e) paired (λ k l.

@@ -7,12 +7,13 @@ use mathlib.Core.List.{List, _++_}
 use native.Mathlib.Omega.{arith}
 use native.Mathlib.Nat.{lt-of-lt-of-le}
 use borrow.Rule.Slice.PartMut.{putMid}
+use lib.Bits.{or-zero-r}
 use lib.ListN.{length, getD, take, drop, set, length-drop}
 use lib.Pow.{pow-mono}
 use lib.Seq.{getD-take, getD-drop, drop-drop, length-take-le, getD-set-same, getD-set-other}
 use Rattle.rules.specs.Test.{same, choose}
-use Rattle.rules.specs.Word.{bit, common}
-use Rattle.rules.specs.Over.{meetOf}
+use Rattle.rules.specs.Word.{bit, common, union}
+use Rattle.rules.specs.Over.{joinOf, meetOf}
 use Rattle.rules.specs.Lists.{listOver}
 use Rattle.rules.proofs.Layers.{length-listOver}
 use Rattle.rules.proofs.Tests.{choose-held, choose-failed, holds-or, same-of, same-at, fails-at}
@@ -20,8 +21,8 @@ use Rattle.rules.proofs.Words.{bit-below}
 use Rattle.words.specs.Memory.{putAt}
 use Rattle.words.specs.Rows.{rowLength, tableLength, cell, InParts, Inside}
 use Rattle.words.proofs.Cells.{Rows, rows-more, row-length, cell-put, cell-stays}
-use Rattle.together.specs.Cells.{RowPut, Row, rowIn, needsWith, labelFor, withProp, withAction}
-use Rattle.rules.proofs.Members.{meet-only}
+use Rattle.together.specs.Cells.{RowPut, Row, rowIn, needsWith, labelFor, rowFor, withEffect}
+use Rattle.rules.proofs.Members.{join-empty, meet-only}
 
 -- a part of a row or all of it is within the row
 pub parts-le : {width : ℕ} → InParts width → width ≤ rowLength
@@ -73,6 +74,15 @@ rows-row s parts whole put e = rows-more s whole
     (λ j k h l. put .stays j k (omega (arith, parts-le parts)) (λ q. omega arith))
     (λ k l. put .is k l ∙ e k l)
 
+-- a row copied, and emptied where a set says so
+pub keep-put : (r : List ℕ) (del : ℕ) {i width : ℕ} {w w₁ w₂ : List ℕ} → length w ≡ tableLength → length w₁ ≡ tableLength → i < rowLength → InParts width
+    → w₁ ≡ putAt (i * rowLength) (listOver width (λ k. union (cell r i k) (joinOf rowLength 0 (λ j. cell r j k)))) w
+    → w₂ ≡ putAt (i * rowLength) (listOver rowLength (λ k. choose (bit k del) 0 (cell w₁ i k))) w₁
+    → RowPut (λ k. choose (bit k del) 0 (cell r i k)) width i w w₂
+keep-put r del {i} long long₁ h parts copied cleared =
+    row-again _ (row-put long h (parts-le parts) copied) (parts-le parts) (row-put long₁ h (omega arith) cleared) (λ k l u.
+    ap (λ (x : ℕ). choose (bit k del) 0 x) (u ∙ ap (union (cell r i k)) (join-empty rowLength _) ∙ or-zero-r (cell r i k)))
+
 -- ---- a row that is lent, from its first word to that of the next row
 
 module _ (table : List ℕ) (i : ℕ) where
@@ -106,9 +116,9 @@ module _ (table : List ℕ) (i : ℕ) (f : ℕ → ℕ) {p : List ℕ} (whole : 
   pub lent-long : length (putMid (i * rowLength) (i * rowLength + rowLength - i * rowLength) table p) ≡ tableLength
   lent-long = ap length lent-put ∙ row-length i rowLength f table whole h (omega arith)
 
--- ---- a row of an action with the propositions: met, cut to the label that it gives, and emptied where the action deletes
+-- ---- a row of an effect with the propositions: met, and cut to the label that it gives
 
-module _ (all : ℕ) {i width need del : ℕ} {r labels t r₁ : List ℕ} (asks : Row i width need del r labels t)
+module _ (all : ℕ) {i width need : ℕ} {r labels t r₁ : List ℕ} (asks : Row i width need r labels t)
     (met : r₁ ≡ putAt (i * rowLength) (listOver width (needsWith all labels t need)) r) (long₁ : length r₁ ≡ tableLength) where
   first-put : RowPut (needsWith all labels t need) width i r r₁
   first-put = row-put (asks .r-long) (asks .inside) (parts-le (asks .parts)) met
@@ -121,26 +131,20 @@ module _ (all : ℕ) {i width need del : ℕ} {r labels t r₁ : List ℕ} (asks
       ∙ meet-only need all (λ q h m.
       ap (λ (x : List ℕ). getD x q 0) e ∙ row-word r₁ i q h ∙ first-put .is q (bit-below (asks .needs) m))
 
-  pub admit-put : {l : ℕ} {r₂ r₃ : List ℕ} → l ≡ labelFor all labels t need → length r₂ ≡ tableLength
-      → r₂ ≡ putAt (i * rowLength) (listOver width (λ k. common (cell r₁ i k) l)) r₁
-      → r₃ ≡ putAt (i * rowLength) (listOver rowLength (λ k. choose (bit k del) 0 (cell r₂ i k))) r₂
-      → RowPut (withProp all labels t need del) width i r r₃
-  unfolding withProp
-  admit-put {l} e long₂ cut cleared =
-      let inside = parts-le (asks .parts) in
-      let second : RowPut (λ k. common (needsWith all labels t need k) (labelFor all labels t need)) width i r _ =
-      row-again _ first-put (omega arith) (row-put long₁ (asks .inside) inside cut) (λ k h q. ap₂ common q e) in
-      row-again _ second inside (row-put long₂ (asks .inside) (omega arith) cleared) (λ k h q. ap (λ (x : ℕ). choose (bit k del) 0 x) q)
+  pub admit-put : {l : ℕ} {r₂ : List ℕ} → l ≡ labelFor all labels t need → r₂ ≡ putAt (i * rowLength) (listOver width (λ k. common (cell r₁ i k) l)) r₁
+      → RowPut (rowFor all labels t need) width i r r₂
+  unfolding rowFor
+  admit-put e cut = row-again _ first-put (omega arith) (row-put long₁ (asks .inside) (parts-le (asks .parts)) cut) (λ k h q. ap₂ common q e)
 
--- ---- a row of an action with the actions: met, emptied where they interfere, and with itself
+-- ---- a row of an effect with the effects: met, emptied where they interfere, and with itself
 
 module _ (needs interferers live turned : List ℕ) {i width : ℕ} {w w₁ w₂ : List ℕ} (parts : InParts width) (h : i < rowLength) (long : length w ≡ tableLength)
     (long₁ : length w₁ ≡ tableLength) (long₂ : length w₂ ≡ tableLength) where
   pub pairs-put : {named : ℕ} → named ≡ getD needs i 0
       → w₁ ≡ putAt (i * rowLength) (listOver width (λ k. meetOf rowLength named (λ p. cell turned p k) (common (getD live k 0) (getD live i 0)))) w
       → w₂ ≡ putAt (i * rowLength) (listOver rowLength (λ k. choose (bit k (getD interferers i 0)) 0 (cell w₁ i k))) w₁
-      → RowPut (withAction needs interferers live turned i) width i w (set w₂ (i * rowLength + i) (getD live i 0))
-  unfolding withAction
+      → RowPut (withEffect needs interferers live turned i) width i w (set w₂ (i * rowLength + i) (getD live i 0))
+  unfolding withEffect
   pairs-put {named} e met cleared =
       let inside = parts-le parts in
       let one = row-put long h inside met in

@@ -9,28 +9,25 @@ use Rattle.rules.specs.Over.{keep, joinOf, meetOf}
 use Rattle.rules.specs.Lists.{listOver}
 use Rattle.words.specs.Rows.{rowLength, tableLength, cell, InParts, Inside}
 
--- how many words of a row are in use for n propositions and these actions: a part of it or all
+-- how many words of a row are in use for n propositions and the effects with these needs: a part of it or all
 pub record Width (n width : ℕ) (needs : List ℕ) : Type 0 where
   pub parts : InParts width
   pub props : n ≤ width
-  pub actions : length needs ≤ width
+  pub effects : length needs ≤ width
   pub inside : Inside n needs
 
--- what the code asks that writes row i of an action with these needs and deletes
-pub record Row (i width need del : ℕ) (r labels t : List ℕ) : Type 0 where
+-- what the code asks that writes row i, of an effect with these needs
+pub record Row (i width need : ℕ) (r labels t : List ℕ) : Type 0 where
   pub parts : InParts width
   pub inside : i < rowLength
   pub needs : need < 2 ^ width
-  pub deletes : del < 2 ^ rowLength
   pub r-long : length r ≡ tableLength
   pub labels-long : length labels ≡ rowLength
   pub t-long : length t ≡ tableLength
 
--- and of all actions
-pub record Admitting (n width : ℕ) (needs dels labels t r live : List ℕ) : Type 0 where
+-- and those of all effects
+pub record Admitting (n width : ℕ) (needs labels t r live : List ℕ) : Type 0 where
   pub wide : Width n width needs
-  pub dels-long : length dels ≡ length needs
-  pub deletes : Inside n dels
   pub labels-long : length labels ≡ rowLength
   pub t-long : length t ≡ tableLength
   pub r-long : length r ≡ tableLength
@@ -45,29 +42,38 @@ pub record RowPut (f : ℕ → ℕ) (width row : ℕ) (old new : List ℕ) : Typ
 unfoldable pub needsWith : ℕ → List ℕ → List ℕ → ℕ → ℕ → ℕ
 needsWith all labels t need q = meetOf rowLength need (λ p. cell t p q) (common (getD labels q 0) all)
 
--- the label of an action
+-- the label of an effect
 unfoldable pub labelFor : ℕ → List ℕ → List ℕ → ℕ → ℕ
 labelFor all labels t need = meetOf rowLength need (needsWith all labels t need) all
 
--- an action with a proposition
-unfoldable pub withProp : ℕ → List ℕ → List ℕ → ℕ → ℕ → ℕ → ℕ
-withProp all labels t need del q = choose (bit q del) 0 (common (needsWith all labels t need q) (labelFor all labels t need))
+-- an effect with a proposition, whatever it deletes: two effects of one action go by these rows
+unfoldable pub rowFor : ℕ → List ℕ → List ℕ → ℕ → ℕ → ℕ
+rowFor all labels t need q = common (needsWith all labels t need q) (labelFor all labels t need)
 
--- action i with action j: `live` are the labels of the actions, `turned` has the actions with each proposition, row by row
-unfoldable pub withAction : List ℕ → List ℕ → List ℕ → List ℕ → ℕ → ℕ → ℕ
-withAction needs interferers live turned i j =
+-- and none where it deletes it: row i of r is that of effect i
+unfoldable pub withProp : List ℕ → List ℕ → ℕ → ℕ → ℕ
+withProp dels r i q = choose (bit q (getD dels i 0)) 0 (cell r i q)
+
+-- what the code asks that cuts what each effect deletes out of such a table
+pub record Cutting (dels table : List ℕ) : Type 0 where
+  pub few : length dels ≤ rowLength
+  pub long : length table ≡ tableLength
+
+-- effect i with effect j: `live` are the labels of the effects, `turned` has the effects with each proposition, row by row
+unfoldable pub withEffect : List ℕ → List ℕ → List ℕ → List ℕ → ℕ → ℕ → ℕ
+withEffect needs interferers live turned i j =
     choose (same i j) (getD live i 0)
     (choose (bit j (getD interferers i 0)) 0 (meetOf rowLength (getD needs i 0) (λ p. cell turned p j) (common (getD live j 0) (getD live i 0))))
 
--- the other actions that do not interfere with i
+-- the other effects that do not interfere with i
 unfoldable pub independentOf : List ℕ → List ℕ → ℕ → ℕ
 independentOf needs interferers i = without (first (length needs)) (union (getD interferers i 0) (single i))
 
--- action i with one of them, j: `row` has i with each proposition
+-- effect i with one of them, j: `row` has i with each proposition
 unfoldable pub withIndependent : List ℕ → List ℕ → List ℕ → ℕ → ℕ → ℕ
 withIndependent needs live row i j = meetOf rowLength (getD needs j 0) (λ q. getD row q 0) (common (getD live i 0) (getD live j 0))
 
--- what the code asks that pairs the actions by rows
+-- what the code asks that pairs the effects by rows
 pub record Pairing (n width : ℕ) (needs interferers live turned mates : List ℕ) : Type 0 where
   pub wide : Width n width needs
   pub interferers-long : length interferers ≡ length needs
@@ -85,7 +91,7 @@ pub record Joining (to from table sets : List ℕ) (width : ℕ) : Type 0 where
   pub rows : Inside rowLength sets
   pub parts : InParts width
 
--- what it asks of action i and a set of others, one by one
+-- what it asks of effect i and a set of others, one by one
 pub record Independent (i set : ℕ) (needs adds live row : List ℕ) : Type 0 where
   pub few : length needs ≤ rowLength
   pub adds-long : length adds ≡ length needs
@@ -95,7 +101,7 @@ pub record Independent (i set : ℕ) (needs adds live row : List ℕ) : Type 0 w
   pub others : set < 2 ^ length needs
   pub needs-inside : Inside rowLength needs
 
--- the same with the interferers, for action i and all that are independent of it
+-- the same with the interferers, for effect i and all that are independent of it
 pub record Lists (i : ℕ) (needs adds interferers live row : List ℕ) : Type 0 where
   pub few : length needs ≤ rowLength
   pub adds-long : length adds ≡ length needs
@@ -105,7 +111,7 @@ pub record Lists (i : ℕ) (needs adds interferers live row : List ℕ) : Type 0
   pub own : i < length needs
   pub needs-inside : Inside rowLength needs
 
--- the row of action i with all actions
+-- the row of effect i with all effects
 unfoldable pub matesOf : List ℕ → List ℕ → List ℕ → List ℕ → ℕ → List ℕ → List ℕ
 matesOf needs interferers live row i mates =
     listOver rowLength (λ j. choose (same j i) (getD live i 0) (choose (bit j (independentOf needs interferers i)) (withIndependent needs live row i j) (getD mates j 0)))
@@ -116,10 +122,11 @@ besideOf needs adds interferers live row i beside =
     listOver rowLength (λ p. union (union (getD beside p 0) (joinOf rowLength (independentOf needs interferers i) (λ j. keep (bit p (getD adds j 0)) (withIndependent needs live row i j))))
     (keep (bit p (getD adds i 0)) (getD live i 0)))
 
--- what it asks of all actions, one by one
-pub record Fewing (n width : ℕ) (needs adds interferers live r mates besides : List ℕ) : Type 0 where
+-- what it asks of all effects, one by one
+pub record Fewing (n width : ℕ) (needs adds dels interferers live r mates besides : List ℕ) : Type 0 where
   pub wide : Width n width needs
   pub adds-long : length adds ≡ length needs
+  pub dels-long : length dels ≡ length needs
   pub interferers-long : length interferers ≡ length needs
   pub live-long : length live ≡ rowLength
   pub r-long : length r ≡ tableLength
@@ -130,13 +137,14 @@ pub record Fewing (n width : ℕ) (needs adds interferers live r mates besides :
 unfoldable pub rowIn : List ℕ → ℕ → List ℕ
 rowIn table i = take rowLength (drop (i * rowLength) table)
 
--- action i with action j, one by one: as by rows, the other way round
+-- effect i with effect j, one by one: as by rows, the other way round
 unfoldable pub mateOf : List ℕ → List ℕ → List ℕ → List ℕ → ℕ → ℕ → ℕ
 mateOf needs interferers live r i j =
     choose (same j i) (getD live i 0) (choose (bit j (independentOf needs interferers i)) (withIndependent needs live (rowIn r i) i j) 0)
 
 -- and with the adders of p
-unfoldable pub besideFor : List ℕ → List ℕ → List ℕ → List ℕ → List ℕ → ℕ → ℕ → ℕ
-besideFor needs adds interferers live r i p =
-    union (union (cell r i p) (joinOf rowLength (independentOf needs interferers i) (λ j. keep (bit p (getD adds j 0)) (withIndependent needs live (rowIn r i) i j))))
+unfoldable pub besideFor : List ℕ → List ℕ → List ℕ → List ℕ → List ℕ → List ℕ → ℕ → ℕ → ℕ
+besideFor needs adds dels interferers live r i p =
+    union (union (withProp dels r i p)
+    (joinOf rowLength (independentOf needs interferers i) (λ j. keep (bit p (getD adds j 0)) (withIndependent needs live (rowIn r i) i j))))
     (keep (bit p (getD adds i 0)) (getD live i 0))

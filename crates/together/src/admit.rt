@@ -1,45 +1,41 @@
-// The labels of the actions, and what each is together with among the propositions.
+// The labels of the effects, and what each is together with among the propositions, whatever it deletes.
 use words::members::meet_at;
 use words::parts::cut_row;
 use words::parts::meet_row;
 use words::sets::wide;
 use words::tables::ROW;
-use words::tables::clear_cells;
 ghost use mathlib.Core.Path.{_≡_};
 ghost use Prim.Native.Nat.{ℕ, _<_};
 ghost use lib.ListN.{length, getD};
 ghost use Rattle.rules.specs.Lists.{listOver};
 ghost use Rattle.words.specs.Memory.{putAt};
 ghost use Rattle.words.specs.Rows.{cell};
-ghost use Rattle.together.specs.Cells.{Row, Width, RowPut, Admitting, labelFor, withProp};
+ghost use Rattle.together.specs.Cells.{Row, RowPut, Admitting, labelFor, rowFor};
 
-// Row i: the action with each proposition, none where it deletes it. Its label: the states in which all its needs are together.
+// Row i: the effect with each proposition. Its label: the states in which all its needs are together.
 fn admit_row(
     r: &mut [u64],
     i: usize,
     need: u64,
-    del: u64,
     all: u64,
     labels: &[u64],
     t: &[u64],
     width: usize,
 ) -> u64
-    requires { ⌜ Row i width need del (now r) (now labels) (now t) ⌝ }
-    ensures { λ l. ⌜ (l ≡ labelFor all (now (labels .entry)) (now (t .entry)) need) × RowPut (withProp all (now (labels .entry)) (now (t .entry)) need del) width i (now (r .entry)) (now (r .exit)) ⌝ }
+    requires { ⌜ Row i width need (now r) (now labels) (now t) ⌝ }
+    ensures { λ l. ⌜ (l ≡ labelFor all (now (labels .entry)) (now (t .entry)) need) × RowPut (rowFor all (now (labels .entry)) (now (t .entry)) need) width i (now (r .entry)) (now (r .exit)) ⌝ }
 {
     meet_row(&mut *r, i, labels, all, t, width, need);
     let at = i * ROW;
     let end = at + ROW;
     let label = meet_at(&r[at..end], need, all);
     cut_row(&mut *r, i, label, width);
-    clear_cells(&mut *r, i, del);
     label
 }
 
-// All actions, one after the other.
+// All effects, one after the other.
 pub fn admit(
     needs: &[u32],
-    dels: &[u32],
     all: u64,
     labels: &[u64],
     t: &[u64],
@@ -48,21 +44,12 @@ pub fn admit(
     n: usize,
     width: usize,
 )
-    requires { ⌜ Admitting n width (now needs) (now dels) (now labels) (now t) (now r) (now live) ⌝ }
+    requires { ⌜ Admitting n width (now needs) (now labels) (now t) (now r) (now live) ⌝ }
     ensures { λ _. ⌜ (now (live .exit) ≡ putAt 0 (listOver (length (now (needs .entry))) (λ i. labelFor all (now (labels .entry)) (now (t .entry)) (getD (now (needs .entry)) i 0))) (now (live .entry)))
-        × ((i q : ℕ) → i < length (now (needs .entry)) → q < width → cell (now (r .exit)) i q ≡ withProp all (now (labels .entry)) (now (t .entry)) (getD (now (needs .entry)) i 0) (getD (now (dels .entry)) i 0) q) ⌝ }
+        × ((i q : ℕ) → i < length (now (needs .entry)) → q < width → cell (now (r .exit)) i q ≡ rowFor all (now (labels .entry)) (now (t .entry)) (getD (now (needs .entry)) i 0) q) ⌝ }
 {
     for i in 0..needs.len() {
-        let label = admit_row(
-            &mut *r,
-            i,
-            wide(needs[i]),
-            wide(dels[i]),
-            all,
-            labels,
-            t,
-            width,
-        );
+        let label = admit_row(&mut *r, i, wide(needs[i]), all, labels, t, width);
         live[i] = label;
     }
 }

@@ -1,4 +1,4 @@
-// What two actions are together in, one pair after the other: less work than whole rows where most actions interfere.
+// What two effects are together in, one pair after the other: less work than whole rows where most effects interfere.
 use words::columns::spread;
 use words::members::lowest;
 use words::members::meet_at;
@@ -10,6 +10,7 @@ use words::sets::States;
 use words::sets::wide;
 use words::tables::ROW;
 use words::tables::TABLE;
+use words::tables::clear_cells;
 ghost use mathlib.Core.Path.{_≡_};
 ghost use Prim.Native.Nat.{ℕ, _≤_, _<_};
 ghost use lib.ListN.{length, getD};
@@ -18,10 +19,11 @@ ghost use Rattle.rules.specs.Word as W;
 ghost use Rattle.rules.specs.Over.{keep, joinOf};
 ghost use Rattle.rules.specs.Lists.{listOver};
 ghost use Rattle.words.specs.Memory.{putAt};
-ghost use Rattle.words.specs.Rows.{rowLength, tableLength, cell};
-ghost use Rattle.together.specs.Cells.{Independent, Lists, Fewing, withIndependent, matesOf, besideOf, mateOf, besideFor};
+ghost use Rattle.words.specs.Rows.{rowLength, tableLength, cell, Target, Source, InParts};
+ghost use Rattle.together.specs.Cells.{RowPut, Independent, Lists, Fewing, withIndependent, matesOf, besideOf, mateOf, besideFor};
 
-// Action i with each of these, which are independent of it: `mates` gets what the two are together in, and `beside` has it joined to each proposition that the other adds.
+// Effect i with each of these, which are independent of it:
+// `mates` gets what the two are together in, and `beside` has it joined to each proposition that the other adds.
 fn few_row(
     i: usize,
     set: u64,
@@ -46,8 +48,8 @@ fn few_row(
     }
 }
 
-// Action i with those independent of it and with itself, which adds what it adds.
-fn few_action(
+// Effect i with those independent of it and with itself, which adds what it adds.
+fn few_effect(
     i: usize,
     needs: &[u32],
     adds: &[u32],
@@ -77,10 +79,20 @@ fn few_action(
     spread(&mut *beside, Props(adds[i]), live[i]);
 }
 
-// All actions, into a table of empty words.
-fn few_actions(
+// Copies row i, without the words that a set names.
+fn keep_row(besides: &mut [u64], i: usize, r: &[u64], del: u64, width: usize)
+    requires { ⌜ Target (now besides) i × Source (now r) del × InParts width ⌝ }
+    ensures { λ _. ⌜ RowPut (λ k. choose (W.bit k del) 0 (cell (now (r .entry)) i k)) width i (now (besides .entry)) (now (besides .exit)) ⌝ }
+{
+    join_row(&mut *besides, i, r, r, width, 0);
+    clear_cells(besides, i, del);
+}
+
+// All effects, into a table of empty words; none is beside what it deletes.
+fn few_effects(
     needs: &[u32],
     adds: &[u32],
+    dels: &[u32],
     interferers: &[u64],
     live: &[u64],
     r: &[u64],
@@ -89,15 +101,15 @@ fn few_actions(
     n: usize,
     width: usize,
 )
-    requires { ⌜ Fewing n width (now needs) (now adds) (now interferers) (now live) (now r) (now mates) (now besides) × (now mates ≡ listOver tableLength (λ k. 0)) ⌝ }
+    requires { ⌜ Fewing n width (now needs) (now adds) (now dels) (now interferers) (now live) (now r) (now mates) (now besides) × (now mates ≡ listOver tableLength (λ k. 0)) ⌝ }
     ensures { λ _. ⌜ ((i j : ℕ) → i < length (now (needs .entry)) → j < rowLength → cell (now (mates .exit)) i j ≡ mateOf (now (needs .entry)) (now (interferers .entry)) (now (live .entry)) (now (r .entry)) i j)
-        × ((i p : ℕ) → i < length (now (needs .entry)) → p < width → cell (now (besides .exit)) i p ≡ besideFor (now (needs .entry)) (now (adds .entry)) (now (interferers .entry)) (now (live .entry)) (now (r .entry)) i p) ⌝ }
+        × ((i p : ℕ) → i < length (now (needs .entry)) → p < width → cell (now (besides .exit)) i p ≡ besideFor (now (needs .entry)) (now (adds .entry)) (now (dels .entry)) (now (interferers .entry)) (now (live .entry)) (now (r .entry)) i p) ⌝ }
 {
     for i in 0..needs.len() {
-        join_row(&mut *besides, i, r, r, width, 0);
+        keep_row(&mut *besides, i, r, wide(dels[i]), width);
         let at = i * ROW;
         let end = at + ROW;
-        few_action(
+        few_effect(
             i,
             needs,
             adds,
@@ -124,6 +136,7 @@ fn clear(words: &mut [u64], count: usize)
 pub fn few(
     needs: &[u32],
     adds: &[u32],
+    dels: &[u32],
     interferers: &[u64],
     live: &[u64],
     r: &[u64],
@@ -132,10 +145,21 @@ pub fn few(
     n: usize,
     width: usize,
 )
-    requires { ⌜ Fewing n width (now needs) (now adds) (now interferers) (now live) (now r) (now mates) (now besides) ⌝ }
+    requires { ⌜ Fewing n width (now needs) (now adds) (now dels) (now interferers) (now live) (now r) (now mates) (now besides) ⌝ }
     ensures { λ _. ⌜ ((i j : ℕ) → i < length (now (needs .entry)) → j < rowLength → cell (now (mates .exit)) i j ≡ mateOf (now (needs .entry)) (now (interferers .entry)) (now (live .entry)) (now (r .entry)) i j)
-        × ((i p : ℕ) → i < length (now (needs .entry)) → p < width → cell (now (besides .exit)) i p ≡ besideFor (now (needs .entry)) (now (adds .entry)) (now (interferers .entry)) (now (live .entry)) (now (r .entry)) i p) ⌝ }
+        × ((i p : ℕ) → i < length (now (needs .entry)) → p < width → cell (now (besides .exit)) i p ≡ besideFor (now (needs .entry)) (now (adds .entry)) (now (dels .entry)) (now (interferers .entry)) (now (live .entry)) (now (r .entry)) i p) ⌝ }
 {
     clear(&mut *mates, TABLE);
-    few_actions(needs, adds, interferers, live, r, mates, besides, n, width);
+    few_effects(
+        needs,
+        adds,
+        dels,
+        interferers,
+        live,
+        r,
+        mates,
+        besides,
+        n,
+        width,
+    );
 }

@@ -1,5 +1,6 @@
-// What is together: an action with a proposition, two actions; and which actions interfere. Over tables; nothing here knows of files or of a layer's words.
+// What is together: an effect with a proposition, two effects; and which effects interfere. Over tables; nothing here knows of files or of a layer's words.
 pub mod admit;
+pub mod cut;
 pub mod few;
 pub mod interference;
 pub mod pairs;

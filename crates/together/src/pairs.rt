@@ -1,4 +1,4 @@
-// What two actions are together in, all pairs row by row; and rows joined over the adders of each proposition.
+// What two effects are together in, all pairs row by row; and rows joined over the adders of each proposition.
 use words::parts::join_row;
 use words::parts::meet_row;
 use words::sets::wide;
@@ -10,9 +10,9 @@ ghost use lib.ListN.{length, getD};
 ghost use Rattle.rules.specs.Word.{union};
 ghost use Rattle.rules.specs.Over.{joinOf};
 ghost use Rattle.words.specs.Rows.{rowLength, cell};
-ghost use Rattle.together.specs.Cells.{Pairing, Joining, withAction};
+ghost use Rattle.together.specs.Cells.{Pairing, Joining, withEffect};
 
-// An action with itself is there where it is; with one that it interferes with nowhere.
+// An effect with itself is there where it is; with one that it interferes with nowhere.
 pub fn pairs(
     needs: &[u32],
     interferers: &[u64],
@@ -23,7 +23,7 @@ pub fn pairs(
     width: usize,
 )
     requires { ⌜ Pairing n width (now needs) (now interferers) (now live) (now turned) (now mates) ⌝ }
-    ensures { λ _. ⌜ ((i j : ℕ) → i < length (now (needs .entry)) → j < width → cell (now (mates .exit)) i j ≡ withAction (now (needs .entry)) (now (interferers .entry)) (now (live .entry)) (now (turned .entry)) i j) ⌝ }
+    ensures { λ _. ⌜ ((i j : ℕ) → i < length (now (needs .entry)) → j < width → cell (now (mates .exit)) i j ≡ withEffect (now (needs .entry)) (now (interferers .entry)) (now (live .entry)) (now (turned .entry)) i j) ⌝ }
 {
     for i in 0..needs.len() {
         meet_row(&mut *mates, i, live, live[i], turned, width, wide(needs[i]));

@@ -11,13 +11,13 @@ use lib.Bits.{and-mask}
 use lib.Count.{trailingZeros}
 use lib.ListN.{length, getD, set, length-set}
 use lib.Seq.{getD-set-same, getD-set-other}
-use Rattle.rules.specs.Test.{choose, same}
+use Rattle.rules.specs.Test.{_and_, fails, choose, same}
 use Rattle.rules.specs.Word.{bit, common, without, single, first}
 use Rattle.rules.specs.Lists.{listOver}
 use Rattle.rules.proofs.Layers.{length-listOver, getD-listOver, listOver-eq, list-append, which}
 use Rattle.rules.proofs.Overs.{below-suc}
-use Rattle.rules.proofs.Tests.{choose-held, choose-failed, holds-or, same-at, same-of, fails-at}
-use Rattle.rules.proofs.Words.{bit-zero, without-lt}
+use Rattle.rules.proofs.Tests.{choose-held, choose-failed, and-of, and-left, and-right, fails-of, fails-at, holds-or, test-eq, same-of, same-at}
+use Rattle.rules.proofs.Words.{bit-zero, no-bit-zero, without-lt}
 use Rattle.words.specs.Memory.{putAt}
 use Rattle.words.specs.Rows.{rowLength, partLength, tableLength, cell, Target, InParts}
 use Rattle.words.specs.Width.{wordWidth}
@@ -110,6 +110,10 @@ rows-put {f} {width} {i} {w} {w'} s h few e = rows-more s (ap length e ∙ row-l
     (λ j k l g. ap (λ (t : List ℕ). cell t j k) e ∙ cell-stays i width (f i) w (s .long) h few j k (omega arith) (λ q. omega arith))
     (λ k g. ap (λ (t : List ℕ). cell t i k) e ∙ cell-put i width (f i) w (s .long) h few k g)
 
+-- emptied or empty
+choose-zero : (b : Bool) → choose {A = ℕ} b 0 0 ≡ 0
+choose-zero b = ⊎-elim (λ t. choose-held 0 t) (λ t. choose-failed b 0 t) (holds-or b)
+
 -- ---- a loop that empties the cells of a row that a set names: what is still to be done gives what is to be done at first
 
 -- the table with these cells of a row emptied
@@ -154,9 +158,6 @@ clears-more {row} {set₀} {left} {left'} {q} {at} {w₀} {w} s whole h some e e
           (omega (arith, length-listOver rowLength (λ k. choose (bit k left) 0 (getD w (base + k) 0))))
           ∙ s .is;
     }
-  where
-    choose-zero : (b : Bool) → choose {A = ℕ} b 0 0 ≡ 0
-    choose-zero b = ⊎-elim (λ t. choose-held 0 t) (λ t. choose-failed b 0 t) (holds-or b)
 
 pub clears-done : {row set₀ left : ℕ} {w₀ w : List ℕ} → Clears row set₀ w₀ left w → length w₀ ≡ tableLength → row < rowLength → left ≤ 0
     → w ≡ putAt (row * rowLength) (listOver rowLength (λ k. choose (bit k set₀) 0 (cell w₀ row k))) w₀
@@ -167,3 +168,49 @@ clears-done {row} {set₀} {left} {w₀} {w} s whole h none =
     ∙ ap (λ (l : List ℕ). putAt (row * rowLength) l w) (listOver-eq (λ k l.
     ap (λ (b : Bool). choose b 0 (getD w (row * rowLength + k) 0)) (sym (ap (bit k) e ∙ bit-zero k))))
     ∙ s .is
+
+-- ---- the same of the rows of a column: word by word
+
+pub record ColumnClears (column set₀ : ℕ) (w₀ : List ℕ) (left : ℕ) (w : List ℕ) : Type 0 where
+  pub inside : left < 2 ^ rowLength
+  pub long : length w ≡ length w₀
+  pub is : (p q : ℕ) → q < rowLength → choose (same q column and bit p left) 0 (cell w p q) ≡ choose (same q column and bit p set₀) 0 (cell w₀ p q)
+
+pub column-none : {column set : ℕ} {w : List ℕ} → set < 2 ^ rowLength → ColumnClears column set w set w
+column-none h = record { inside = h; long = refl; is = λ p q h. refl }
+
+pub column-more : {column set₀ left left' row at : ℕ} {w₀ w : List ℕ} → ColumnClears column set₀ w₀ left w → length w₀ ≡ tableLength → column < rowLength
+    → 0 < left → row ≡ trailingZeros wordWidth left → at ≡ row * rowLength + column → left' ≡ without left (single (trailingZeros wordWidth left))
+    → ColumnClears column set₀ w₀ left' (set w at 0)
+unfolding cell
+column-more {column} {set₀} {left} {left'} {row} {at} {w₀} {w} s whole h some e ea g =
+    let low : row < rowLength = omega (arith, lowest-lt rowLength left (omega arith) (s .inside) some) in
+    let in-left : So (bit row left) = ap (λ (x : ℕ). bit x left) e ∙ lowest-in rowLength left (omega arith) (s .inside) some in
+    let g' : left' ≡ without left (single row) = g ∙ ap (λ (x : ℕ). without left (single x)) (sym e) in
+    record {
+      inside = subst (λ (x : ℕ). x < 2 ^ rowLength) (sym g) (without-lt rowLength _ (s .inside));
+      long = length-set w at 0 ∙ s .long;
+      is = λ p q l. ⊎-elim
+          (λ u.
+          let here : p * rowLength + q ≡ at = omega (arith, same-at (and-left _ u), same-at (and-right _ u)) in
+          ap (choose (same q column and bit p left') 0) (ap (λ (x : ℕ). getD (set w at 0) x 0) here ∙ getD-set-same w at 0 0 (omega (arith, s .long)))
+          ∙ choose-zero (same q column and bit p left')
+          ∙ sym (choose-held (getD w (p * rowLength + q) 0) (and-of (and-left _ u) (ap (λ (x : ℕ). bit x left) (same-at (and-right _ u)) ∙ in-left)))
+          ∙ s .is p q l)
+          (λ u. ap₂ (λ (b : Bool) (x : ℕ). choose b 0 x) (elsewhere p q g' u)
+          (getD-set-other w at (p * rowLength + q) 0 0 (λ r. fails-at u (and-of (same-of (omega arith)) (same-of (omega arith)))))
+          ∙ s .is p q l)
+          (holds-or (same q column and same p row));
+    }
+  where
+    elsewhere : (p q : ℕ) → left' ≡ without left (single row) → So (fails (same q column and same p row))
+        → (same q column and bit p left') ≡ (same q column and bit p left)
+    elsewhere p q d u = test-eq
+        (λ t. and-of (and-left _ t) (and-left _ (sym (bit-left p row left left' d) ∙ and-right _ t)))
+        (λ t. and-of (and-left _ t) (bit-left p row left left' d ∙ and-of (and-right _ t) (fails-of (λ x. fails-at u (and-of (and-left _ t) x)))))
+
+pub column-done : {column set₀ left : ℕ} {w₀ w : List ℕ} → ColumnClears column set₀ w₀ left w → left ≤ 0
+    → (p q : ℕ) → q < rowLength → cell w p q ≡ choose (same q column and bit p set₀) 0 (cell w₀ p q)
+column-done {column} {set₀} {left} {w₀} {w} s none p q l =
+    let e : left ≡ 0 = omega arith in
+    sym (choose-failed (same q column and bit p left) 0 (fails-of (λ t. no-bit-zero p (ap (bit p) (sym e) ∙ and-right _ t)))) ∙ s .is p q l

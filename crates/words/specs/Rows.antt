@@ -36,7 +36,7 @@ pub record Source (table : List ℕ) (named : ℕ) : Type 0 where
 abbrev pub InParts : ℕ → Type 0
 InParts width = (width ≡ partLength) ⊎ (width ≡ rowLength)
 
--- of each of n propositions the numbers of the sets that contain it: of the actions' adds the adders
+-- of each of n propositions the numbers of the sets that contain it: of the effects' adds the adders
 unfoldable pub columnsOf : ℕ → List ℕ → List ℕ
 columnsOf n sets = listOver n (startLabel (length sets) (λ i. getD sets i 0))
 

@@ -30,7 +30,7 @@ pub fn spread(row: &mut [u64], set: Props, t: u64)
     }
 }
 
-// Turns the sets round, into a row of empty words: of the actions' adds these are the adders of each proposition.
+// Turns the sets round, into a row of empty words: of the effects' adds these are the adders of each proposition.
 pub fn columns(row: &mut [u64], sets: &[u32])
     requires { ⌜ (length (now row) ≤ propWidth) × (length (now sets) ≤ wordWidth) × (now row ≡ listOver (length (now row)) (λ p. 0)) ⌝ }
     ensures { λ r. ⌜ now (row .exit) ≡ columnsOf (length (now (row .entry))) (now (sets .entry)) ⌝ }

@@ -5,7 +5,7 @@ ghost use mathlib.Core.Path.{_≡_};
 ghost use Prim.Native.Nat.{ℕ, _+_, _*_, _≤_, _<_, _^_};
 ghost use lib.Bits.{bitXor};
 ghost use lib.ListN.{length, getD};
-ghost use Rattle.rules.specs.Test.{choose};
+ghost use Rattle.rules.specs.Test.{_and_, same, choose};
 ghost use Rattle.rules.specs.Word.{bit, common, union, without};
 ghost use Rattle.rules.specs.Over.{joinOver};
 ghost use Rattle.rules.specs.Lists.{listOver};
@@ -45,6 +45,18 @@ pub fn clear_cells(table: &mut [u64], row: usize, set: u64)
     let mut left = set;
     while 0 < left {
         table[row * ROW + lowest(left)] = 0;
+        left = others(left);
+    }
+}
+
+// Empties the word in a column of those rows that a set names.
+pub fn clear_column(table: &mut [u64], column: usize, set: u64)
+    requires { ⌜ (length (now table) ≡ tableLength) × (column < rowLength) × (set < 2 ^ rowLength) ⌝ }
+    ensures { λ r. ⌜ ((p q : ℕ) → q < rowLength → cell (now (table .exit)) p q ≡ choose (same q column and bit p set) 0 (cell (now (table .entry)) p q)) ⌝ }
+{
+    let mut left = set;
+    while 0 < left {
+        table[lowest(left) * ROW + column] = 0;
         left = others(left);
     }
 }

@@ -13,19 +13,19 @@ use Rattle.together.proofs.Rows.{parts-le}
 use Rattle.graph.specs.Format.{startOf}
 use Rattle.graph.specs.Checks.{Small}
 use Rattle.graph.proofs.Ladder.{small-of}
-use Rattle.build.proofs.Listings.{wide-for, deletes-inside, adders-inside, interferers-inside, adds-same, dels-same, adders-count, interferers-same, steps-fit}
+use Rattle.build.proofs.Listings.{wide-for, adders-inside, interferers-inside, adds-same, dels-same, adders-count, interferers-same, steps-fit}
 use Rattle.build.proofs.Whole.{graph-made}
 use Rattle.build.proofs.build_in.Statement.{statement}
 use Rattle.build.proofs.build_in.Tie as tie
 
 -- the places that are read, each from a later one
 abbrev entry : tie.After-read-problem → tie.Start
-entry c = c .before .before .before .before .before .before .before .before .before .before .before .before .before .before .before .before .before .before .before .before
+entry c = c .before .before .before .before .before .before .before .before .before .before .before .before .before .before .before .before .before .before .before .before .before .before
 
-abbrev problem : tie.After-read-labels → tie.After-read-problem
-problem c = c .before .before .before .before .before .before .before .before .before .before .before .before
+abbrev problem : tie.After-start-labels → tie.After-read-problem
+problem c = c .before .before .before .before .before .before .before .before .before .before .before .before .before .before
 
-abbrev labels : tie.After-width-for → tie.After-read-labels
+abbrev labels : tie.After-width-for → tie.After-start-labels
 labels c = c .before .before .before
 
 abbrev wide : tie.After-start → tie.After-width-for
@@ -34,24 +34,28 @@ wide c = c .before .before .before .before .before
 abbrev begun : tie.After-steps-until → tie.After-start
 begun c = c .before .before .before .before .before .before .before .before .before .before .before .before .before .before .before .before .before .before .before .before
 
-abbrev made : tie.After-slice-known30 → tie.After-steps-until
+abbrev made : tie.After-slice-known32 → tie.After-steps-until
 made c = c .before .before .before .before .before .before .before .before .before .before .before .before .before .before .before .before .before .before .before .before .before
 
 -- the labels of layer 0 are a row
-labels-long : (c : tie.After-read-labels) → length (c .read-labels .last .1 .1 .0) ≡ rowLength
+labels-long : (c : tie.After-start-labels) → length (c .start-labels .last .1 .1 .0) ≡ rowLength
 labels-long c = let a = entry (problem c) .args in
-    ap length (c .read-labels .ensures) ∙ length-listOver rowLength (startLabel (a .c .states) (startOf (a .file .now) (a .c)))
+    ap length (c .start-labels .ensures) ∙ length-listOver rowLength (startLabel (a .c .states) (startOf (a .file .now) (a .c)))
 
 -- the steps have room
 fits : (c : tie.After-read-problem) → size (entry c .args .c .props) ≤ length (entry c .args .words .now)
 fits c = let start = entry c in
-    omega (arith, steps-fit (start .args .file .now) (start .args .c) _ _ _ _ _ (start .pre .0 .0) (c .read-problem .ensures) (start .args .depth) _ (start .pre .0 .2))
+    omega (
+      arith,
+      steps-fit (start .args .file .now) (start .args .c) _ _ _ _ _ _ (start .pre .0 .0) (c .read-problem .ensures)
+          (start .args .depth) _ (start .pre .0 .2),
+    )
 
 read-problem-requires : tie.Need-read-problem-requires
 read-problem-requires c κs = search needs
 
-read-labels-requires : tie.Need-read-labels-requires
-read-labels-requires c κs = search needs
+start-labels-requires : tie.Need-start-labels-requires
+start-labels-requires c κs = search needs
 
 width-for-requires : tie.Need-width-for-requires
 width-for-requires c κs = entry (problem (c .before .before)) .pre .0 .0 .ranged
@@ -75,10 +79,10 @@ many-pairs-requires c κs =
     let w = at-width .width-for .ensures in (
       omega (
         arith,
-        interferers-same (start .args .file .now) (start .args .c) _ _ _ _ _ (start .pre .0 .0) (read .read-problem .ensures),
+        interferers-same (start .args .file .now) (start .args .c) _ _ _ _ _ _ (start .pre .0 .0) (read .read-problem .ensures),
         w .2,
         parts-le (w .0),
-        wide-for (start .args .file .now) (start .args .c) _ _ _ _ _ (start .pre .0 .0) (read .read-problem .ensures) _ (w .0) (w .1) (w .2) .actions,
+        wide-for (start .args .file .now) (start .args .c) _ _ _ _ _ _ (start .pre .0 .0) (read .read-problem .ensures) _ (w .0) (w .1) (w .2) .effects,
       ),
       parts-le (w .0),
     )
@@ -94,24 +98,28 @@ steps-until-requires c κs =
     let w = at-width .width-for .ensures in
     record {
       mating = record {
-        wide = wide-for (start .args .file .now) (start .args .c) _ _ _ _ _ (start .pre .0 .0) is _ (w .0) (w .1) (w .2);
-        adds-long = adds-same (start .args .file .now) (start .args .c) _ _ _ _ _ (start .pre .0 .0) is;
-        adders-long = adders-count (start .args .file .now) (start .args .c) _ _ _ _ _ (start .pre .0 .0) is;
-        adders-inside = adders-inside (start .args .file .now) (start .args .c) _ _ _ _ _ (start .pre .0 .0) is;
-        interferers-long = interferers-same (start .args .file .now) (start .args .c) _ _ _ _ _ (start .pre .0 .0) is;
-        interferers-inside = interferers-inside (start .args .file .now) (start .args .c) _ _ _ _ _ (start .pre .0 .0) is;
+        wide = wide-for (start .args .file .now) (start .args .c) _ _ _ _ _ _ (start .pre .0 .0) is _ (w .0) (w .1) (w .2);
+        adds-long = adds-same (start .args .file .now) (start .args .c) _ _ _ _ _ _ (start .pre .0 .0) is;
+        dels-long = dels-same (start .args .file .now) (start .args .c) _ _ _ _ _ _ (start .pre .0 .0) is;
+        adders-long = adders-count (start .args .file .now) (start .args .c) _ _ _ _ _ _ (start .pre .0 .0) is;
+        adders-inside = adders-inside (start .args .file .now) (start .args .c) _ _ _ _ _ _ (start .pre .0 .0) is;
+        interferers-long = interferers-same (start .args .file .now) (start .args .c) _ _ _ _ _ _ (start .pre .0 .0) is;
+        interferers-inside = interferers-inside (start .args .file .now) (start .args .c) _ _ _ _ _ _ (start .pre .0 .0) is;
         live-long = rooms .live-long;
         r-long = rooms .r-long;
         mates-long = rooms .mates-long;
         besides-long = rooms .besides-long;
         spare-long = rooms .spare-long;
       };
-      dels-long = dels-same (start .args .file .now) (start .args .c) _ _ _ _ _ (start .pre .0 .0) is;
-      deletes = deletes-inside (start .args .file .now) (start .args .c) _ _ _ _ _ (start .pre .0 .0) is;
       labels-long = labels-long (labels at-width);
       t-long = at-start .start .kept .1 .0 ∙ rooms .t-long;
       deep = start .pre .0 .1;
-      fits = omega (arith, steps-fit (start .args .file .now) (start .args .c) _ _ _ _ _ (start .pre .0 .0) is (start .args .depth) _ (start .pre .0 .2), at-start .start .kept .0);
+      fits = omega (
+        arith,
+        steps-fit (start .args .file .now) (start .args .c) _ _ _ _ _ _ (start .pre .0 .0) is (start .args .depth) _
+            (start .pre .0 .2),
+        at-start .start .kept .0,
+      );
     }
 
 shape-requires : tie.Need-shape-requires
@@ -149,17 +157,17 @@ same-length-6 : tie.Need-same-length-6
 same-length-6 c = problem (labels (wide (begun (made c)))) .read-problem .kept .1 .1 .1 .1 .1 .1 .0
 
 same-length-7 : tie.Need-same-length-7
-same-length-7 c = let steps = made c in
-    steps .steps-until .kept .1 .1 .1 .1 .1 .1 .1 .1 .1 .1 .1 .0 ∙ labels (wide (begun steps)) .read-labels .kept .1 .1 .0
+same-length-7 c = problem (labels (wide (begun (made c)))) .read-problem .kept .1 .1 .1 .1 .1 .1 .1 .0
 
 same-length-8 : tie.Need-same-length-8
-same-length-8 c = search needs
+same-length-8 c = let steps = made c in
+    steps .steps-until .kept .1 .1 .1 .1 .1 .1 .1 .1 .1 .1 .1 .0 ∙ labels (wide (begun steps)) .start-labels .kept .1 .1 .0
 
 same-length-9 : tie.Need-same-length-9
-same-length-9 c = let steps = made c in steps .steps-until .kept .1 .1 .1 .1 .1 .1 .1 .1 .1 .1 .1 .1 .1 .0 ∙ begun steps .start .kept .1 .0
+same-length-9 c = search needs
 
 same-length-10 : tie.Need-same-length-10
-same-length-10 c = search needs
+same-length-10 c = let steps = made c in steps .steps-until .kept .1 .1 .1 .1 .1 .1 .1 .1 .1 .1 .1 .1 .1 .0 ∙ begun steps .start .kept .1 .0
 
 same-length-11 : tie.Need-same-length-11
 same-length-11 c = search needs
@@ -170,6 +178,9 @@ same-length-12 c = search needs
 same-length-13 : tie.Need-same-length-13
 same-length-13 c = search needs
 
+same-length-14 : tie.Need-same-length-14
+same-length-14 c = search needs
+
 returns : tie.Need-returns
 returns c =
     let steps = made c in
@@ -179,7 +190,7 @@ returns c =
     let start = entry read in
     let did = at-start .start in
     graph-made (start .pre .0 .0) (read .read-problem .ensures) _ _ _ _ _ _ (start .args .words .now) _ _ _ (start .pre .0 .2) (steps .before .before .before .before .before .before .before .before .before .first .ensures)
-    (c .before .before .before .shape .ensures) (at-labels .read-labels .ensures) (did .kept .0) (did .ensures .0) (did .ensures .1) (did .ensures .2)
+    (c .before .before .before .shape .ensures) (at-labels .start-labels .ensures) (did .kept .0) (did .ensures .0) (did .ensures .1) (did .ensures .2)
     (steps .steps-until .ensures .2) (c .before .before .copy-rest .ensures)
 
 pub build-in-spec : {M : Type 1} → statement M
@@ -187,7 +198,7 @@ build-in-spec =
     tie.close
     (tie.spec
     read-problem-requires
-    read-labels-requires
+    start-labels-requires
     width-for-requires
     start-requires
     first-requires
@@ -208,4 +219,5 @@ build-in-spec =
     same-length-11
     same-length-12
     same-length-13
+    same-length-14
     returns)

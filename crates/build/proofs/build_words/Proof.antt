@@ -28,20 +28,23 @@ array-borrow-prefix-dels c = search needs
 slice-aggregate-build-in-3 : tie.Need-slice-aggregate-build-in-3
 slice-aggregate-build-in-3 c = sym (length-take-le _ _ (omega arith))
 
-array-borrow-prefix-adders : tie.Need-array-borrow-prefix-adders
-array-borrow-prefix-adders c = search needs
+array-borrow-prefix-owners : tie.Need-array-borrow-prefix-owners
+array-borrow-prefix-owners c = search needs
 
 slice-aggregate-build-in-4 : tie.Need-slice-aggregate-build-in-4
 slice-aggregate-build-in-4 c = sym (length-take-le _ _ (omega arith))
 
-array-borrow-prefix-interferers : tie.Need-array-borrow-prefix-interferers
-array-borrow-prefix-interferers c = search needs
+array-borrow-prefix-adders : tie.Need-array-borrow-prefix-adders
+array-borrow-prefix-adders c = search needs
 
 slice-aggregate-build-in-5 : tie.Need-slice-aggregate-build-in-5
 slice-aggregate-build-in-5 c = sym (length-take-le _ _ (omega arith))
 
+array-borrow-prefix-interferers : tie.Need-array-borrow-prefix-interferers
+array-borrow-prefix-interferers c = search needs
+
 slice-aggregate-build-in-6 : tie.Need-slice-aggregate-build-in-6
-slice-aggregate-build-in-6 c = search needs
+slice-aggregate-build-in-6 c = sym (length-take-le _ _ (omega arith))
 
 slice-aggregate-build-in-7 : tie.Need-slice-aggregate-build-in-7
 slice-aggregate-build-in-7 c = search needs
@@ -61,8 +64,11 @@ slice-aggregate-build-in-11 c = search needs
 slice-aggregate-build-in-12 : tie.Need-slice-aggregate-build-in-12
 slice-aggregate-build-in-12 c = search needs
 
+slice-aggregate-build-in-13 : tie.Need-slice-aggregate-build-in-13
+slice-aggregate-build-in-13 c = search needs
+
 build-in-requires : tie.Need-build-in-requires
-build-in-requires c κs = let start = c .before .before .before .before .before .before .before .before .before .before .before .before .before .before .before in
+build-in-requires c κs = let start = c .before .before .before .before .before .before .before .before .before .before .before .before .before .before .before .before in
     let few = length-take-le {A = ℕ} (start .args .c .props) (replicate 32 0) (start .pre .0 .ranged .props) in (
       start .pre,
       record {
@@ -70,6 +76,7 @@ build-in-requires c κs = let start = c .before .before .before .before .before 
           needs-long = length-take-le _ _ (omega arith);
           adds-long = length-take-le _ _ (omega arith);
           dels-long = length-take-le _ _ (omega arith);
+          owners-long = length-take-le _ _ (omega arith);
           adders-long = few;
           interferers-long = length-take-le _ _ (omega arith);
           no-adders = zeros (start .args .c .props) 32 (start .pre .0 .ranged .props) ∙ ap (λ (x : ℕ). listOver x (λ p. 0)) (sym few);
@@ -85,7 +92,7 @@ build-in-requires c κs = let start = c .before .before .before .before .before 
     )
 
 same-length : tie.Need-same-length
-same-length c = c .before .before .before .before .before .before .before .before .before .before .before .before .before .before .build-in .kept .1 .1 .1 .0
+same-length c = c .before .before .before .before .before .before .before .before .before .before .before .before .before .before .before .build-in .kept .1 .1 .1 .0
 
 returns : tie.Need-returns
 returns c = search needs
@@ -100,10 +107,11 @@ build-words-spec =
     slice-aggregate-build-in-2
     array-borrow-prefix-dels
     slice-aggregate-build-in-3
-    array-borrow-prefix-adders
+    array-borrow-prefix-owners
     slice-aggregate-build-in-4
-    array-borrow-prefix-interferers
+    array-borrow-prefix-adders
     slice-aggregate-build-in-5
+    array-borrow-prefix-interferers
     slice-aggregate-build-in-6
     slice-aggregate-build-in-7
     slice-aggregate-build-in-8
@@ -111,6 +119,7 @@ build-words-spec =
     slice-aggregate-build-in-10
     slice-aggregate-build-in-11
     slice-aggregate-build-in-12
+    slice-aggregate-build-in-13
     build-in-requires
     same-length
     returns)

@@ -56,35 +56,42 @@ array-borrow-prefix-needs : tie.Need-array-borrow-prefix-needs
 array-borrow-prefix-needs c = search needs
 
 slice-aggregate-plan-in : tie.Need-slice-aggregate-plan-in
-slice-aggregate-plan-in c = sym (length-take-le _ _ (omega (arith, (to-start (c .before)) .pre .0 .ranged .actions)))
+slice-aggregate-plan-in c = sym (length-take-le _ _ (omega (arith, (to-start (c .before)) .pre .0 .ranged .effects)))
+
+array-borrow-prefix-owners : tie.Need-array-borrow-prefix-owners
+array-borrow-prefix-owners c = search needs
+
+slice-aggregate-plan-in-2 : tie.Need-slice-aggregate-plan-in-2
+slice-aggregate-plan-in-2 c = sym (length-take-le _ _ (omega (arith, (to-start (c .before .before)) .pre .0 .ranged .effects)))
 
 array-borrow-prefix-adders : tie.Need-array-borrow-prefix-adders
 array-borrow-prefix-adders c = search needs
 
-slice-aggregate-plan-in-2 : tie.Need-slice-aggregate-plan-in-2
-slice-aggregate-plan-in-2 c = sym (length-take-le _ _ (omega (arith, (to-start (c .before .before)) .pre .0 .ranged .props)))
+slice-aggregate-plan-in-3 : tie.Need-slice-aggregate-plan-in-3
+slice-aggregate-plan-in-3 c = sym (length-take-le _ _ (omega (arith, (to-start (c .before .before .before)) .pre .0 .ranged .props)))
 
 array-borrow-prefix-needed : tie.Need-array-borrow-prefix-needed
 array-borrow-prefix-needed c = search needs
 
-slice-aggregate-plan-in-3 : tie.Need-slice-aggregate-plan-in-3
-slice-aggregate-plan-in-3 c = sym (length-take-le _ _ (omega (arith, (to-start (c .before .before .before)) .pre .0 .ranged .props)))
+slice-aggregate-plan-in-4 : tie.Need-slice-aggregate-plan-in-4
+slice-aggregate-plan-in-4 c = sym (length-take-le _ _ (omega (arith, (to-start (c .before .before .before .before)) .pre .0 .ranged .props)))
 
 array-borrow-prefix-plan : tie.Need-array-borrow-prefix-plan
 array-borrow-prefix-plan c = search needs
 
-slice-aggregate-plan-in-4 : tie.Need-slice-aggregate-plan-in-4
-slice-aggregate-plan-in-4 c = sym (long (c .before .before .before .before))
+slice-aggregate-plan-in-5 : tie.Need-slice-aggregate-plan-in-5
+slice-aggregate-plan-in-5 c = sym (long (c .before .before .before .before .before))
 
 plan-in-requires : tie.Need-plan-in-requires
 plan-in-requires c κs =
-    let start = to-start (c .before .before .before .before .before) in
-    let at-if1 = (c .before .before .before .before .before) in (
+    let at-if1 = c .before .before .before .before .before .before in
+    let start = to-start at-if1 in (
       start .pre .0,
       record {
         room = room-deep _ (long at-if1) (fewer (start .pre .1) _ (at-if1 .if1 .left));
         goal-in = start .pre .2;
-        each-action = length-take-le _ _ (omega (arith, start .pre .0 .ranged .actions));
+        each-need = length-take-le _ _ (omega (arith, start .pre .0 .ranged .effects));
+        each-owner = length-take-le _ _ (omega (arith, start .pre .0 .ranged .effects));
         each-prop = zeros _ propWidth (start .pre .0 .ranged .props);
         nothing = zeros _ propWidth (start .pre .0 .ranged .props);
         fits = le-trans (le-of-eq (long at-if1)) (le-trans (at-if1 .if1 .left) (start .pre .3));
@@ -97,14 +104,14 @@ same-length c = search needs
 returns-2 : tie.Need-returns-2
 unfolding actionsOf
 returns-2 c =
-    let at-if1 = c .before .before .before .before .before .before .before .before .before .before .before .before in
-    let a = (to-start (c .before .before .before .before .before .before .before .before .before .before .before .before)) .args in
+    let at-if1 = c .before .before .before .before .before .before .before .before .before .before .before .before .before .before in
+    let a = (to-start at-if1) .args in
     equal-rule (a .out .now) _ _
     (ap (plannedVerdict (a .depth))
     (ap (λ (x : ℕ). descend (actionsOf (a .file .now) (a .c)) (a .words .now) x (listOver (a .c .props) (λ p. keep (bit p (a .goal .0)) (a .set .0))) [])
     (long at-if1)
     ∙ at-level (actionsOf (a .file .now) (a .c)) (a .depth) (a .set .0) (a .goal .0) (a .words .now) _ (met (at-if1 .before)) (at-if1 .if1 .left)))
-    (c .before .before .before .before .before .before .plan-in .ensures (a .depth))
+    (c .before .before .before .before .before .before .before .plan-in .ensures (a .depth))
 
 pub plan-over-spec : {M : Type 1} → statement M
 plan-over-spec =
@@ -115,12 +122,14 @@ plan-over-spec =
     returns
     array-borrow-prefix-needs
     slice-aggregate-plan-in
-    array-borrow-prefix-adders
+    array-borrow-prefix-owners
     slice-aggregate-plan-in-2
-    array-borrow-prefix-needed
+    array-borrow-prefix-adders
     slice-aggregate-plan-in-3
-    array-borrow-prefix-plan
+    array-borrow-prefix-needed
     slice-aggregate-plan-in-4
+    array-borrow-prefix-plan
+    slice-aggregate-plan-in-5
     plan-in-requires
     same-length
     returns-2)

@@ -14,7 +14,7 @@ abbrev μ-loop : tie.MeasureT-loop
 μ-loop file c spares₀ stays₀ pluses₀ a₀ a-end spares stays pluses a = length spares₀ - a
 
 loop-holds : tie.Need-loop-holds Inv-loop μ-loop
-loop-holds c = let p = c .before .before .before .before .pre in told-none (p .0) (p .1 .spare) (p .1 .stay) (p .1 .plus)
+loop-holds c = let p = c .before .before .before .before .pre in told-none (p .0) (p .1) (p .2 .spare) (p .2 .stay) (p .2 .plus)
 
 first-requires : tie.Need-first-requires Inv-loop μ-loop
 first-requires c κs = omega arith
@@ -22,7 +22,7 @@ first-requires c κs = omega arith
 deleted-requires : tie.Need-deleted-requires Inv-loop μ-loop
 deleted-requires c κs =
     let at-loop = c .before .before in
-    (at-loop .loop .inv .taken, omega (arith, at-loop .loop .inv .all))
+    (at-loop .loop .inv .taken, omega (arith, at-loop .loop .inv .all, at-loop .loop .inv .own))
 
 precondition-requires : tie.Need-precondition-requires Inv-loop μ-loop
 precondition-requires c κs =
@@ -54,7 +54,7 @@ slice-write-stays c =
 added-requires : tie.Need-added-requires Inv-loop μ-loop
 added-requires c κs =
     let at-loop = c .before .before .before .before .before .before in
-    (at-loop .loop .inv .taken, omega (arith, at-loop .loop .inv .all))
+    (at-loop .loop .inv .taken, omega (arith, at-loop .loop .inv .all, at-loop .loop .inv .own))
 
 without-requires-3 : tie.Need-without-requires-3 Inv-loop μ-loop
 without-requires-3 c κs = tt
@@ -95,7 +95,7 @@ same-length-3 c = c .before .loop .inv .plus .long
 returns : tie.Need-returns Inv-loop μ-loop
 returns c = let p = c .before .before .before .before .before .before .pre in
     let t = c .before .loop .inv in
-    (list-whole (t .spare) (omega arith) (p .1 .spare), list-whole (t .stay) (omega arith) (p .1 .stay), list-whole (t .plus) (omega arith) (p .1 .plus))
+    (list-whole (t .spare) (omega arith) (p .2 .spare), list-whole (t .stay) (omega arith) (p .2 .stay), list-whole (t .plus) (omega arith) (p .2 .plus))
 
 pub read-steps-spec : {M : Type 1} → statement M
 read-steps-spec =

@@ -7,7 +7,8 @@ use lib.ListN.{length}
 use Rattle.graph.proofs.Verdicts.{laid-refused, laid-accepted}
 use Rattle.run.specs.Run.{ranVerdict, endRule}
 use Rattle.run.proofs.Courses.{sets-length}
-use Rattle.run.proofs.Steps.{Running, run-none, run-tables, run-on, run-off, run-done, part-end, narrow-of}
+use Rattle.run.proofs.Runs.{narrow-of}
+use Rattle.run.proofs.Steps.{Running, run-none, run-tables, run-on, run-off, run-done, part-end}
 use Rattle.run.proofs.run_in.Statement.{statement}
 use Rattle.run.proofs.run_in.Tie as tie
 
@@ -40,7 +41,7 @@ abbrev to-walk : tie.After-find-missing Inv-loop μ-loop → tie.After-walk Inv-
 to-walk c = c .before .before .before .before .before .before .before .before .before
 
 read-steps-requires : tie.Need-read-steps-requires Inv-loop μ-loop
-read-steps-requires c κs = let p = (to-start c) .pre in (p .0 .taken, p .1)
+read-steps-requires c κs = let p = (to-start c) .pre in (p .0 .taken, p .1, p .2)
 
 shared-start-requires : tie.Need-shared-start-requires Inv-loop μ-loop
 shared-start-requires c κs = let p = (to-start (to-read-steps-arg3 (c .before .before .before .before .before .before))) .pre .0 in (p .taken, p .some)
@@ -49,8 +50,10 @@ new-requires : tie.Need-new-requires Inv-loop μ-loop
 new-requires c κs = tt
 
 loop-holds : tie.Need-loop-holds Inv-loop μ-loop
-loop-holds c = let p = (to-start (to-read-steps-arg3 (c .before .before .before .before .before .before .before .before))) .pre .0 in
-    run-none (p .taken) (p .some) (p .known) (p .fits) ((c .before .before .before .before .before .before .before .before) .read-steps .ensures) (c .new .ensures .0) (c .new .ensures .1 ∙ c .before .shared-start .ensures)
+loop-holds c =
+    let start = to-start (to-read-steps-arg3 (c .before .before .before .before .before .before .before .before)) in
+    let p = start .pre .0 in
+    run-none (p .taken) (start .pre .1) (p .some) (p .known) (p .fits) ((c .before .before .before .before .before .before .before .before) .read-steps .ensures) (c .new .ensures .0) (c .new .ensures .1 ∙ c .before .shared-start .ensures)
 
 block-end-requires : tie.Need-block-end-requires Inv-loop μ-loop
 block-end-requires c κs = c .loop-test .taken

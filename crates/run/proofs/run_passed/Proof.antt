@@ -1,51 +1,55 @@
--- The memory lent has room for the words of each action.
+-- Without a step the start sets are the end sets; else each version has its own way.
 use mathlib.Core.Path.{sym}
-use native.Mathlib.Omega.{arith}
-use lib.Seq.{length-take-le}
+use Rattle.rules.proofs.Tests.{same-of}
+use Rattle.rules.proofs.Layers.{length-listOver}
+use Rattle.graph.proofs.Verdicts.{laid-accepted}
+use Rattle.run.proofs.Built.{no-steps}
 use borrow.Author.Needs.{needs}
 use Rattle.run.proofs.run_passed.Statement.{statement}
 use Rattle.run.proofs.run_passed.Tie as tie
+use Rattle.run.proofs.run_passed.Reads as reads
+use Rattle.run.proofs.run_passed.Lts as lts
+use Rattle.run.proofs.lay_starts.Reads as lay-starts-reads
+use Rattle.run.proofs.run_effects.Reads as run-effects-reads
+use Rattle.run.proofs.run_plain.Reads as run-plain-reads
 
-array-borrow-prefix-spares : tie.Need-array-borrow-prefix-spares
-array-borrow-prefix-spares c = search needs
-
-slice-aggregate-run-in : tie.Need-slice-aggregate-run-in
-slice-aggregate-run-in c = sym (length-take-le _ _ (omega (arith, c .before .before .before .before .pre .taken .ranged .actions)))
-
-array-borrow-prefix-stays : tie.Need-array-borrow-prefix-stays
-array-borrow-prefix-stays c = search needs
-
-slice-aggregate-run-in-2 : tie.Need-slice-aggregate-run-in-2
-slice-aggregate-run-in-2 c = sym (length-take-le _ _ (omega (arith, c .before .before .before .before .before .pre .taken .ranged .actions)))
-
-array-borrow-prefix-pluses : tie.Need-array-borrow-prefix-pluses
-array-borrow-prefix-pluses c = search needs
-
-slice-aggregate-run-in-3 : tie.Need-slice-aggregate-run-in-3
-slice-aggregate-run-in-3 c = sym (length-take-le _ _ (omega (arith, c .before .before .before .before .before .before .pre .taken .ranged .actions)))
-
-run-in-requires : tie.Need-run-in-requires
-run-in-requires c κs =
-    let p = c .before .before .before .before .before .before .before .pre in
-    let few = p .taken .ranged .actions in
-    (p, record { spare = length-take-le _ _ (omega arith); stay = length-take-le _ _ (omega arith); plus = length-take-le _ _ (omega arith) })
+lay-starts-requires : tie.Need-lay-starts-requires
+lay-starts-requires c κs = search needs
 
 same-length : tie.Need-same-length
 same-length c = search needs
 
 returns : tie.Need-returns
-returns c = search needs
+returns c = let s = c .before .before .before .before .before .before .before .before in laid-accepted _ _ _ _ _ (no-steps (s .args .file .now) (s .args .c) (s .args .set .0) (s .args .list .now) (c .before .before .before .before .if1 .taken)) (sym (length-listOver _ _)) (c .before .before .lay-starts .ensures)
+
+run-plain-requires : tie.Need-run-plain-requires
+run-plain-requires c κs = (c .before .before .before .before .before .before .before .pre, same-of (c .before .if2 .taken))
+
+same-length-2 : tie.Need-same-length-2
+same-length-2 c = search needs
+
+returns-2 : tie.Need-returns-2
+returns-2 c = search needs
+
+run-effects-requires : tie.Need-run-effects-requires
+run-effects-requires c κs = search needs
+
+same-length-3 : tie.Need-same-length-3
+same-length-3 c = search needs
+
+returns-3 : tie.Need-returns-3
+returns-3 c = search needs
 
 pub run-passed-spec : {M : Type 1} → statement M
 run-passed-spec =
     tie.close
     (tie.spec
-    array-borrow-prefix-spares
-    slice-aggregate-run-in
-    array-borrow-prefix-stays
-    slice-aggregate-run-in-2
-    array-borrow-prefix-pluses
-    slice-aggregate-run-in-3
-    run-in-requires
+    lay-starts-requires
     same-length
-    returns)
+    returns
+    run-plain-requires
+    same-length-2
+    returns-2
+    run-effects-requires
+    same-length-3
+    returns-3)

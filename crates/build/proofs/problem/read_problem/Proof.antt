@@ -6,8 +6,8 @@ use Rattle.words.specs.Rows.{columnsOf}
 use Rattle.build.proofs.problem.read_problem.Statement.{statement}
 use Rattle.build.proofs.problem.read_problem.Tie as tie
 
-read-actions-requires : tie.Need-read-actions-requires
-read-actions-requires c κs = search needs
+read-effects-requires : tie.Need-read-effects-requires
+read-effects-requires c κs = search needs
 
 columns-requires : tie.Need-columns-requires
 columns-requires c κs = search needs
@@ -30,14 +30,21 @@ same-length-4 c = search needs
 same-length-5 : tie.Need-same-length-5
 same-length-5 c = search needs
 
+same-length-6 : tie.Need-same-length-6
+same-length-6 c = search needs
+
 returns : tie.Need-returns
-returns c = let start = c .before .before .before .before .before .before .before .before .before .before .before .before .before .before .before .before .before .before .before .before .before .before .before .before .before .before .before .before in
-    let did = c .before .before .before .before .before .before .before .before .before .before .before .before .before .before .before .before .before .before .read-actions in
+returns c =
+    let at-columns = c .before .before .before .before .before .before .before .before .before .before in
+    let at-read-effects = at-columns .before .before .before .before .before .before .before .before .before .before .before in
+    let start = at-read-effects .before .before .before .before .before .before .before .before .before .before .before .before in
+    let did = at-read-effects .read-effects in
     record {
       needs-are = did .ensures .0;
       adds-are = did .ensures .1;
       dels-are = did .ensures .2;
-      adders-are = c .before .before .before .before .before .before .before .before .before .columns .ensures ∙ ap (λ (x : ℕ). columnsOf x (did .last .1 .1 .1 .0)) (start .pre .1 .adders-long);
+      owners-are = did .ensures .3;
+      adders-are = at-columns .columns .ensures ∙ ap (λ (x : ℕ). columnsOf x (did .last .1 .1 .1 .0)) (start .pre .1 .adders-long);
       interferers-are = c .before .before .interferer-sets .ensures;
     }
 
@@ -45,7 +52,7 @@ pub read-problem-spec : {M : Type 1} → statement M
 read-problem-spec =
     tie.close
     (tie.spec
-    read-actions-requires
+    read-effects-requires
     columns-requires
     interferer-sets-requires
     same-length
@@ -53,4 +60,5 @@ read-problem-spec =
     same-length-3
     same-length-4
     same-length-5
+    same-length-6
     returns)

@@ -48,17 +48,17 @@ to-step-of-Then1 c = c .before .before .before .before .before .before .before .
 add-t26 : tie.Need-add-t26 Inv-loop μ-loop
 add-t26 c = let start = to-start c in
     let w = start .pre .mating .wide in
-    omega (arith, w .props, w .actions, parts-le (w .parts))
+    omega (arith, w .props, w .effects, parts-le (w .parts))
 
 layer-size-requires : tie.Need-layer-size-requires Inv-loop μ-loop
 layer-size-requires c κs = let start = to-start c in
     let w = start .pre .mating .wide in
-    omega (arith, w .props, w .actions, parts-le (w .parts))
+    omega (arith, w .props, w .effects, parts-le (w .parts))
 
 stride-requires : tie.Need-stride-requires Inv-loop μ-loop
 stride-requires c κs = let start = to-start (to-slice-known8 c) in
     let w = start .pre .mating .wide in
-    record { props = omega (arith, w .props, parts-le (w .parts)); vertices = omega (arith, w .props, w .actions, parts-le (w .parts)) }
+    record { props = omega (arith, w .props, parts-le (w .parts)); vertices = omega (arith, w .props, w .effects, parts-le (w .parts)) }
 
 -- from one step to the next
 far-is : (c : tie.After-stride Inv-loop μ-loop) → let a = to-start (to-slice-known8 (to-layer-size c)) .args in

@@ -27,8 +27,8 @@ add-if1 c = search needs
 returns : tie.Need-returns
 returns c =
     let start = c .before .before .before .before .before in
-    last-none (start .pre .2) (ap (λ (x : ℕ). getD (start .args .marked .now) x 0) (sym (c .before .before .mark .ensures .0)) ∙ c .if1 .taken) _
-    (start .pre .4)
+    last-none (start .pre .1) (ap (λ (x : ℕ). getD (start .args .marked .now) x 0) (sym (c .before .before .mark .ensures .0)) ∙ c .if1 .taken) _
+    (start .pre .3)
 
 equal-after-requires : tie.Need-equal-after-requires
 equal-after-requires c κs = search needs

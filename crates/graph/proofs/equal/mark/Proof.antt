@@ -1,31 +1,23 @@
 -- `equal::mark` meets its contract: no number on the way is too large, and the mark is one of the marks.
-use mathlib.Core.Path.{ap, ap₂, _∙_}
+use mathlib.Core.Path.{ap₂}
 use native.Mathlib.Omega.{arith}
 use borrow.Author.Needs.{needs}
-use Rattle.graph.specs.Format.{setAt, actionsOf}
 use Rattle.graph.specs.Marks.{spread, markOf}
 use Rattle.graph.proofs.equal.mark.Statement.{statement}
 use Rattle.graph.proofs.equal.mark.Tie as tie
 use Rattle.graph.proofs.equal.mark.Reads as reads
 use Rattle.graph.proofs.equal.mark.Lts as lts
-use Rattle.graph.proofs.file.set_at.Reads as set-at-reads
-use Rattle.graph.proofs.format.add_at.Reads as add-at-reads
-use Rattle.graph.proofs.format.pre_at.Reads as pre-at-reads
+use Rattle.graph.proofs.equal.adds_of.Reads as adds-of-reads
+use Rattle.graph.proofs.equal.needs_of.Reads as needs-of-reads
 
-pre-at-requires : tie.Need-pre-at-requires
-pre-at-requires c κs = search needs
-
-set-at-requires : tie.Need-set-at-requires
-set-at-requires c κs = search needs
+needs-of-requires : tie.Need-needs-of-requires
+needs-of-requires c κs = search needs
 
 cast-needs : tie.Need-cast-needs
 cast-needs c = search needs
 
-add-at-requires : tie.Need-add-at-requires
-add-at-requires c κs = search needs
-
-set-at-requires-2 : tie.Need-set-at-requires-2
-set-at-requires-2 c κs = search needs
+adds-of-requires : tie.Need-adds-of-requires
+adds-of-requires c κs = search needs
 
 cast-adds : tie.Need-cast-adds
 cast-adds c = search needs
@@ -40,24 +32,16 @@ mul-spread : tie.Need-mul-spread
 mul-spread c = search needs
 
 returns : tie.Need-returns
-unfolding spread markOf actionsOf
-returns c =
-    let file = c .before .before .before .before .before .args .file .now in (
-      ap₂ spread
-          (c .before .before .set-at .ensures ∙ ap (setAt file) (c .before .before .before .pre-at .ensures))
-          (c .set-at2 .ensures ∙ ap (setAt file) (c .before .add-at .ensures)),
-      omega arith,
-    )
+unfolding spread markOf
+returns c = (ap₂ spread (c .before .needs-of .ensures) (c .adds-of .ensures), omega arith)
 
 pub mark-spec : {M : Type 1} → statement M
 mark-spec =
     tie.close
     (tie.spec
-    pre-at-requires
-    set-at-requires
+    needs-of-requires
     cast-needs
-    add-at-requires
-    set-at-requires-2
+    adds-of-requires
     cast-adds
     mul-mixed
     add-mixed

@@ -18,7 +18,7 @@ abbrev μ-loop : tie.MeasureT-loop
 μ-loop file c marked₀ met₀ a₀ a-end marked met a = c .actions - a
 
 loop-holds : tie.Need-loop-holds Inv-loop μ-loop
-loop-holds c = marking-none (c .before .before .pre .2)
+loop-holds c = marking-none (c .before .before .pre .1)
 
 mark-requires : tie.Need-mark-requires Inv-loop μ-loop
 mark-requires c κs = search needs
@@ -30,7 +30,7 @@ add-marked : tie.Need-add-marked Inv-loop μ-loop
 add-marked c = omega arith
 
 cast-marked : tie.Need-cast-marked Inv-loop μ-loop
-cast-marked c = omega (arith, c .before .before .before .before .before .before .pre .0 .actions)
+cast-marked c = omega (arith, c .before .before .before .before .before .before .pre .0 .0 .actions)
 
 slice-write-marked : tie.Need-slice-write-marked Inv-loop μ-loop
 slice-write-marked c = omega (arith, c .before .mark .ensures .1, c .before .before .before .loop .inv .so-far .full)
@@ -47,7 +47,7 @@ loop-again c =
     marking-more (loop .inv) (search needs) (c .before .mark .ensures .0) (c .before .mark .ensures .1) refl
 
 same-length : tie.Need-same-length Inv-loop μ-loop
-same-length c = c .before .loop .inv .so-far .full ∙ sym (c .before .before .before .before .pre .2)
+same-length c = c .before .loop .inv .so-far .full ∙ sym (c .before .before .before .before .pre .1)
 
 returns : tie.Need-returns Inv-loop μ-loop
 unfolding same

@@ -1,6 +1,6 @@
 -- `file::check_counts` meets its contract: each return is one count out of its range, or none.
 use borrow.Author.Needs.{needs}
-use Rattle.graph.proofs.Links.{few-props, many-props, many-actions, few-states, many-states, counted}
+use Rattle.graph.proofs.Links.{few-props, many-props, many-actions, few-states, many-states, many-effects, counted}
 use Rattle.graph.proofs.file.check_counts.Statement.{statement}
 use Rattle.graph.proofs.file.check_counts.Tie as tie
 use Rattle.graph.proofs.file.check_counts.Reads as reads
@@ -22,7 +22,10 @@ returns-5 : tie.Need-returns-5
 returns-5 c = many-states _ (search needs) (search needs) (search needs) (search needs) (search needs)
 
 returns-6 : tie.Need-returns-6
-returns-6 c = counted _ (record { some-props = search needs; props = search needs; actions = search needs; some-states = search needs; states = search needs })
+returns-6 c = many-effects _ (search needs) (search needs) (search needs) (search needs) (search needs) (search needs)
+
+returns-7 : tie.Need-returns-7
+returns-7 c = counted _ (search needs) (search needs) (search needs) (search needs) (search needs) (search needs)
 
 pub check-counts-spec : {M : Type 1} → statement M
-check-counts-spec = tie.close (tie.spec returns returns-2 returns-3 returns-4 returns-5 returns-6)
+check-counts-spec = tie.close (tie.spec returns returns-2 returns-3 returns-4 returns-5 returns-6 returns-7)

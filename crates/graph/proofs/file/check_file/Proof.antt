@@ -1,14 +1,15 @@
 -- `file::check_file` meets its contract: each link turns the file away with its own cause, in order; when all are passed, it is taken.
-use mathlib.Core.Path.{_≡_, sym, ap, _∙_}
+use mathlib.Core.Path.{_≡_, sym, ap, subst, _∙_}
 use mathlib.Core.List.{List}
 use Prim.Native.Nat.{ℕ}
 use borrow.Author.Needs.{needs}
-use Rattle.graph.specs.Format.{countsIn}
-use Rattle.graph.specs.File.{headRule, versionRule, countsRule, lengthRule, setsRule, equalRule}
+use lib.ListN.{length}
+use Rattle.graph.specs.Format.{countsIn, rightLength}
+use Rattle.graph.specs.File.{Ranged, headRule, versionRule, countsRule, lengthRule, setsRule, actionsRule}
 use Rattle.graph.specs.Checks.{checkVerdict}
 use Rattle.graph.specs.Verdict.{accepted}
 use Rattle.graph.proofs.Verdicts.{told}
-use Rattle.graph.proofs.Ladder.{head-means, counts-mean, length-means, linked-taken, by-head, by-version, by-counts, by-length, by-sets, by-equal}
+use Rattle.graph.proofs.Ladder.{head-means, effects-inside, counts-mean, length-means, linked-taken, by-head, by-version, by-counts, by-length, by-sets, by-actions}
 use Rattle.graph.proofs.file.check_file.Statement.{statement}
 use Rattle.graph.proofs.file.check_file.Tie as tie
 
@@ -57,10 +58,18 @@ inside c =
 abbrev at-inside : tie.After-enum-told6 → tie.After-enum-told5
 at-inside c = c .before .before .before
 
-unequal : (c : tie.After-enum-told6) → let r = at-ranged (at-long (at-inside c)) in equalRule (file r) (countsIn (file r)) ≡ accepted tt
-unequal c =
-    ap (equalRule (file (at-ranged (at-long (at-inside c))))) (sym (are (at-ranged (at-long (at-inside c)))))
-    ∙ told checkVerdict (c .before .before .check-equal .ensures) (c .enum-told6 .given .1)
+passed : (c : tie.After-enum-told6) → let r = at-ranged (at-long (at-inside c)) in actionsRule (file r) (countsIn (file r)) ≡ accepted tt
+passed c =
+    let r = at-ranged (at-long (at-inside c)) in
+    ap (actionsRule (file r)) (sym (are r)) ∙ told checkVerdict (c .before .before .check-actions .ensures) (c .enum-told6 .given .1)
+
+-- the counts that were read are in their ranges, and the file is as long as they say
+in-range : (c : tie.After-enum-told3) → Ranged (at-counts c .counts .result)
+in-range c = subst Ranged (sym (are c)) (counts-mean _ (ranged c))
+
+fits : (c : tie.After-enum-told4) → let r = at-ranged c in Ranged (at-counts r .counts .result) × (length (file r) ≡ rightLength (at-counts r .counts .result))
+fits c =
+    (in-range (at-ranged c), length-means _ _ (told checkVerdict (c .before .before .check-length .ensures) (c .enum-told4 .given .1)))
 
 check-head-requires : tie.Need-check-head-requires
 check-head-requires c κs = search needs
@@ -75,7 +84,7 @@ enum-told : tie.Need-enum-told
 enum-told c = search needs
 
 check-version-requires : tie.Need-check-version-requires
-check-version-requires c κs = head-means _ (headed c) .0
+check-version-requires c κs = head-means _ (headed c) .bytes
 
 enum-known-version : tie.Need-enum-known-version
 enum-known-version c = search needs
@@ -90,7 +99,7 @@ enum-told-2 : tie.Need-enum-told-2
 enum-told-2 c = search needs
 
 counts-requires : tie.Need-counts-requires
-counts-requires c κs = head-means _ (headed (at-head c)) .0
+counts-requires c κs = (head-means _ (headed (at-head c)) .bytes, effects-inside _ (headed (at-head c)) (versioned c))
 
 check-counts-requires : tie.Need-check-counts-requires
 check-counts-requires c κs = search needs
@@ -110,7 +119,7 @@ enum-told-3 : tie.Need-enum-told-3
 enum-told-3 c = search needs
 
 check-length-requires : tie.Need-check-length-requires
-check-length-requires c κs = counts-mean _ (told checkVerdict (c .before .before .check-counts .ensures) (c .enum-told3 .given .1))
+check-length-requires c κs = in-range c
 
 enum-known-long : tie.Need-enum-known-long
 enum-known-long c = search needs
@@ -127,11 +136,7 @@ enum-told-4 : tie.Need-enum-told-4
 enum-told-4 c = search needs
 
 check-sets-requires : tie.Need-check-sets-requires
-check-sets-requires c κs =
-    let r : tie.After-enum-told3 = at-ranged c in (
-      counts-mean _ (told checkVerdict (r .before .before .check-counts .ensures) (r .enum-told3 .given .1)),
-      length-means _ _ (told checkVerdict (c .before .before .check-length .ensures) (c .enum-told4 .given .1)),
-    )
+check-sets-requires c κs = fits c
 
 enum-known-sets : tie.Need-enum-known-sets
 enum-known-sets c = search needs
@@ -148,16 +153,11 @@ returns-5 c =
 enum-told-5 : tie.Need-enum-told-5
 enum-told-5 c = search needs
 
-check-equal-requires : tie.Need-check-equal-requires
-check-equal-requires c κs =
-    let l : tie.After-enum-told4 = at-long c in
-    let r : tie.After-enum-told3 = at-ranged l in (
-      counts-mean _ (told checkVerdict (r .before .before .check-counts .ensures) (r .enum-told3 .given .1)),
-      length-means _ _ (told checkVerdict (l .before .before .check-length .ensures) (l .enum-told4 .given .1)),
-    )
+check-actions-requires : tie.Need-check-actions-requires
+check-actions-requires c κs = fits (at-long c)
 
-enum-known-equal : tie.Need-enum-known-equal
-enum-known-equal c = search needs
+enum-known-actions : tie.Need-enum-known-actions
+enum-known-actions c = search needs
 
 returns-6 : tie.Need-returns-6
 returns-6 c =
@@ -165,9 +165,9 @@ returns-6 c =
     let i : tie.After-enum-told5 = at-before .before in
     let l : tie.After-enum-told4 = at-long i in
     let r : tie.After-enum-told3 = at-ranged l in
-    sym (by-equal _ _ _ (headed (at-head (at-version r))) (versioned (at-version r)) (ranged r) (long l) (inside i)
-    (ap (equalRule (file r)) (sym (are r))
-    ∙ told checkVerdict (at-before .check-equal .ensures) (c .before .equal .given .1)))
+    sym (by-actions _ _ _ (headed (at-head (at-version r))) (versioned (at-version r)) (ranged r) (long l) (inside i)
+    (ap (actionsRule (file r)) (sym (are r))
+    ∙ told checkVerdict (at-before .check-actions .ensures) (c .before .actions .given .1)))
 
 enum-told-6 : tie.Need-enum-told-6
 enum-told-6 c = search needs
@@ -182,7 +182,7 @@ returns-7 c =
       counts = ranged r;
       length = long (at-long i);
       sets = inside i;
-      equal = unequal c;
+      actions = passed c;
       are = are r;
     }))
 
@@ -211,8 +211,8 @@ check-file-spec =
     enum-known-sets
     returns-5
     enum-told-5
-    check-equal-requires
-    enum-known-equal
+    check-actions-requires
+    enum-known-actions
     returns-6
     enum-told-6
     returns-7)

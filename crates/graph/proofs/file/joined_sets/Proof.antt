@@ -2,16 +2,19 @@
 use mathlib.Core.Path.{refl}
 use Prim.Native.Nat.{_+_, _-_, _*_}
 use native.Mathlib.Omega.{arith}
-use Rattle.graph.specs.Format.{headBytes, setBytes, setAt}
+use Rattle.graph.specs.Format.{setBytes, setAt}
 use Rattle.words.proofs.Folds.{Joins, join-none, join-more, join-done}
 use Rattle.graph.proofs.file.joined_sets.Statement.{statement}
 use Rattle.graph.proofs.file.joined_sets.Tie as tie
+use Rattle.graph.proofs.file.joined_sets.Reads as reads
+use Rattle.graph.proofs.file.joined_sets.Lts as lts
+use Rattle.graph.proofs.file.set_at.Reads as set-at-reads
 
 abbrev Inv-loop : tie.InvT-loop
-Inv-loop file count joined₀ i₀ joined i = Joins (λ k. setAt file (headBytes + setBytes * k)) count i joined
+Inv-loop file at count joined₀ i₀ joined i = Joins (λ k. setAt file (at + setBytes * k)) count i joined
 
 abbrev μ-loop : tie.MeasureT-loop
-μ-loop file count joined₀ i₀ joined i = count - i
+μ-loop file at count joined₀ i₀ joined i = count - i
 
 loop-holds : tie.Need-loop-holds Inv-loop μ-loop
 loop-holds c = join-none

@@ -13,7 +13,7 @@ set-of-requires c κs = search needs
 
 returns : tie.Need-returns
 unfolding actionsOf
-returns c = c .set-of .ensures ∙ ap (setAt _) (c .before .add-at .ensures)
+returns c = c .set-of .ensures ∙ ap (setAt _) (c .before .add-at .ensures .0)
 
 pub added-spec : {M : Type 1} → statement M
 added-spec = tie.close (tie.spec add-at-requires set-of-requires returns)

@@ -13,7 +13,7 @@ set-of-requires c κs = search needs
 
 returns : tie.Need-returns
 unfolding actionsOf
-returns c = c .set-of .ensures ∙ ap (setAt _) (c .before .del-at .ensures)
+returns c = c .set-of .ensures ∙ ap (setAt _) (c .before .del-at .ensures .0)
 
 pub deleted-spec : {M : Type 1} → statement M
 deleted-spec = tie.close (tie.spec del-at-requires set-of-requires returns)

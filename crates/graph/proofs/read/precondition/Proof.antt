@@ -13,7 +13,7 @@ set-of-requires c κs = search needs
 
 returns : tie.Need-returns
 unfolding actionsOf
-returns c = c .set-of .ensures ∙ ap (setAt _) (c .before .pre-at .ensures)
+returns c = c .set-of .ensures ∙ ap (setAt _) (c .before .pre-at .ensures .0)
 
 pub precondition-spec : {M : Type 1} → statement M
 precondition-spec = tie.close (tie.spec pre-at-requires set-of-requires returns)

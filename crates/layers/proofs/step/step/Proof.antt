@@ -1,10 +1,12 @@
 -- Each part does what the step's law asks of it.
-use mathlib.Core.Path.{_∙_}
-use Prim.Native.Nat.{_-_}
+use mathlib.Core.Path.{_≡_, _∙_}
+use Prim.Native.Nat.{_+_, _-_, _≤_}
 use native.Mathlib.Omega.{arith}
 use borrow.Author.Needs.{needs}
 use borrow.Rule.Slice.PartMut.{same-len-mid}
 use lib.ListN.{length}
+use Rattle.rules.specs.Layer.{size}
+use Rattle.words.specs.Rows.{rowLength, tableLength}
 use Rattle.words.proofs.Writes.{tail-length}
 use Rattle.together.proofs.Rows.{parts-le}
 use Rattle.layers.proofs.Stages.{step-made}
@@ -12,140 +14,185 @@ use Rattle.layers.proofs.step.step.Statement.{statement}
 use Rattle.layers.proofs.step.step.Tie as tie
 
 -- places, each from a later one
-abbrev to-start : tie.After-admit-arg4 → tie.Start
-to-start c = c .before .before .before .before .before .before .before .before .before .before .before .before .before .before .before .before .before
-
-abbrev to-admit-arg4 : tie.After-admit → tie.After-admit-arg4
-to-admit-arg4 c = c .before
+abbrev to-start : tie.After-admit → tie.Start
+to-start c = c .before .before .before .before .before .before .before .before .before .before .before .before .before .before .before .before .before .before
 
 abbrev to-admit : tie.After-mate → tie.After-admit
 to-admit c = c .before .before .before .before .before .before .before .before .before .before
 
-abbrev to-mate : tie.After-put-actions → tie.After-mate
-to-mate c = c .before .before .before .before .before .before .before .before .before .before .before .before .before
+abbrev to-mate : tie.After-cut-rows → tie.After-mate
+to-mate c = c .before .before .before .before .before .before .before .before
+
+abbrev to-cut-rows : tie.After-put-actions → tie.After-cut-rows
+to-cut-rows c = c .before .before .before .before .before .before .before .before .before
 
 abbrev to-put-actions : tie.After-next → tie.After-put-actions
 to-put-actions c = c .before .before .before .before .before .before .before .before
 
-abbrev to-next-of-slice-known18 : tie.After-slice-known18 → tie.After-next
-to-next-of-slice-known18 c = c .before .before .before .before .before .before .before .before
+abbrev before-put-props : tie.After-slice-known19 → tie.After-next
+before-put-props c = c .before .before .before .before .before .before .before .before
 
-abbrev to-next-of-slice-known19 : tie.After-slice-known19 → tie.After-next
-to-next-of-slice-known19 c = c .before .before .before .before .before .before .before .before .before .before .before .before .before .before
+abbrev behind-put-props : tie.After-slice-known20 → tie.After-next
+behind-put-props c = c .before .before .before .before .before .before .before .before .before .before .before .before .before .before
+
+abbrev entry : tie.After-put-actions → tie.Start
+entry c = to-start (to-admit (to-mate (to-cut-rows c)))
+
+-- how long the tables are that were lent
+live-long : (c : tie.After-admit) → length (c .admit .last .1 .1 .1 .1 .1 .0) ≡ rowLength
+live-long c = c .admit .kept .1 .1 .1 .1 .1 .0 ∙ to-start c .pre .mating .live-long
+
+rows-long : (c : tie.After-admit) → length (c .admit .last .1 .1 .1 .1 .0) ≡ tableLength
+rows-long c = c .admit .kept .1 .1 .1 .1 .0 ∙ to-start c .pre .mating .r-long
+
+cut-long : (c : tie.After-cut-rows) → length (c .cut-rows .last .0) ≡ tableLength
+cut-long c = c .cut-rows .kept .0 ∙ rows-long (to-admit (to-mate c))
 
 admit-requires : tie.Need-admit-requires
 admit-requires c κs = search needs
 
 mate-requires : tie.Need-mate-requires
-mate-requires c κs = let start = to-start (to-admit-arg4 (c .before .before .before .before .before .before .before .before .before)) in
-    let m = start .pre .mating in
+mate-requires c κs =
+    let at-admit = c .before .before .before .before .before .before .before .before .before in
+    let m = to-start at-admit .pre .mating in
     record {
       wide = m .wide;
       adds-long = m .adds-long;
+      dels-long = m .dels-long;
       adders-long = m .adders-long;
       adders-inside = m .adders-inside;
       interferers-long = m .interferers-long;
       interferers-inside = m .interferers-inside;
-      live-long = (c .before .before .before .before .before .before .before .before .before) .admit .kept .1 .1 .1 .1 .1 .1 .0 ∙ m .live-long;
-      r-long = (c .before .before .before .before .before .before .before .before .before) .admit .kept .1 .1 .1 .1 .1 .0 ∙ m .r-long;
+      live-long = live-long at-admit;
+      r-long = rows-long at-admit;
       mates-long = m .mates-long;
       besides-long = m .besides-long;
       spare-long = m .spare-long;
     }
 
+cut-rows-requires : tie.Need-cut-rows-requires
+cut-rows-requires c κs =
+    let at-admit = to-admit (c .before .before .before .before .before .before .before) in
+    let m = to-start at-admit .pre .mating in
+    record { few = omega (arith, m .dels-long, m .wide .effects, parts-le (m .wide .parts)); long = rows-long at-admit }
+
 put-actions-requires : tie.Need-put-actions-requires
-put-actions-requires c κs = let start = to-start (to-admit-arg4 (to-admit (c .before .before .before .before .before .before .before .before .before .before .before .before))) in
+put-actions-requires c κs =
+    let at-cut = c .before .before .before .before .before .before .before .before in
+    let at-mate = to-mate at-cut in
+    let at-admit = to-admit at-mate in
+    let start = to-start at-admit in
     let m = start .pre .mating in
     let few = parts-le (m .wide .parts) in (
       record {
         props = omega (arith, m .wide .props, few);
-        actions = omega (arith, m .wide .actions, few);
-        live-long = (to-admit (c .before .before .before .before .before .before .before .before .before .before .before .before)) .admit .kept .1 .1 .1 .1 .1 .1 .0 ∙ m .live-long;
+        effects = omega (arith, m .wide .effects, few);
+        live-long = live-long at-admit;
         labels-long = start .pre .labels-long;
       },
       start .pre .t-long,
-      (c .before .before .before .before .before .before .before .before .before .before .before .before) .mate .kept .1 .1 .1 .1 .1 .1 .1 .1 .0 ∙ m .mates-long,
-      (to-admit (c .before .before .before .before .before .before .before .before .before .before .before .before)) .admit .kept .1 .1 .1 .1 .1 .0 ∙ m .r-long,
+      at-mate .mate .kept .1 .1 .1 .1 .1 .1 .1 .1 .1 .0 ∙ m .mates-long,
+      cut-long at-cut,
       omega (arith, start .pre .place, start .pre .room),
     )
 
 next-requires : tie.Need-next-requires
-next-requires c κs = let start = to-start (to-admit-arg4 (to-admit (to-mate (c .before .before .before .before .before .before .before)))) in
+next-requires c κs =
+    let at-cut = to-cut-rows (c .before .before .before .before .before .before .before) in
+    let at-mate = to-mate at-cut in
+    let start = to-start (to-admit at-mate) in
     let m = start .pre .mating in
     record {
       parts = m .wide .parts;
       props = m .wide .props;
       adders-long = m .adders-long;
       adders-inside = m .adders-inside;
-      besides-long = (to-mate (c .before .before .before .before .before .before .before)) .mate .kept .1 .1 .1 .1 .1 .1 .1 .1 .1 .0 ∙ m .besides-long;
+      besides-long = at-mate .mate .kept .1 .1 .1 .1 .1 .1 .1 .1 .1 .1 .0 ∙ m .besides-long;
       t-long = start .pre .t-long;
-      spare-long = (to-mate (c .before .before .before .before .before .before .before)) .mate .kept .1 .1 .1 .1 .1 .1 .1 .1 .1 .1 .0 ∙ m .spare-long;
-      turned-long = (to-admit (to-mate (c .before .before .before .before .before .before .before))) .admit .kept .1 .1 .1 .1 .1 .0 ∙ m .r-long;
+      spare-long = at-mate .mate .kept .1 .1 .1 .1 .1 .1 .1 .1 .1 .1 .1 .0 ∙ m .spare-long;
+      turned-long = cut-long at-cut;
       labels-long = start .pre .labels-long;
     }
 
+-- the next proposition layer has room behind the action layer
+room : (c : tie.After-put-actions) → entry c .args .at + size (entry c .args .n) ≤ length (c .put-actions .last .0)
+room c = omega (arith, entry c .pre .room, c .put-actions .kept .0)
+
 mul-put-props : tie.Need-mul-put-props
-mul-put-props c = let start = to-start (to-admit-arg4 (to-admit (to-mate (to-put-actions (to-next-of-slice-known18 c))))) in
-    omega (arith, start .pre .room)
+mul-put-props c = let start = entry (to-put-actions (before-put-props c)) in omega (arith, start .pre .room)
 
 sub-put-props : tie.Need-sub-put-props
-sub-put-props c = let start = to-start (to-admit-arg4 (to-admit (to-mate (to-put-actions (to-next-of-slice-known18 c))))) in
-    omega (arith, start .pre .room, (to-put-actions (to-next-of-slice-known18 c)) .put-actions .kept .0)
+sub-put-props c = omega (arith, room (to-put-actions (before-put-props c)))
 
 part-put-props-start : tie.Need-part-put-props-start
-part-put-props-start c = let start = to-start (to-admit-arg4 (to-admit (to-mate (to-put-actions (to-next-of-slice-known18 c))))) in
-    omega (arith, start .pre .room, (to-put-actions (to-next-of-slice-known18 c)) .put-actions .kept .0)
+part-put-props-start c = omega (arith, room (to-put-actions (before-put-props c)))
 
 part-put-props-end : tie.Need-part-put-props-end
 part-put-props-end c = search needs
 
 put-props-requires : tie.Need-put-props-requires
-put-props-requires c κs = let start = to-start (to-admit-arg4 (to-admit (to-mate (to-put-actions (c .before .before .before .before .before .before .before .before .before .before .before))))) in
+put-props-requires c κs =
+    let at-next = c .before .before .before .before .before .before .before .before .before .before .before in
+    let at-put = to-put-actions at-next in
+    let start = entry at-put in
     let m = start .pre .mating in
     let few = parts-le (m .wide .parts) in (
       record {
         props = omega (arith, m .wide .props, few);
-        labels-long = (c .before .before .before .before .before .before .before .before .before .before .before) .next .kept .1 .1 .1 .1 .1 .1 .0 ∙ start .pre .labels-long;
-        t-long = (c .before .before .before .before .before .before .before .before .before .before .before) .next .kept .1 .1 .1 .0 ∙ start .pre .t-long;
+        labels-long = at-next .next .kept .1 .1 .1 .1 .1 .1 .0 ∙ start .pre .labels-long;
+        t-long = at-next .next .kept .1 .1 .1 .0 ∙ start .pre .t-long;
       },
-      omega (arith, start .pre .room, (to-put-actions (c .before .before .before .before .before .before .before .before .before .before .before)) .put-actions .kept .0, tail-length (start .args .at) ((to-put-actions (c .before .before .before .before .before .before .before .before .before .before .before)) .put-actions .last .0) (omega (arith, start .pre .room, (to-put-actions (c .before .before .before .before .before .before .before .before .before .before .before)) .put-actions .kept .0))),
-      (c .before .before .before .before .before .before .before .before .before .before .before) .next .ensures .0,
+      omega (arith, room at-put, tail-length (start .args .at) (at-put .put-actions .last .0) (omega (arith, room at-put))),
+      at-next .next .ensures .0,
     )
 
 same-length : tie.Need-same-length
 same-length c =
-    let start = to-start (to-admit-arg4 (to-admit (to-mate (to-put-actions (to-next-of-slice-known19 c))))) in
-    let w = (to-put-actions (to-next-of-slice-known19 c)) .put-actions .last .0 in
-    same-len-mid (start .args .at) (length w - start .args .at) w (c .before .before .put-props .last .0) (c .before .before .put-props .kept .0) ∙ (to-put-actions (to-next-of-slice-known19 c)) .put-actions .kept .0
+    let at-put = to-put-actions (behind-put-props c) in
+    let at = entry at-put .args .at in
+    let w = at-put .put-actions .last .0 in
+    let did = c .before .before .put-props in
+    same-len-mid at (length w - at) w (did .last .0) (did .kept .0) ∙ at-put .put-actions .kept .0
 
 same-length-2 : tie.Need-same-length-2
-same-length-2 c = (to-next-of-slice-known19 c) .next .kept .1 .1 .1 .1 .1 .1 .0
+same-length-2 c = behind-put-props c .next .kept .1 .1 .1 .1 .1 .1 .0
 
 same-length-3 : tie.Need-same-length-3
-same-length-3 c = (to-admit (to-mate (to-put-actions (to-next-of-slice-known19 c)))) .admit .kept .1 .1 .1 .1 .1 .1 .0
+same-length-3 c = to-admit (to-mate (to-cut-rows (to-put-actions (behind-put-props c)))) .admit .kept .1 .1 .1 .1 .1 .0
 
 same-length-4 : tie.Need-same-length-4
-same-length-4 c = (to-next-of-slice-known19 c) .next .kept .1 .1 .1 .0
+same-length-4 c = behind-put-props c .next .kept .1 .1 .1 .0
 
 same-length-5 : tie.Need-same-length-5
-same-length-5 c = (to-next-of-slice-known19 c) .next .kept .1 .1 .1 .1 .1 .0 ∙ (to-admit (to-mate (to-put-actions (to-next-of-slice-known19 c)))) .admit .kept .1 .1 .1 .1 .1 .0
+same-length-5 c =
+    let at-next = behind-put-props c in
+    let at-cut = to-cut-rows (to-put-actions at-next) in
+    at-next .next .kept .1 .1 .1 .1 .1 .0 ∙ at-cut .cut-rows .kept .0 ∙ to-admit (to-mate at-cut) .admit .kept .1 .1 .1 .1 .0
 
 same-length-6 : tie.Need-same-length-6
-same-length-6 c = (to-mate (to-put-actions (to-next-of-slice-known19 c))) .mate .kept .1 .1 .1 .1 .1 .1 .1 .1 .0
+same-length-6 c = to-mate (to-cut-rows (to-put-actions (behind-put-props c))) .mate .kept .1 .1 .1 .1 .1 .1 .1 .1 .1 .0
 
 same-length-7 : tie.Need-same-length-7
-same-length-7 c = (to-mate (to-put-actions (to-next-of-slice-known19 c))) .mate .kept .1 .1 .1 .1 .1 .1 .1 .1 .1 .0
+same-length-7 c = to-mate (to-cut-rows (to-put-actions (behind-put-props c))) .mate .kept .1 .1 .1 .1 .1 .1 .1 .1 .1 .1 .0
 
 same-length-8 : tie.Need-same-length-8
-same-length-8 c = (to-next-of-slice-known19 c) .next .kept .1 .1 .1 .1 .0 ∙ (to-mate (to-put-actions (to-next-of-slice-known19 c))) .mate .kept .1 .1 .1 .1 .1 .1 .1 .1 .1 .1 .0
+same-length-8 c =
+    let at-next = behind-put-props c in
+    at-next .next .kept .1 .1 .1 .1 .0 ∙ to-mate (to-cut-rows (to-put-actions at-next)) .mate .kept .1 .1 .1 .1 .1 .1 .1 .1 .1 .1 .1 .0
 
 returns : tie.Need-returns
 returns c = λ A told del is.
-    let start = to-start (to-admit-arg4 (to-admit (to-mate (to-put-actions (to-next-of-slice-known19 c))))) in
+    let at-next = behind-put-props c in
+    let at-put = to-put-actions at-next in
+    let at-cut = to-cut-rows at-put in
+    let at-mate = to-mate at-cut in
+    let at-admit = to-admit at-mate in
+    let start = to-start at-admit in
     let a = start .args in
-    step-made A (a .all) (a .n) (a .width) (a .at) _ (a .needs .now) (a .adds .now) (a .dels .now) (a .adders .now) (a .interferers .now) (a .labels .now) (a .live .now) (a .t .now)
-    (a .r .now) (a .mates .now) (a .besides .now) (a .spare .now) (a .words .now) _ _ _ _ _ _ _ _ (start .pre) told del is
-    ((to-admit (to-mate (to-put-actions (to-next-of-slice-known19 c)))) .admit .ensures .0) ((to-admit (to-mate (to-put-actions (to-next-of-slice-known19 c)))) .admit .ensures .1) ((to-mate (to-put-actions (to-next-of-slice-known19 c))) .mate .ensures) ((to-put-actions (to-next-of-slice-known19 c)) .put-actions .ensures) ((to-next-of-slice-known19 c) .next .ensures .1) (c .before .before .put-props .ensures)
+    step-made A (a .all) (a .n) (a .width) (a .at) _ (a .needs .now) (a .adds .now) (a .dels .now) (a .adders .now) (a .interferers .now) (a .labels .now)
+    (a .live .now) (a .t .now) (a .r .now) (a .mates .now) (a .besides .now) (a .spare .now) (a .words .now) _ _ _ _ _ _ _ _ _ (start .pre) told del is
+    (at-admit .admit .ensures .0) (at-admit .admit .ensures .1) (at-mate .mate .ensures) (at-cut .cut-rows .ensures) (at-put .put-actions .ensures)
+    (at-next .next .ensures .1) (c .before .before .put-props .ensures)
 
 pub step-spec : {M : Type 1} → statement M
 step-spec =
@@ -153,6 +200,7 @@ step-spec =
     (tie.spec
     admit-requires
     mate-requires
+    cut-rows-requires
     put-actions-requires
     next-requires
     mul-put-props

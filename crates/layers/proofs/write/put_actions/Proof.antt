@@ -59,7 +59,7 @@ returns : tie.Need-returns
 returns c = let start = to-start (to-put-words-arg2 (to-put-words (to-put-words2 (c .before .before .before .before .before .before)))) in
     let a = start .args in
     actions-put (a .n) (a .a) _ (a .live .now) (a .labels .now) (a .t .now) (a .mates .now) (a .r .now) (a .words .now) _ _ _ _
-    (omega (arith, start .pre .0 .actions, start .pre .0 .live-long)) (omega (arith, start .pre .0 .props, start .pre .0 .labels-long)) (start .pre .4)
+    (omega (arith, start .pre .0 .effects, start .pre .0 .live-long)) (omega (arith, start .pre .0 .props, start .pre .0 .labels-long)) (start .pre .4)
     ((to-put-words (to-put-words2 (c .before .before .before .before .before .before))) .put-words .ensures) ((to-put-words2 (c .before .before .before .before .before .before)) .put-words2 .ensures) ((c .before .before .before .before .before .before) .put-rows .ensures .1) ((c .before .before .before .before .before .before) .put-rows .ensures .0) (c .before .before .put-pairs .ensures)
 
 pub put-actions-spec : {M : Type 1} → statement M

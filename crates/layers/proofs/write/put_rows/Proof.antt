@@ -5,13 +5,13 @@ use native.Mathlib.Omega.{arith}
 use borrow.Author.Needs.{needs}
 use lib.ListN.{length, getD}
 use Rattle.words.proofs.Writes.{Runs, run-none, run-done}
-use Rattle.layers.specs.Write.{actionRow}
+use Rattle.layers.specs.Write.{effectRow}
 use Rattle.layers.proofs.Puts.{rows-room, rows-more, rows-end}
 use Rattle.layers.proofs.write.put_rows.Statement.{statement}
 use Rattle.layers.proofs.write.put_rows.Tie as tie
 
 abbrev Inv-loop : tie.InvT-loop
-Inv-loop words₀ to n a live labels mates r at₀ i₀ words at i = Runs (actionRow n a live labels mates r) to a words₀ i at words
+Inv-loop words₀ to n a live labels mates r at₀ i₀ words at i = Runs (effectRow n a live labels mates r) to a words₀ i at words
 
 abbrev μ-loop : tie.MeasureT-loop
 μ-loop words₀ to n a live labels mates r at₀ i₀ words at i = a - i
@@ -84,7 +84,7 @@ add-at : tie.Need-add-at Inv-loop μ-loop
 add-at c = let at-loop = to-loop (to-turn c) in
     let taken = (to-turn c) .loop-test .taken in
     let start = to-start (to-shared-slice-known4 at-loop) in
-    omega (arith, start .pre .0 .props, start .pre .0 .actions)
+    omega (arith, start .pre .0 .props, start .pre .0 .effects)
 
 add-at-2 : tie.Need-add-at-2 Inv-loop μ-loop
 add-at-2 c = let at-loop = to-loop (to-turn c) in

@@ -9,14 +9,14 @@ use Rattle.plan.proofs.descent.descend.Statement.{statement}
 use Rattle.plan.proofs.descent.descend.Tie as tie
 
 abbrev Inv-loop : tie.InvT-loop
-Inv-loop needed₀ goal words needs adders plan₀ live₀ t₀ needed plan live t = Falling needs adders words needed₀ plan₀ needed plan live t
+Inv-loop needed₀ goal words needs owners adders plan₀ live₀ t₀ needed plan live t = Falling needs owners adders words needed₀ plan₀ needed plan live t
 
 abbrev μ-loop : tie.MeasureT-loop
-μ-loop needed₀ goal words needs adders plan₀ live₀ t₀ needed plan live t = t
+μ-loop needed₀ goal words needs owners adders plan₀ live₀ t₀ needed plan live t = t
 
 -- places, each from a later one
 abbrev to-start : tie.After-slice-known2 Inv-loop μ-loop → tie.Start Inv-loop μ-loop
-to-start c = c .before .before .before .before .before
+to-start c = c .before .before .before .before .before .before
 
 abbrev to-slice-known2 : tie.At-loop Inv-loop μ-loop → tie.After-slice-known2 Inv-loop μ-loop
 to-slice-known2 c = c .before
@@ -50,8 +50,8 @@ enum-known-answer c = search simple
 enum-told : tie.Need-enum-told Inv-loop μ-loop
 enum-told c = search simple
 
-add-t15 : tie.Need-add-t15 Inv-loop μ-loop
-add-t15 c =
+add-t16 : tie.Need-add-t16 Inv-loop μ-loop
+add-t16 c =
     let at-loop = to-loop (to-turn-of-enum-told c) in
     omega (arith, at-loop .loop .inv .room .deep, at-loop .loop .inv .inside)
 
@@ -115,7 +115,7 @@ descend-spec =
     fall-requires
     enum-known-answer
     enum-told
-    add-t15
+    add-t16
     same-length
     same-length-2
     returns

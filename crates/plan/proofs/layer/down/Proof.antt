@@ -11,8 +11,8 @@ support-requires : tie.Need-support-requires
 support-requires c κs = search needs
 
 replace-requires : tie.Need-replace-requires
-replace-requires c κs = let start = c .before .before .before .before .before .before .before .before .before .before .before .before in start .pre .0 .wide
-    ∙ sym (c .before .before .before .before .support .kept .1 .1 .1 .1 .1 .0 ∙ ap length (start .pre .1) ∙ length-listOver _ _)
+replace-requires c κs = let start = c .before .before .before .before .before .before .before .before .before .before .before .before .before in start .pre .0 .wide
+    ∙ sym (c .before .before .before .before .support .kept .1 .1 .1 .1 .1 .1 .0 ∙ ap length (start .pre .1) ∙ length-listOver _ _)
 
 same-length : tie.Need-same-length
 same-length c = search needs

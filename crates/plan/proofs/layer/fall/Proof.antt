@@ -15,7 +15,7 @@ use Rattle.plan.proofs.layer.fall.Tie as tie
 
 -- places, each from a later one
 abbrev to-start : tie.After-layer-start → tie.Start
-to-start c = c .before .before .before .before .before
+to-start c = c .before .before .before .before .before .before
 
 add-at : tie.Need-add-at
 add-at c = search needs
@@ -76,8 +76,8 @@ returns : tie.Need-returns
 returns c =
     let at-down = c .before .before .before in
     let a = (to-start (c .before .before .before .before .before .before .before .before .before)) .args in
-    subst (λ (l : List ℕ). Covers (listedActions (a .needs .now) (a .adders .now)) l (a .needed .now) (at-down .down .result) (at-down .down .last .0))
-    (fall-part (a .needs .now) (a .adders .now) (a .words .now) (a .t) _ _
+    subst (λ (l : List ℕ). Covers (listedActions (a .needs .now) (a .owners .now) (a .adders .now)) l (a .needed .now) (at-down .down .result) (at-down .down .last .0))
+    (fall-part (a .needs .now) (a .owners .now) (a .adders .now) (a .words .now) (a .t) _ _
     (ap₂ _+_ ((c .before .before .before .before .before .before .before .before .before) .layer-start .ensures .0) (c .before .before .before .before .before .before .before .before .layer-size .ensures .0)) (c .before .before .before .before .before .before .before .layer-size2 .ensures .0))
     (at-down .down .ensures)
 

@@ -9,20 +9,20 @@ use Rattle.plan.proofs.layer.support.Statement.{statement}
 use Rattle.plan.proofs.layer.support.Tie as tie
 
 abbrev Inv-loop : tie.InvT-loop
-Inv-loop wanted live labels needs adders under₀ s₀ props p by₀ under s by = Seeking wanted live labels needs adders p under s by
+Inv-loop wanted live labels needs owners adders under₀ s₀ props p by₀ under s by = Seeking wanted live labels needs owners adders p under s by
 
 abbrev μ-loop : tie.MeasureT-loop
-μ-loop wanted live labels needs adders under₀ s₀ props p by₀ under s by = by
+μ-loop wanted live labels needs owners adders under₀ s₀ props p by₀ under s by = by
 
 abbrev Inv-props : tie.InvT-props
-Inv-props wanted live labels needs adders under₀ s₀ props₀ under s props = Laying wanted live labels needs adders under s props
+Inv-props wanted live labels needs owners adders under₀ s₀ props₀ under s props = Laying wanted live labels needs owners adders under s props
 
 abbrev μ-props : tie.MeasureT-props
-μ-props wanted live labels needs adders under₀ s₀ props₀ under s props = props
+μ-props wanted live labels needs owners adders under₀ s₀ props₀ under s props = props
 
 -- places, each from a later one
 abbrev to-start : tie.After-slice-known Inv-loop μ-loop Inv-props μ-props → tie.Start Inv-loop μ-loop Inv-props μ-props
-to-start c = c .before .before .before .before .before
+to-start c = c .before .before .before .before .before .before
 
 abbrev to-slice-known : tie.At-props Inv-loop μ-loop Inv-props μ-props → tie.After-slice-known Inv-loop μ-loop Inv-props μ-props
 to-slice-known c = c .before .before
@@ -54,13 +54,13 @@ lowest-requires c κs = tt
 others-requires : tie.Need-others-requires Inv-loop μ-loop Inv-props μ-props
 others-requires c κs = c .before .props-test .taken
 
-mul-t13 : tie.Need-mul-t13 Inv-loop μ-loop Inv-props μ-props
-mul-t13 c =
+mul-t14 : tie.Need-mul-t14 Inv-loop μ-loop Inv-props μ-props
+mul-t14 c =
     let at-props = c .before .before .before in
     omega (arith, c .before .lowest .ensures, lay-lt (at-props .props .inv) (c .before .before .props-test .taken), at-props .props .inv .lists .wide)
 
-shared-slice-read-t15 : tie.Need-shared-slice-read-t15 Inv-loop μ-loop Inv-props μ-props
-shared-slice-read-t15 c =
+shared-slice-read-t16 : tie.Need-shared-slice-read-t16 Inv-loop μ-loop Inv-props μ-props
+shared-slice-read-t16 c =
     let at-props = c .before .before .before .before in
     omega (arith, c .before .before .lowest .ensures, lay-lt (at-props .props .inv) (c .before .before .before .props-test .taken), at-props .props .inv .lists .wide)
 
@@ -110,46 +110,57 @@ props-again c = seek-clear ((to-props-of-props (to-props-of-lowest (to-lowest (t
 lowest-requires-2 : tie.Need-lowest-requires-2 Inv-loop μ-loop Inv-props μ-props
 lowest-requires-2 c κs = tt
 
-mul-turn : tie.Need-mul-turn Inv-loop μ-loop Inv-props μ-props
-mul-turn c =
+-- the effect that takes its turn is one of the lists
+listed : (c : tie.After-lowest2 Inv-loop μ-loop Inv-props μ-props)
+    → let s = to-start (to-slice-known (to-props-of-props (to-props-of-lowest (to-lowest (to-others (c .before .before .before .before)))))) in
+    c .lowest2 .result < length (s .args .needs .now)
+listed c =
     let at-loop = c .before .before .before .before in
-    omega (arith, c .lowest2 .ensures, seek-lt (at-loop .loop .inv) (c .before .before .before .loop-test .taken), at-loop .loop .inv .lists .tables .few)
+    omega (arith, c .lowest2 .ensures, seek-lt (at-loop .loop .inv) (c .before .before .before .loop-test .taken))
 
 shared-slice-read-turn : tie.Need-shared-slice-read-turn Inv-loop μ-loop Inv-props μ-props
 shared-slice-read-turn c =
-    let at-loop = to-loop (c .before .before .before .before) in
-    omega (arith, c .before .lowest2 .ensures, seek-lt (at-loop .loop .inv) (c .before .before .before .before .loop-test .taken), at-loop .loop .inv .lists .tables .few, at-loop .loop .inv .lists .labelled)
+    let tables = c .before .before .before .before .before .loop .inv .lists .tables in
+    omega (arith, listed (c .before), tables .owned, tables .few)
 
-mul-turn-2 : tie.Need-mul-turn-2 Inv-loop μ-loop Inv-props μ-props
-mul-turn-2 c =
-    let at-loop = to-loop (c .before .before .before .before) in
-    omega (arith, c .before .lowest2 .ensures, seek-lt (at-loop .loop .inv) (c .before .before .before .before .loop-test .taken), at-loop .loop .inv .lists .tables .few)
+cast-turn : tie.Need-cast-turn Inv-loop μ-loop Inv-props μ-props
+cast-turn c = omega (arith, c .before .before .before .before .before .loop .inv .lists .tables .owner _ (listed (c .before)))
+
+mul-turn : tie.Need-mul-turn Inv-loop μ-loop Inv-props μ-props
+mul-turn c = omega (arith, listed (c .before), c .before .before .before .before .before .loop .inv .lists .tables .few)
 
 shared-slice-read-turn-2 : tie.Need-shared-slice-read-turn-2 Inv-loop μ-loop Inv-props μ-props
-shared-slice-read-turn-2 c =
-    let at-loop = to-loop (c .before .before .before .before .before) in
-    omega (arith, c .before .before .lowest2 .ensures, seek-lt (at-loop .loop .inv) ((c .before .before .before .before .before) .loop-test .taken), at-loop .loop .inv .lists .tables .few)
+shared-slice-read-turn-2 c = omega (arith, listed (c .before .before), c .before .before .before .before .before .before .loop .inv .lists .labelled)
+
+mul-turn-2 : tie.Need-mul-turn-2 Inv-loop μ-loop Inv-props μ-props
+mul-turn-2 c = omega (arith, listed (c .before .before), c .before .before .before .before .before .before .loop .inv .lists .tables .few)
+
+shared-slice-read-turn-3 : tie.Need-shared-slice-read-turn-3 Inv-loop μ-loop Inv-props μ-props
+shared-slice-read-turn-3 c = omega (arith, listed (c .before .before .before))
 
 turn-requires : tie.Need-turn-requires Inv-loop μ-loop Inv-props μ-props
 turn-requires c κs =
-    let at-lowest2 = c .before .before .before in
-    let at-loop-test = at-lowest2 .before .before .before in
-    let at-loop = at-loop-test .before in
-    let l = at-loop .loop in (
-      omega (arith, at-lowest2 .lowest2 .ensures, seek-lt (at-loop .loop .inv) (at-loop-test .loop-test .taken), at-loop .loop .inv .lists .tables .few),
-      subst (λ (x : ℕ). getD ((to-start (to-slice-known (to-props-of-props (to-props-of-lowest (to-lowest (to-others (to-loop (c .before .before .before .before .before .before)))))))) .args .needs .now) (at-lowest2 .lowest2 .result) 0 < 2 ^ x) (sym (l .inv .long)) (l .inv .lists .tables .pre _ (omega (arith, at-lowest2 .lowest2 .ensures, seek-lt (at-loop .loop .inv) (at-loop-test .loop-test .taken), at-loop .loop .inv .lists .tables .few))),
-      omega (arith, l .inv .long, l .inv .lists .tables .props),
-      l .inv .live,
+    let at-lowest2 = c .before .before .before .before in
+    let at-loop = at-lowest2 .before .before .before .before in
+    let s = to-start (to-slice-known (to-props-of-props (to-props-of-lowest (to-lowest (to-others at-loop))))) in
+    let l = at-loop .loop .inv in (
+      l .lists .tables .owner _ (listed at-lowest2),
+      subst (λ (x : ℕ). getD (s .args .needs .now) (at-lowest2 .lowest2 .result) 0 < 2 ^ x) (sym (l .long)) (l .lists .tables .need _ (listed at-lowest2)),
+      omega (arith, l .long, l .lists .tables .props),
+      l .live,
     )
 
 others-requires-2 : tie.Need-others-requires-2 Inv-loop μ-loop Inv-props μ-props
-others-requires-2 c κs = (c .before .before .before .before .before .before .before .before .before) .loop-test .taken
+others-requires-2 c κs = (c .before .before .before .before .before .before .before .before .before .before) .loop-test .taken
 
 loop-less : tie.Need-loop-less Inv-loop μ-loop Inv-props μ-props
 loop-less c = c .others2 .ensures .1
 
 loop-again : tie.Need-loop-again Inv-loop μ-loop Inv-props μ-props
-loop-again c = seek-on ((to-loop (c .before .before .before .before .before .before .before .before .before .before)) .loop .inv) ((c .before .before .before .before .before .before .before .before .before .before) .loop-test .taken) (c .before .before .before .before .before .before .before .before .if1 .left) (c .before .before .before .before .before .before .before .lowest2 .ensures) (c .others2 .ensures .0) refl refl (c .before .before .before .turn .ensures)
+loop-again c =
+    let at-lowest2 = c .before .before .before .before .before .before .before .before in
+    seek-on (at-lowest2 .before .before .before .before .loop .inv) (at-lowest2 .before .before .before .loop-test .taken) (at-lowest2 .before .if1 .left)
+    (at-lowest2 .lowest2 .ensures) (c .others2 .ensures .0) refl refl refl (c .before .before .before .turn .ensures)
 
 same-length : tie.Need-same-length Inv-loop μ-loop Inv-props μ-props
 same-length c = c .before .before .before .loop .inv .long ∙ sym (ap length ((to-start (to-slice-known (to-props-of-props (to-props-of-lowest (to-lowest (to-others (c .before .before .before))))))) .pre .1) ∙ length-listOver _ _)
@@ -181,8 +192,8 @@ support-spec =
     props-holds
     lowest-requires
     others-requires
-    mul-t13
-    shared-slice-read-t15
+    mul-t14
+    shared-slice-read-t16
     add-carry
     mul-carry
     shared-slice-read-carry
@@ -193,10 +204,12 @@ support-spec =
     props-less
     props-again
     lowest-requires-2
-    mul-turn
     shared-slice-read-turn
-    mul-turn-2
+    cast-turn
+    mul-turn
     shared-slice-read-turn-2
+    mul-turn-2
+    shared-slice-read-turn-3
     turn-requires
     others-requires-2
     loop-less

@@ -1,4 +1,4 @@
--- The row is met, cut and cleared.
+-- The row is met and cut.
 use mathlib.Core.Path.{sym, ap, subst, _∙_}
 use Prim.Native.Nat.{ℕ, _<_, _^_}
 use native.Mathlib.Omega.{arith}
@@ -42,23 +42,19 @@ meet-at-requires c κs =
 cut-row-requires : tie.Need-cut-row-requires
 cut-row-requires c κs = search needs
 
-clear-cells-requires : tie.Need-clear-cells-requires
-clear-cells-requires c κs = search needs
-
 same-length : tie.Need-same-length
 same-length c = search needs
 
 returns : tie.Need-returns
 unfolding needsWith
 returns c =
-    let at-clear-cells = c .before .before in
-    let at-cut-row = at-clear-cells .before .before .before .before in
+    let at-cut-row = c .before .before in
     let at-meet-at = at-cut-row .before .before in
     let at-meet-row = at-meet-at .before .before .before .before .before in
     let start = at-meet-row .before .before .before .before .before in
     let a = start .args in
     let label = admit-label (a .all) (start .pre) (at-meet-row .meet-row .ensures) (omega arith) _ (lent (at-meet-row .meet-row .last .0) (a .i)) (at-meet-at .meet-at .ensures) in
-    (label, admit-put (a .all) (start .pre) (at-meet-row .meet-row .ensures) (omega arith) label (omega arith) (at-cut-row .cut-row .ensures) (at-clear-cells .clear-cells .ensures))
+    (label, admit-put (a .all) (start .pre) (at-meet-row .meet-row .ensures) (omega arith) label (at-cut-row .cut-row .ensures))
 
 pub admit-row-spec : {M : Type 1} → statement M
 admit-row-spec =
@@ -73,6 +69,5 @@ admit-row-spec =
     part-meet-at-end
     meet-at-requires
     cut-row-requires
-    clear-cells-requires
     same-length
     returns)

@@ -11,14 +11,15 @@ use Rattle.together.proofs.few.few.Tie as tie
 clear-requires : tie.Need-clear-requires
 clear-requires c κs = search needs
 
-few-actions-requires : tie.Need-few-actions-requires
-few-actions-requires c κs =
+few-effects-requires : tie.Need-few-effects-requires
+few-effects-requires c κs =
     let at-clear = c .before .before .before .before in
-    let start = at-clear .before .before .before .before .before .before .before .before .before in
+    let start = at-clear .before .before .before .before .before .before .before .before .before .before in
     let p = start .pre in (
       record {
         wide = p .wide;
         adds-long = p .adds-long;
+        dels-long = p .dels-long;
         interferers-long = p .interferers-long;
         live-long = p .live-long;
         r-long = p .r-long;
@@ -39,4 +40,4 @@ returns c = search needs
 
 pub few-spec : {M : Type 1} → statement M
 few-spec =
-    tie.close (tie.spec clear-requires few-actions-requires same-length same-length-2 returns)
+    tie.close (tie.spec clear-requires few-effects-requires same-length same-length-2 returns)

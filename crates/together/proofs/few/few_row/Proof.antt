@@ -1,4 +1,4 @@
--- The loop takes one action after the other.
+-- The loop takes one effect after the other.
 use mathlib.Core.Path.{refl, subst, sym, _∙_}
 use Prim.Native.Nat.{ℕ, _<_, _^_}
 use native.Mathlib.Omega.{arith}
@@ -23,7 +23,7 @@ loop-holds c =
 lowest-requires : tie.Need-lowest-requires Inv-loop μ-loop
 lowest-requires c κs = tt
 
--- the lowest member is the number of an action
+-- the lowest member is the number of an effect
 inside : (c : tie.After-lowest Inv-loop μ-loop) → c .lowest .result < length (c .before .before .before .before .before .before .before .before .before .args .needs .now)
 inside c =
     let at-loop = c .before .before in

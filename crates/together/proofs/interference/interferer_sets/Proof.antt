@@ -11,10 +11,10 @@ use Rattle.together.proofs.interference.interferer_sets.Statement.{stat
 use Rattle.together.proofs.interference.interferer_sets.Tie as tie
 
 abbrev Inv-loop : tie.InvT-loop
-Inv-loop needs adds dels interferers₀ i₀ i-end interferers i = Lists (interferersOf needs adds dels) 0 (length needs) interferers₀ i interferers
+Inv-loop needs adds dels owners interferers₀ i₀ i-end interferers i = Lists (interferersOf needs adds dels owners) 0 (length needs) interferers₀ i interferers
 
 abbrev μ-loop : tie.MeasureT-loop
-μ-loop needs adds dels interferers₀ i₀ i-end interferers i = length needs - i
+μ-loop needs adds dels owners interferers₀ i₀ i-end interferers i = length needs - i
 
 loop-holds : tie.Need-loop-holds Inv-loop μ-loop
 loop-holds c = list-none (omega arith)

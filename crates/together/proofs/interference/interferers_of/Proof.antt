@@ -4,20 +4,19 @@ use Prim.Native.Nat.{_-_}
 use native.Mathlib.Omega.{arith}
 use lib.ListN.{length}
 use borrow.Author.Needs.{needs as simple}
-use Rattle.rules.specs.Test.{_or_}
 use Rattle.rules.specs.Over.{keep}
 use Rattle.rules.specs.Word.{single}
-use Rattle.together.specs.Interference.{clobbersIn, interferersOf}
+use Rattle.together.specs.Interference.{interfereIn, interferersOf}
 use Rattle.words.proofs.Folds.{Joins, join-none, join-more, join-done}
 use Rattle.together.proofs.interference.interferers_of.Statement.{statement}
 use Rattle.together.proofs.interference.interferers_of.Tie as tie
 
 abbrev Inv-loop : tie.InvT-loop
-Inv-loop needs adds dels v joined₀ w₀ w-end joined w =
-    Joins (λ w. keep (clobbersIn needs adds dels v w or clobbersIn needs adds dels w v) (single w)) (length needs) w joined
+Inv-loop needs adds dels owners v joined₀ w₀ w-end joined w =
+    Joins (λ w. keep (interfereIn needs adds dels owners v w) (single w)) (length needs) w joined
 
 abbrev μ-loop : tie.MeasureT-loop
-μ-loop needs adds dels v joined₀ w₀ w-end joined w = length needs - w
+μ-loop needs adds dels owners v joined₀ w₀ w-end joined w = length needs - w
 
 loop-holds : tie.Need-loop-holds Inv-loop μ-loop
 loop-holds c = join-none

@@ -5,13 +5,13 @@ use native.Mathlib.Omega.{arith}
 use lib.ListN.{length, length-set}
 use Rattle.words.specs.Rows.{rowLength}
 use Rattle.words.proofs.Cells.{Rows, rows-none}
-use Rattle.together.specs.Cells.{withAction}
+use Rattle.together.specs.Cells.{withEffect}
 use Rattle.together.proofs.Rows.{parts-le, inside-lt, rows-row, pairs-put}
 use Rattle.together.proofs.pairs.pairs.Statement.{statement}
 use Rattle.together.proofs.pairs.pairs.Tie as tie
 
 abbrev Inv-loop : tie.InvT-loop
-Inv-loop needs interferers live turned mates₀ n width i₀ i-end mates i = (width ≤ rowLength) × Rows (withAction needs interferers live turned) width i mates
+Inv-loop needs interferers live turned mates₀ n width i₀ i-end mates i = (width ≤ rowLength) × Rows (withEffect needs interferers live turned) width i mates
 
 abbrev μ-loop : tie.MeasureT-loop
 μ-loop needs interferers live turned mates₀ n width i₀ i-end mates i = length needs - i

@@ -1,0 +1,88 @@
+-- Version 2: the sets of all states, kept by proposition as words of states, and what a step does to them.
+use Prim.Native.Nat.{ℕ, zero, suc}
+use mathlib.Core.Path.{_≡_}
+use mathlib.Core.Bool.{Bool}
+use mathlib.Core.List.{List}
+use lib.ListN.{length, getD}
+use Rattle.rules.specs.Test.{fails, same, choose}
+use Rattle.rules.specs.Word.{bit, union, without, single}
+use Rattle.rules.specs.Over.{keep, joinOver, joinOf, meetOf, firstBelow}
+use Rattle.rules.specs.Lists.{listOver}
+use Rattle.rules.specs.Domain.{Actions}
+use Rattle.rules.specs.Shared.{startLabel}
+use Rattle.words.specs.Rows.{rowLength}
+use Rattle.graph.specs.Limits.{maxEffects}
+use Rattle.graph.specs.Format.{actionsOf}
+use Rattle.graph.specs.File.{Taken}
+use Rattle.graph.specs.declared.format.Counts.{Counts}
+
+-- a row of empty words
+abbrev pub Empty : List ℕ → Type 0
+Empty row = row ≡ listOver rowLength (λ i. 0)
+
+-- of each proposition the states whose set has it, of n states with the sets xs
+unfoldable pub labelsOf : ℕ → List ℕ → List ℕ
+labelsOf n xs = listOver rowLength (startLabel n (λ s. getD xs s 0))
+
+-- and the set of state s read back from them
+unfoldable pub setIn : List ℕ → ℕ → ℕ
+setIn labels s = startLabel rowLength (λ p. getD labels p 0) s
+
+-- the effects of action a, as a word
+unfoldable pub effectsOf : Actions → ℕ → ℕ
+effectsOf A a = joinOver (A .effects) (λ e. keep (same (A .owner e) a) (single e))
+
+-- the states of the set that have all of these propositions
+unfoldable pub having : List ℕ → ℕ → ℕ → ℕ
+having labels set props = meetOf rowLength props (λ p. getD labels p 0) set
+
+-- the states of the set in which effect e fires: its antecedent holds there
+unfoldable pub firedIn : Actions → ℕ → List ℕ → ℕ → ℕ
+firedIn A set labels e = having labels set (A .when e)
+
+-- these words of the effects in the word `by`, and of the others what `fired` has
+unfoldable pub firedBy : Actions → ℕ → ℕ → List ℕ → List ℕ → List ℕ
+firedBy A set by labels fired = listOver maxEffects (λ e. choose (bit e by) (firedIn A set labels e) (getD fired e 0))
+
+-- of n effects those of the word `by`, with the sets of propositions that are given: the states in which one of them fires that has p in its set
+unfoldable pub touched : ℕ → (ℕ → ℕ) → ℕ → List ℕ → ℕ → ℕ
+touched n sets by fired p = joinOf n by (λ e. keep (bit p (sets e)) (getD fired e 0))
+
+-- 'all adds joined'
+unfoldable pub joinedBy : Actions → ℕ → List ℕ → List ℕ → List ℕ
+joinedBy A by fired labels = listOver rowLength (λ p. union (getD labels p 0) (touched (A .effects) (A .add) by fired p))
+
+-- 'then all deletes removed'
+unfoldable pub removedBy : Actions → ℕ → List ℕ → List ℕ → List ℕ
+removedBy A by fired labels = listOver rowLength (λ p. without (getD labels p 0) (touched (A .effects) (A .del) by fired p))
+
+-- both, by the words that `fired` has
+unfoldable pub applied : Actions → ℕ → List ℕ → List ℕ → List ℕ
+applied A by fired labels = removedBy A by fired (joinedBy A by fired labels)
+
+-- a step of action a, in every state of the set: each effect fires by what held before it
+unfoldable pub steppedIn : Actions → ℕ → ℕ → List ℕ → List ℕ
+steppedIn A set a labels = applied A (effectsOf A a) (listOver maxEffects (firedIn A set labels)) labels
+
+-- every state of the set has its precondition
+unfoldable pub readyIn : Actions → ℕ → ℕ → List ℕ → Bool
+readyIn A set a labels = same (having labels set (A .pre a)) set
+
+-- after the first i steps of the list
+unfoldable pub labelsAt : Actions → ℕ → List ℕ → List ℕ → ℕ → List ℕ
+labelsAt A set list labels zero = labels
+labelsAt A set list labels (suc i) = steppedIn A set (getD list i 0) (labelsAt A set list labels i)
+
+unfoldable pub readyAt : Actions → ℕ → List ℕ → List ℕ → ℕ → Bool
+readyAt A set list labels i = readyIn A set (getD list i 0) (labelsAt A set list labels i)
+
+-- the first step that lacks its precondition, and the list's length where there is none
+unfoldable pub firstLack : Actions → ℕ → List ℕ → List ℕ → ℕ
+firstLack A set list labels = firstBelow (length list) (λ i. fails (readyAt A set list labels i))
+
+-- what a step goes by: the file's actions, the effects of each of them, and room for the words of each proposition and of each effect
+pub record Rooms (file : List ℕ) (c : Counts) (owned labels fired : List ℕ) : Type 0 where
+  pub taken : Taken file c
+  pub owned-are : owned ≡ listOver rowLength (effectsOf (actionsOf file c))
+  pub labels-long : length labels ≡ rowLength
+  pub fired-long : length fired ≡ maxEffects

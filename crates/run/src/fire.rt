@@ -1,0 +1,195 @@
+// Version 2: a step of an action in every state of a set at once. The sets of all states are kept by proposition, a word of states for each, so that an effect
+// finds by a few words in what states it fires.
+use graph::file::byte;
+use graph::format::Counts;
+use graph::read::added;
+use graph::read::antecedent;
+use graph::read::deleted;
+use graph::read::owner;
+use graph::read::precondition;
+use words::columns::spread;
+use words::members::lowest;
+use words::members::meet_at;
+use words::members::others;
+use words::members::single;
+use words::sets::Props;
+use words::sets::States;
+use words::sets::wide;
+use words::tables::ROW;
+ghost use mathlib.Core.Path.{_≡_};
+ghost use Prim.Native.Nat.{_≤_, _<_, _^_};
+ghost use lib.ListN.{length};
+ghost use Rattle.rules.specs.Test.{choose};
+ghost use Rattle.rules.specs.Word as W;
+ghost use Rattle.rules.specs.Over.{keep};
+ghost use Rattle.rules.specs.Lists.{listOver};
+ghost use Rattle.rules.specs.Layer.{labelIn};
+ghost use Rattle.words.specs.Width.{propWidth, stateWidth};
+ghost use Rattle.words.specs.Rows.{rowLength};
+ghost use Rattle.words.specs.Memory.{putAt};
+ghost use Rattle.graph.specs.Limits.{maxEffects};
+ghost use Rattle.graph.specs.Format.{actionsOf};
+ghost use Rattle.graph.specs.File.{Taken};
+ghost use Rattle.run.specs.Course.{Known};
+ghost use Rattle.run.specs.Fire as F;
+ghost use Rattle.run.specs.Fire.{Empty, Rooms, setIn, effectsOf, firedBy, joinedBy, removedBy, applied, steppedIn, readyIn, labelsAt, firstLack};
+
+// The effects of each action, in a row of empty words.
+pub fn read_owned(file: &[u8], c: Counts, owned: &mut [u64])
+    requires { ⌜ Taken (now file) c × Empty (now owned) ⌝ }
+    ensures { λ r. ⌜ now (owned .exit) ≡ listOver rowLength (effectsOf (actionsOf (now (file .entry)) c)) ⌝ }
+{
+    for e in 0..c.effects {
+        spread(&mut *owned, Props::single(owner(file, c, e)), single(e));
+    }
+}
+
+// The states of the set that have all of these propositions.
+fn having(labels: &[u64], set: States, props: Props) -> u64
+    requires { ⌜ length (now labels) ≡ rowLength ⌝ }
+    ensures { λ r. ⌜ r ≡ F.having (now (labels .entry)) (set .0) (props .0) ⌝ }
+{
+    meet_at(labels, wide(props.0), set.0)
+}
+
+// In what states of the set each effect of the word `by` fires.
+fn fire(file: &[u8], c: Counts, by: u64, set: States, labels: &[u64], fired: &mut [u64])
+    requires { ⌜ Taken (now file) c × (by < 2 ^ c .effects) × (length (now labels) ≡ rowLength) × (length (now fired) ≡ maxEffects) ⌝ }
+    ensures { λ r. ⌜ now (fired .exit) ≡ firedBy (actionsOf (now (file .entry)) c) (set .0) by (now (labels .entry)) (now (fired .entry)) ⌝ }
+{
+    let mut left = by;
+    while 0 < left {
+        let e = lowest(left);
+        fired[e] = having(labels, set, Props(antecedent(file, c, e)));
+        left = others(left);
+    }
+}
+
+// Joins the adds of these effects, each in the states in which it fires.
+fn join_adds(file: &[u8], c: Counts, by: u64, fired: &[u64], labels: &mut [u64])
+    requires { ⌜ Taken (now file) c × (by < 2 ^ c .effects) × (length (now fired) ≡ maxEffects) × (length (now labels) ≡ rowLength) ⌝ }
+    ensures { λ r. ⌜ now (labels .exit) ≡ joinedBy (actionsOf (now (file .entry)) c) by (now (fired .entry)) (now (labels .entry)) ⌝ }
+{
+    let mut left = by;
+    while 0 < left {
+        let e = lowest(left);
+        spread(&mut *labels, Props(added(file, c, e)), fired[e]);
+        left = others(left);
+    }
+}
+
+// Takes `t` away from the word of each member. Only the members cost time, and where `t` is empty they do not.
+fn strip(row: &mut [u64], set: Props, t: u64)
+    requires { ⌜ length (now row) ≤ propWidth ⌝ }
+    ensures { λ r. ⌜ now (row .exit) ≡ listOver (length (now (row .entry))) (λ q. W.without (labelIn (now (row .entry)) q) (keep (W.bit q (set .0)) t)) ⌝ }
+{
+    if t == 0 {
+        return;
+    }
+    let mut left = wide(Props::first(row.len()).common(set).0);
+    while 0 < left {
+        let q = lowest(left);
+        row[q] = row[q] ^ (row[q] & t);
+        left = others(left);
+    }
+}
+
+// Removes the deletes of these effects, each in the states in which it fires.
+fn remove_deletes(file: &[u8], c: Counts, by: u64, fired: &[u64], labels: &mut [u64])
+    requires { ⌜ Taken (now file) c × (by < 2 ^ c .effects) × (length (now fired) ≡ maxEffects) × (length (now labels) ≡ rowLength) ⌝ }
+    ensures { λ r. ⌜ now (labels .exit) ≡ removedBy (actionsOf (now (file .entry)) c) by (now (fired .entry)) (now (labels .entry)) ⌝ }
+{
+    let mut left = by;
+    while 0 < left {
+        let e = lowest(left);
+        strip(&mut *labels, Props(deleted(file, c, e)), fired[e]);
+        left = others(left);
+    }
+}
+
+// These effects in every state of the set: each fires by what held before them all, all adds are joined, then all deletes removed.
+fn apply(file: &[u8], c: Counts, by: u64, set: States, labels: &mut [u64], fired: &mut [u64])
+    requires { ⌜ Taken (now file) c × (by < 2 ^ c .effects) × (length (now labels) ≡ rowLength) × (length (now fired) ≡ maxEffects) ⌝ }
+    ensures { λ r. ⌜ (now (fired .exit) ≡ firedBy (actionsOf (now (file .entry)) c) (set .0) by (now (labels .entry)) (now (fired .entry)))
+        × (now (labels .exit) ≡ applied (actionsOf (now (file .entry)) c) by (now (fired .exit)) (now (labels .entry))) ⌝ }
+{
+    fire(file, c, by, set, &*labels, &mut *fired);
+    join_adds(file, c, by, &*fired, &mut *labels);
+    remove_deletes(file, c, by, &*fired, &mut *labels);
+}
+
+// An action in every state of the set, or in none, where some state of the set lacks its precondition.
+fn step_effects(
+    file: &[u8],
+    c: Counts,
+    a: usize,
+    set: States,
+    owned: &[u64],
+    labels: &mut [u64],
+    fired: &mut [u64],
+) -> bool
+    requires { ⌜ Rooms (now file) c (now owned) (now labels) (now fired) × (a < c .actions) ⌝ }
+    ensures { λ r. ⌜ (r ≡ readyIn (actionsOf (now (file .entry)) c) (set .0) a (now (labels .entry)))
+        × (now (labels .exit) ≡ choose r (steppedIn (actionsOf (now (file .entry)) c) (set .0) a (now (labels .entry))) (now (labels .entry))) ⌝ }
+{
+    if having(&*labels, set, Props(precondition(file, c, a))) != set.0 {
+        return false;
+    }
+    apply(file, c, owned[a], set, labels, fired);
+    true
+}
+
+// The steps of a list, up to the first that lacks its precondition: its index, or the list's length.
+pub fn walk_effects(
+    file: &[u8],
+    c: Counts,
+    set: States,
+    list: &[u8],
+    owned: &[u64],
+    labels: &mut [u64],
+    fired: &mut [u64],
+) -> usize
+    requires { ⌜ Rooms (now file) c (now owned) (now labels) (now fired) × Known (c .actions) (now list) ⌝ }
+    ensures { λ r. ⌜ (r ≡ firstLack (actionsOf (now (file .entry)) c) (set .0) (now (list .entry)) (now (labels .entry)))
+        × (now (labels .exit) ≡ labelsAt (actionsOf (now (file .entry)) c) (set .0) (now (list .entry)) (now (labels .entry)) r) ⌝ }
+{
+    let mut i = 0;
+    while i < list.len() {
+        let a = byte(list, i);
+        if !step_effects(file, c, a, set, owned, &mut *labels, &mut *fired) {
+            return i;
+        }
+        i += 1;
+    }
+    i
+}
+
+// Just p, if the word has s.
+fn moved_bit(word: u64, s: usize, p: usize) -> u32
+    requires { ⌜ (s < stateWidth) × (p < propWidth) ⌝ }
+    ensures { λ r. ⌜ r ≡ keep (W.bit s word) (W.single p) ⌝ }
+{
+    (((word >> s) % 2) as u32) << p
+}
+
+// The set of state s. No way leads out of the loop, so that it takes many words at a time.
+fn set_in(labels: &[u64], s: usize) -> u32
+    requires { ⌜ (length (now labels) ≡ rowLength) × (s < stateWidth) ⌝ }
+    ensures { λ r. ⌜ r ≡ setIn (now (labels .entry)) s ⌝ }
+{
+    let mut set = 0u32;
+    for p in 0..ROW {
+        set = set | moved_bit(labels[p], s, p);
+    }
+    set
+}
+
+// The sets of all n states, at the front of the output.
+pub fn lay_labels(labels: &[u64], n: usize, out: &mut [u32])
+    requires { ⌜ (length (now labels) ≡ rowLength) × (n ≤ stateWidth) × (n ≤ length (now out)) ⌝ }
+    ensures { λ r. ⌜ now (out .exit) ≡ putAt 0 (listOver n (setIn (now (labels .entry)))) (now (out .entry)) ⌝ }
+{
+    for s in 0..n {
+        out[s] = set_in(labels, s);
+    }
+}
