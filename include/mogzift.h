@@ -23,7 +23,7 @@
  * writes what another reads or writes.
  *
  * WHAT A CALL RETURNS AND TELLS
- * It returns 0 if it is accepted, else the number of its refusal, 1 to 15. Every call writes all three numbers of the
+ * It returns 0 if it is accepted, else the number of its refusal, 1 to 16. Every call writes all three numbers of the
  * answer. answer[0] is the kind:
  *   MOGZIFT_REFUSED       answer[1] is the number returned, answer[2] the place
  *   MOGZIFT_ANSWERED      answer[1] and answer[2] are the call's, as said there; 0 where nothing is said
@@ -47,27 +47,34 @@
  * less. Give a thread MOGZIFT_STACK bytes, 256 KiB, which is more than twice the largest.
  *
  * THE PROBLEM FILE (little-endian; a set of propositions is 4 bytes)
- *   offset 0 the letters SAG; 3 version, 2 bytes, 1; 5 P propositions (1 to 32); 6 A actions (0 to 32); 7 N start states
- *   (1 to 64); 8 A actions of 12 bytes: precondition, add, delete; then N start states of 4 bytes. Length 8 + 12A + 4N.
- *   No two actions have the same three sets. Start states may repeat.
+ *   offset 0 the letters SAG; 3 version, 2 bytes, 1 or 2; 5 P propositions (1 to 32); 6 A actions (0 to 32); 7 N start
+ *   states (1 to 64).
+ *   Version 1: from offset 8 on A actions of 12 bytes: precondition, add, delete; then N start states of 4 bytes. Length
+ *   8 + 12A + 4N. No two actions have the same three sets. Each has one effect, of its number, that fires in any state.
+ *   Version 2: offset 8 E effects (0 to 32); from 9 on A preconditions of 4 bytes, one for each action; then E effects of
+ *   13 bytes: number of its action (1 byte), antecedent, add, delete; then N start states of 4 bytes. Length
+ *   9 + 4A + 13E + 4N. An action may have several effects, or none; preconditions and effects may repeat.
+ *   Start states may repeat in both.
  *
  * THE GRAPH'S WORDS
  * Proposition layer 0, action layer 0, proposition layer 1, .., proposition layer k; in each the labels by number, then
- * the mutex words of the pairs (0,1), (0,2), .., (1,2), ..; bit s speaks of start state s. With V = A + P vertices (the
- * actions, then a persistence for each proposition) these are (k + 1) P (P + 1) / 2 + k V (V + 1) / 2 words:
- * mogzift_words below.
+ * the mutex words of the pairs (0,1), (0,2), .., (1,2), ..; bit s speaks of start state s. With V = E + P vertices (the
+ * effects, in version 1 E = A, then a persistence for each proposition) these are (k + 1) P (P + 1) / 2 + k V (V + 1) / 2
+ * words: mogzift_words below. An effect needs its action's precondition and its antecedent; effects of one action do not
+ * interfere.
  *
  * REFUSALS
- * The first cause that holds, in the order of this list, of those that the call can have: rising numbers, but 15 behind 5.
- * 1 to 5 and 15 are for the file's writer to mend, 6 to 11 for the caller; 12 and 13 lie in the problem; at 14 someone
- * altered the graph's words.
+ * The first cause that holds, in the order of this list, of those that the call can have: rising numbers, but 16 and 15
+ * behind 5. 1 to 5, 16 and 15 are for the file's writer to mend, 6 to 11 for the caller; 12 and 13 lie in the problem; at
+ * 14 someone altered the graph's words.
  *   number                          cause                                                        place
- *    1 MOGZIFT_BAD_HEAD             under 8 bytes, or no SAG                                     0
- *    2 MOGZIFT_BAD_VERSION          another version                                              3
- *    3 MOGZIFT_BAD_COUNT            P, A or N outside its range                                  5, 6 or 7, the lowest
+ *    1 MOGZIFT_BAD_HEAD             under 8 bytes, no SAG, or version 2 and under 9 bytes        0
+ *    2 MOGZIFT_BAD_VERSION          a version other than 1 and 2                                 3
+ *    3 MOGZIFT_BAD_COUNT            P, A, N or, in version 2, E outside its range                5, 6, 7 or 8, the lowest
  *    4 MOGZIFT_BAD_LENGTH           length                                                       the right length
  *    5 MOGZIFT_BAD_PROP_SET         a set in the file with bit P or above                        the first such set's offset
- *   15 MOGZIFT_EQUAL_ACTION         an action with the same three sets as an earlier one         the first such one's offset
+ *   16 MOGZIFT_EFFECT_ACTION        version 2: an effect with an action number of A or above     the first such one's offset
+ *   15 MOGZIFT_EQUAL_ACTION         version 1: an action with the three sets of an earlier one   the first such one's offset
  *    6 MOGZIFT_BAD_DEPTH            depth above 255                                              255
  *    7 MOGZIFT_BAD_STATE_SET        set empty, or with bit N or above                            0
  *    8 MOGZIFT_BAD_GOAL             goal with bit P or above                                     0
@@ -121,7 +128,8 @@ enum {
     MOGZIFT_NO_PRECONDITION = 12,
     MOGZIFT_NO_LEVEL = 13,
     MOGZIFT_UNCOVERED = 14,
-    MOGZIFT_EQUAL_ACTION = 15
+    MOGZIFT_EQUAL_ACTION = 15,
+    MOGZIFT_EFFECT_ACTION = 16
 };
 
 /* The bytes of output that mogzift_levels_text asks for: the longest text's. */
@@ -130,9 +138,12 @@ enum { MOGZIFT_TEXT_ROOM = 8600 };
 /* A thread with so many bytes of stack can make any call. */
 enum { MOGZIFT_STACK = 262144 };
 
-/* The number of words of a graph of these counts and this depth: what words_len must be at least. */
-static inline size_t mogzift_words(size_t props, size_t actions, size_t depth) {
-    size_t vertices = actions + props;
+/*
+ * The number of words of a graph of these counts and this depth: what words_len must be at least. It takes the number of
+ * effects: E in version 2, and in version 1, where each action has one, A.
+ */
+static inline size_t mogzift_words(size_t props, size_t effects, size_t depth) {
+    size_t vertices = effects + props;
     return (depth + 1) * (props * (props + 1) / 2) + depth * (vertices * (vertices + 1) / 2);
 }
 
@@ -142,11 +153,11 @@ static inline const char *mogzift_message(size_t number) {
     case 0:
         return "accepted";
     case MOGZIFT_BAD_HEAD:
-        return "not a problem file: begin it with SAG, the version and the three counts, 8 bytes in all";
+        return "not a problem file: begin it with SAG, the version and its counts, 8 bytes in all, 9 in version 2";
     case MOGZIFT_BAD_VERSION:
-        return "another version: write 1 and 0 at offsets 3 and 4";
+        return "another version: write 1 and 0, or 2 and 0, at offsets 3 and 4";
     case MOGZIFT_BAD_COUNT:
-        return "a count is out of range, at the place: 1 to 32 propositions, 0 to 32 actions, 1 to 64 start states";
+        return "a count is out of range, at the place: 1 to 32 propositions, 0 to 32 actions and effects, 1 to 64 states";
     case MOGZIFT_BAD_LENGTH:
         return "the length does not fit the counts: make it as long as the place says, or set the counts right";
     case MOGZIFT_BAD_PROP_SET:
@@ -171,6 +182,8 @@ static inline const char *mogzift_message(size_t number) {
         return "the graph's words were altered, seen at the layer that the place says: build the graph again";
     case MOGZIFT_EQUAL_ACTION:
         return "an action, at the place, has the same three sets as an earlier one: leave it out, and count A down";
+    case MOGZIFT_EFFECT_ACTION:
+        return "an effect, at the place, has an action number of A or above: name only 0 to A - 1, or count A up";
     default:
         return "no call returns this number";
     }
@@ -178,14 +191,14 @@ static inline const char *mogzift_message(size_t number) {
 
 /*
  * Builds the file's graph to the depth, into the front of words.
- * Answered: answer[1] is the number of words written. Refused: 1 to 5, 15, 6, 9.
+ * Answered: answer[1] is the number of words written. Refused: 1 to 5, 16, 15, 6, 9.
  */
 size_t mogzift_build(const uint8_t *file, size_t file_len, size_t depth, uint64_t *words, size_t words_len,
                      uint64_t answer[3]);
 
 /*
  * The layer at which the graph rests: the first below the depth whose labels and mutex words are those of the next layer.
- * Answered: answer[1] is the layer. None: no layer is like that. Refused: 1 to 5, 15, 6, 9.
+ * Answered: answer[1] is the layer. None: no layer is like that. Refused: 1 to 5, 16, 15, 6, 9.
  */
 size_t mogzift_rest(const uint8_t *file, size_t file_len, size_t depth, const uint64_t *words, size_t words_len,
                     uint64_t answer[3]);
@@ -194,7 +207,7 @@ size_t mogzift_rest(const uint8_t *file, size_t file_len, size_t depth, const ui
  * The level of the goal for the states of the set: the first layer where each goal's label contains the set and no mutex
  * word of two goals meets it. An empty goal has level 0.
  * Answered: answer[1] is the layer. Never: there is no such layer, and the graph rests. Not by depth: there is none, and
- * the graph does not rest. Refused: 1 to 5, 15, 6, 7, 8, 9.
+ * the graph does not rest. Refused: 1 to 5, 16, 15, 6, 7, 8, 9.
  */
 size_t mogzift_level(const uint8_t *file, size_t file_len, size_t depth, uint64_t set, uint32_t goal,
                      const uint64_t *words, size_t words_len, uint64_t answer[3]);
@@ -203,7 +216,7 @@ size_t mogzift_level(const uint8_t *file, size_t file_len, size_t depth, uint64_
  * The levels of a page of goals for the states of the set. Entry i of out is what mogzift_level gives for goal i: the
  * layer, 0 to 255; MOGZIFT_ENTRY_NEVER; MOGZIFT_ENTRY_NOT_BY_DEPTH; or MOGZIFT_ENTRY_BAD_GOAL where that call is turned
  * away with 8, which leaves the other entries as they are. A page may be empty.
- * Answered: answer[1] is the number of entries written, goals_len. Refused: 1 to 5, 15, 6, 7, 9, 10 (goals_len entries).
+ * Answered: answer[1] is the number of entries written, goals_len. Refused: 1 to 5, 16, 15, 6, 7, 9, 10 (goals_len entries).
  */
 size_t mogzift_page(const uint8_t *file, size_t file_len, size_t depth, uint64_t set, const uint32_t *goals,
                     size_t goals_len, const uint64_t *words, size_t words_len, uint16_t *out, size_t out_len,
@@ -212,31 +225,33 @@ size_t mogzift_page(const uint8_t *file, size_t file_len, size_t depth, uint64_t
 /*
  * Writes the graph's words cut to the set into the front of out, bits closed up in order: the lowest state of the set
  * becomes bit 0. On built words this is the graph built for these states only.
- * Answered: answer[1] is the number of words written. Refused: 1 to 5, 15, 6, 7, 9, 10 (as many words as the graph has).
+ * Answered: answer[1] is the number of words written. Refused: 1 to 5, 16, 15, 6, 7, 9, 10 (as many words as the graph has).
  */
 size_t mogzift_extract(const uint8_t *file, size_t file_len, size_t depth, uint64_t set, const uint64_t *words,
                        size_t words_len, uint64_t *out, size_t out_len, uint64_t answer[3]);
 
 /*
  * Runs the sequence from each state of the set and writes the N states' sets of propositions after it into the front of
- * out; states outside the set keep their start. A step joins its adds, then removes its deletes.
- * Answered: answer[1] is the number of sets written, N. Refused: 1 to 5, 15, 7, 10 (N sets), 11, 12.
+ * out; states outside the set keep their start. A step needs its action's precondition in every state of the set. Then, in
+ * each, the action's effects fire whose antecedents held there before the step: all that they add is joined, then all that
+ * they delete is removed. An action without effects changes nothing.
+ * Answered: answer[1] is the number of sets written, N. Refused: 1 to 5, 16, 15, 7, 10 (N sets), 11, 12.
  */
 size_t mogzift_run(const uint8_t *file, size_t file_len, uint64_t set, const uint8_t *list, size_t list_len,
                    uint32_t *out, size_t out_len, uint64_t answer[3]);
 
 /*
  * The relaxed plan that supports the goal for the states of the set. Word j of out, for j below the level, is the set of the
- * actions marked at action layer j.
+ * actions marked at action layer j: those of which an effect is chosen there.
  * Answered: answer[1] is the level, which is the number of words written, answer[2] how many actions are marked in all.
- * Refused: 1 to 5, 15, 6, 7, 8, 9, 10 (as many words as the depth), 13, 14.
+ * Refused: 1 to 5, 16, 15, 6, 7, 8, 9, 10 (as many words as the depth), 13, 14.
  */
 size_t mogzift_plan(const uint8_t *file, size_t file_len, size_t depth, uint64_t set, uint32_t goal,
                     const uint64_t *words, size_t words_len, uint32_t *out, size_t out_len, uint64_t answer[3]);
 
 /*
  * The greatest depth up to 255 whose graph for the file fits room words.
- * Answered: answer[1] is the depth. Refused: 1 to 5, 15, 9 (not even depth 0 fits; the words that it needs).
+ * Answered: answer[1] is the depth. Refused: 1 to 5, 16, 15, 9 (not even depth 0 fits; the words that it needs).
  */
 size_t mogzift_depth(const uint8_t *file, size_t file_len, size_t room, uint64_t answer[3]);
 

@@ -1,6 +1,6 @@
 /*
- * The lamp through every call of mogzift.h: what is returned, what is told, and all lent memory. Exits with 1 where
- * something differs. It is C99 and C++11; include/test.sh compiles and runs it as both.
+ * The lamp through every call of mogzift.h, in both versions of the file: what is returned, what is told, and all lent
+ * memory. Exits with 1 where something differs. It is C99 and C++11; include/test.sh compiles and runs it as both.
  */
 #include "mogzift.h"
 
@@ -24,6 +24,14 @@ static void check(int holds, const char *fact, int line) {
 static const uint8_t LAMP[40] = {'S', 'A', 'G', 1, 0, 3, 2, 2, 1, 0, 0, 0, 2, 0, 0, 0, 1, 0, 0, 0,
                                  2,   0,   0,   0, 4, 0, 0, 0, 0, 0, 0, 0, 1, 0, 0, 0, 2, 0, 0, 0};
 
+/*
+ * The lamp in version 2, with the same graph: action 0 waits, and has no effect; action 1 goes, and its effects are the
+ * walk, where one is at the door, and the light, where one is at the desk.
+ */
+static const uint8_t LAMP_2[51] = {'S', 'A', 'G', 2, 0, 3, 2, 2, 2, 0, 0, 0, 0, 0, 0, 0, 0, 1, 1, 0, 0, 0, 2, 0, 0, 0,
+                                   1,   0,   0,   0, 1, 2, 0, 0, 0, 4, 0, 0, 0, 0, 0, 0, 0, 1, 0, 0, 0, 2, 0, 0, 0};
+enum { WAIT = 0, GO = 1, FIRST_EFFECT = 17, SECOND_EFFECT = 30, FIRST_STATE = 43 };
+
 /* its graph of depth 2 */
 static const uint64_t LAMP_WORDS[48] = {
     1, 2, 0, 0, 0, 0,                            /* proposition layer 0 */
@@ -42,7 +50,8 @@ enum { GOALS = 5 };
 static const uint32_t PAGE[GOALS] = {DOOR, DESK, 8, LIT, DOOR | LIT};
 
 /* What is lent: marked before each call, so that what a call writes is seen. One element more than any call asks for. */
-static uint8_t file[40];
+static uint8_t file[9 + 4 * 32 + 13 * 32 + 4 * 64 + 1];
+static size_t file_len;
 static uint64_t words[49];
 static uint64_t deeper[69];
 static uint64_t words_out[49];
@@ -50,6 +59,11 @@ static uint32_t sets_out[4];
 static uint16_t levels_out[GOALS + 1];
 static uint8_t text_out[MOGZIFT_TEXT_ROOM + 1];
 static uint64_t answer[3];
+
+static void put(const uint8_t *bytes, size_t len) {
+    memcpy(file, bytes, len);
+    file_len = len;
+}
 
 static void mark(void) {
     memset(words_out, MARK, sizeof words_out);
@@ -99,51 +113,51 @@ static int paged(size_t code, const uint16_t *levels) {
            memcmp(levels_out, levels, GOALS * sizeof levels[0]) == 0;
 }
 
-/* The calls over the lamp's file and what is lent, marked anew. */
+/* The calls over the file and what is lent, marked anew. */
 static size_t build(size_t depth, size_t len) {
     mark();
-    return mogzift_build(file, sizeof file, depth, words_out, len, answer);
+    return mogzift_build(file, file_len, depth, words_out, len, answer);
 }
 
 static size_t rest(size_t depth, const uint64_t *graph, size_t len) {
     mark();
-    return mogzift_rest(file, sizeof file, depth, graph, len, answer);
+    return mogzift_rest(file, file_len, depth, graph, len, answer);
 }
 
 static size_t level(size_t depth, uint64_t set, uint32_t goal, const uint64_t *graph, size_t len) {
     mark();
-    return mogzift_level(file, sizeof file, depth, set, goal, graph, len, answer);
+    return mogzift_level(file, file_len, depth, set, goal, graph, len, answer);
 }
 
 /* a page of so many of the goals */
 static size_t page(size_t depth, uint64_t set, size_t goals, const uint64_t *graph, size_t len, size_t out_len) {
     mark();
-    return mogzift_page(file, sizeof file, depth, set, PAGE, goals, graph, len, levels_out, out_len, answer);
+    return mogzift_page(file, file_len, depth, set, PAGE, goals, graph, len, levels_out, out_len, answer);
 }
 
 static size_t extract(size_t depth, uint64_t set, size_t len, size_t out_len) {
     mark();
-    return mogzift_extract(file, sizeof file, depth, set, words, len, words_out, out_len, answer);
+    return mogzift_extract(file, file_len, depth, set, words, len, words_out, out_len, answer);
 }
 
 static size_t run(uint64_t set, const uint8_t *list, size_t len, size_t out_len) {
     mark();
-    return mogzift_run(file, sizeof file, set, list, len, sets_out, out_len, answer);
+    return mogzift_run(file, file_len, set, list, len, sets_out, out_len, answer);
 }
 
 static size_t plan(size_t depth, uint64_t set, uint32_t goal, size_t len, size_t out_len) {
     mark();
-    return mogzift_plan(file, sizeof file, depth, set, goal, words, len, sets_out, out_len, answer);
+    return mogzift_plan(file, file_len, depth, set, goal, words, len, sets_out, out_len, answer);
 }
 
 static size_t fitting_depth(size_t room) {
     mark();
-    return mogzift_depth(file, sizeof file, room, answer);
+    return mogzift_depth(file, file_len, room, answer);
 }
 
-static size_t levels_text(size_t file_len, size_t out_len) {
+static size_t levels_text(size_t len, size_t out_len) {
     mark();
-    return mogzift_levels_text(file, file_len, text_out, out_len, answer);
+    return mogzift_levels_text(file, len, text_out, out_len, answer);
 }
 
 static void builds(void) {
@@ -156,7 +170,7 @@ static void builds(void) {
     CHECK(refused(build(2, 0), MOGZIFT_SHORT_MEMORY, 48));
 }
 
-/* The causes of the file's writer: a byte of the lamp is another, or its length. */
+/* The causes of the file's writer: a byte of the file is another, or its length. */
 static size_t build_other(size_t len, size_t at, uint8_t byte) {
     size_t code;
     uint8_t kept = file[at];
@@ -170,7 +184,8 @@ static size_t build_other(size_t len, size_t at, uint8_t byte) {
 static void files(void) {
     CHECK(refused(build_other(0, 0, 'S'), MOGZIFT_BAD_HEAD, 0));
     CHECK(refused(build_other(40, 2, 'H'), MOGZIFT_BAD_HEAD, 0));
-    CHECK(refused(build_other(40, 3, 2), MOGZIFT_BAD_VERSION, 3));
+    CHECK(refused(build_other(40, 3, 3), MOGZIFT_BAD_VERSION, 3));
+    CHECK(refused(build_other(40, 4, 1), MOGZIFT_BAD_VERSION, 3));
     CHECK(refused(build_other(40, 5, 33), MOGZIFT_BAD_COUNT, 5));
     CHECK(refused(build_other(40, 6, 33), MOGZIFT_BAD_COUNT, 6));
     CHECK(refused(build_other(40, 7, 65), MOGZIFT_BAD_COUNT, 7));
@@ -253,7 +268,7 @@ static void equal_actions(void) {
     CHECK(levels_text(40, MOGZIFT_TEXT_ROOM) == 0 && told(MOGZIFT_ANSWERED, 14, 0) && wrote(0, 0, 0, 14));
     CHECK(memcmp(text_out, "refused 15 20\n", 14) == 0);
     CHECK(refused(levels_text(40, 0), MOGZIFT_SHORT_OUTPUT, MOGZIFT_TEXT_ROOM));
-    memcpy(file, LAMP, sizeof file);
+    put(LAMP, sizeof LAMP);
 }
 
 static void rests_and_levels(void) {
@@ -369,25 +384,205 @@ static void texts(void) {
     CHECK(refused(levels_text(0, 0), MOGZIFT_SHORT_OUTPUT, MOGZIFT_TEXT_ROOM));
 }
 
+static void files_2(void) {
+    size_t at;
+    static const size_t sets[10] = {9, 13, 18, 22, 26, 31, 35, 39, 43, 47};
+    CHECK(refused(build_other(8, 0, 'S'), MOGZIFT_BAD_HEAD, 0));
+    CHECK(refused(build_other(8, 3, 3), MOGZIFT_BAD_VERSION, 3));
+    CHECK(refused(build_other(8, 5, 33), MOGZIFT_BAD_HEAD, 0));
+    CHECK(refused(build_other(9, 0, 'S'), MOGZIFT_BAD_LENGTH, 51));
+    CHECK(refused(build_other(50, 0, 'S'), MOGZIFT_BAD_LENGTH, 51));
+    CHECK(refused(build_other(52, 0, 'S'), MOGZIFT_BAD_LENGTH, 51));
+    CHECK(refused(build_other(51, 2, 'H'), MOGZIFT_BAD_HEAD, 0));
+    CHECK(refused(build_other(51, 5, 0), MOGZIFT_BAD_COUNT, 5));
+    CHECK(refused(build_other(51, 6, 33), MOGZIFT_BAD_COUNT, 6));
+    CHECK(refused(build_other(51, 7, 0), MOGZIFT_BAD_COUNT, 7));
+    CHECK(refused(build_other(51, 8, 33), MOGZIFT_BAD_COUNT, 8));
+    CHECK(refused(build_other(51, 8, 32), MOGZIFT_BAD_LENGTH, 441));
+    CHECK(refused(build_other(51, 8, 0), MOGZIFT_BAD_LENGTH, 25));
+    file[8] = 33; /* behind the other counts, before the length */
+    CHECK(refused(build_other(51, 6, 33), MOGZIFT_BAD_COUNT, 6));
+    CHECK(refused(build_other(51, 7, 65), MOGZIFT_BAD_COUNT, 7));
+    CHECK(refused(build_other(9, 0, 'S'), MOGZIFT_BAD_COUNT, 8));
+    file[8] = 2;
+    for (at = 0; at < 10; at++) {
+        CHECK(refused(build_other(51, sets[at], 8), MOGZIFT_BAD_PROP_SET, sets[at]));
+    }
+    CHECK(build_other(51, FIRST_STATE, DESK) == 0); /* states may repeat */
+}
+
+static void effects_of_no_action(void) {
+    static const uint8_t list[1] = {GO};
+    CHECK(refused(build_other(51, SECOND_EFFECT, 2), MOGZIFT_EFFECT_ACTION, SECOND_EFFECT));
+    CHECK(refused(build_other(51, SECOND_EFFECT, 255), MOGZIFT_EFFECT_ACTION, SECOND_EFFECT));
+    CHECK(build_other(51, SECOND_EFFECT, WAIT) == 0);
+
+    /* of two the first; behind 1 to 5, also where their place lies behind the effect, and before 6 */
+    file[FIRST_EFFECT] = 2;
+    CHECK(refused(build_other(51, SECOND_EFFECT, 2), MOGZIFT_EFFECT_ACTION, FIRST_EFFECT));
+    CHECK(refused(build_other(50, 0, 'S'), MOGZIFT_BAD_LENGTH, 51));
+    CHECK(refused(build_other(51, FIRST_STATE, 8), MOGZIFT_BAD_PROP_SET, FIRST_STATE));
+    CHECK(refused(build(2, 49), MOGZIFT_EFFECT_ACTION, FIRST_EFFECT));
+
+    /* every call */
+    CHECK(refused(build(256, 0), MOGZIFT_EFFECT_ACTION, FIRST_EFFECT));
+    CHECK(refused(rest(256, words, 0), MOGZIFT_EFFECT_ACTION, FIRST_EFFECT));
+    CHECK(refused(level(256, 0, 8, words, 0), MOGZIFT_EFFECT_ACTION, FIRST_EFFECT));
+    CHECK(refused(page(256, 0, GOALS, words, 0, 0), MOGZIFT_EFFECT_ACTION, FIRST_EFFECT));
+    CHECK(refused(extract(256, 0, 0, 0), MOGZIFT_EFFECT_ACTION, FIRST_EFFECT));
+    CHECK(refused(run(0, list, 1, 0), MOGZIFT_EFFECT_ACTION, FIRST_EFFECT));
+    CHECK(refused(plan(256, 0, 8, 0, 0), MOGZIFT_EFFECT_ACTION, FIRST_EFFECT));
+    CHECK(refused(fitting_depth(0), MOGZIFT_EFFECT_ACTION, FIRST_EFFECT));
+    CHECK(levels_text(51, MOGZIFT_TEXT_ROOM) == 0 && told(MOGZIFT_ANSWERED, 14, 0) && wrote(0, 0, 0, 14));
+    CHECK(memcmp(text_out, "refused 16 17\n", 14) == 0);
+    put(LAMP_2, sizeof LAMP_2);
+}
+
+static void runs_2(void) {
+    static const uint8_t list[4] = {GO, WAIT, GO, 2};
+    /* the walk fires in one state and the light in the other: what a step adds is no antecedent of the same step */
+    CHECK(run(BOTH, list, 1, 3) == 0 && told(MOGZIFT_ANSWERED, 2, 0) && wrote(0, 2, 0, 0));
+    CHECK(sets_out[0] == DESK && sets_out[1] == (DESK | LIT));
+    CHECK(run(BOTH, list, 2, 2) == 0 && sets_out[0] == DESK && sets_out[1] == (DESK | LIT));
+    CHECK(run(BOTH, list, 3, 2) == 0 && sets_out[0] == (DESK | LIT) && sets_out[1] == (DESK | LIT));
+    CHECK(run(DOOR, list, 3, 2) == 0 && sets_out[0] == (DESK | LIT) && sets_out[1] == DESK);
+    CHECK(run(BOTH, list + 1, 1, 2) == 0 && wrote(0, 2, 0, 0) && sets_out[0] == DOOR && sets_out[1] == DESK);
+    CHECK(run(BOTH, list, 0, 2) == 0 && wrote(0, 2, 0, 0) && sets_out[0] == DOOR && sets_out[1] == DESK);
+    CHECK(refused(run(4, list, 1, 3), MOGZIFT_BAD_STATE_SET, 0));
+    CHECK(refused(run(BOTH, list, 1, 1), MOGZIFT_SHORT_OUTPUT, 2));
+    CHECK(refused(run(BOTH, list, 4, 3), MOGZIFT_BAD_SEQUENCE, 3));
+    file[9] = LIT; /* a wait needs the light, and only a wait */
+    CHECK(refused(run(BOTH, list, 4, 3), MOGZIFT_BAD_SEQUENCE, 3));
+    CHECK(refused(run(BOTH, list, 3, 3), MOGZIFT_NO_PRECONDITION, 1));
+    CHECK(run(DESK, list, 3, 3) == 0 && sets_out[0] == DOOR && sets_out[1] == (DESK | LIT));
+    file[9] = 0;
+    file[SECOND_EFFECT + 1] = DOOR; /* the light fires where one was at the door before the walk */
+    CHECK(run(BOTH, list, 1, 3) == 0 && sets_out[0] == (DESK | LIT) && sets_out[1] == DESK);
+    file[SECOND_EFFECT + 1] = DESK;
+}
+
+/* An action is marked, not an effect of it, and once. */
+static void plans_2(void) {
+    CHECK(plan(2, BOTH, LIT, 48, 3) == 0 && told(MOGZIFT_ANSWERED, 2, 2) && wrote(0, 2, 0, 0));
+    CHECK(sets_out[0] == 1 << GO && sets_out[1] == 1 << GO);
+    CHECK(plan(2, DESK, LIT, 48, 2) == 0 && told(MOGZIFT_ANSWERED, 1, 1) && wrote(0, 1, 0, 0));
+    CHECK(sets_out[0] == 1 << GO);
+    CHECK(refused(plan(2, DOOR, DOOR | LIT, 48, 3), MOGZIFT_NO_LEVEL, 2));
+}
+
+static void texts_2(void) {
+    size_t len = sizeof LAMP_TEXT - 1;
+    CHECK(levels_text(51, MOGZIFT_TEXT_ROOM) == 0 && told(MOGZIFT_ANSWERED, len, 0) && wrote(0, 0, 0, len));
+    CHECK(memcmp(text_out, LAMP_TEXT, len) == 0);
+    CHECK(levels_text(8, MOGZIFT_TEXT_ROOM) == 0 && told(MOGZIFT_ANSWERED, 12, 0) && wrote(0, 0, 0, 12));
+    CHECK(memcmp(text_out, "refused 1 0\n", 12) == 0);
+    CHECK(levels_text(9, MOGZIFT_TEXT_ROOM) == 0 && told(MOGZIFT_ANSWERED, 13, 0) && wrote(0, 0, 0, 13));
+    CHECK(memcmp(text_out, "refused 4 51\n", 13) == 0);
+}
+
+/* A version 2 file of these counts whose preconditions are empty and whose states have nothing, effects at its end. */
+static void begin_2(uint8_t props, uint8_t actions, uint8_t states) {
+    static const uint8_t head[5] = {'S', 'A', 'G', 2, 0};
+    memset(file, 0, sizeof file);
+    memcpy(file, head, sizeof head);
+    file[5] = props;
+    file[6] = actions;
+    file[7] = states;
+    file_len = 9 + 4 * (size_t)actions + 4 * (size_t)states;
+}
+
+/* One more effect, with sets of up to 8 propositions. What stands behind the effects is empty, and moves up. */
+static void add_effect(uint8_t action, uint8_t when, uint8_t add, uint8_t del) {
+    uint8_t *effect = file + 9 + 4 * file[6] + 13 * file[8];
+    effect[0] = action;
+    effect[1] = when;
+    effect[5] = add;
+    effect[9] = del;
+    file[8] += 1;
+    file_len += 13;
+}
+
+/*
+ * Two effects, of which the second deletes what the first adds: of one action they do not interfere, of two they do.
+ * (The lamp's walk and light are of one action and mutex at action layer 1, by their needs.)
+ */
+static void interference(void) {
+    static const uint8_t list[1] = {0};
+    begin_2(2, 2, 1);
+    add_effect(0, 0, 1, 0);
+    add_effect(0, 0, 2, 1);
+    CHECK(mogzift_words(2, 2, 2) == 29);
+    CHECK(build(2, 49) == 0 && told(MOGZIFT_ANSWERED, 29, 0) && wrote(29, 0, 0, 0));
+    CHECK(words_out[3] == 1 && words_out[4] == 1 && words_out[7] == 0);    /* the effects at action layer 0 */
+    CHECK(words_out[13] == 1 && words_out[14] == 1 && words_out[15] == 0); /* the propositions at layer 1 */
+    /* in a step of both, what is deleted is deleted */
+    CHECK(run(1, list, 1, 1) == 0 && told(MOGZIFT_ANSWERED, 1, 0) && wrote(0, 1, 0, 0) && sets_out[0] == 2);
+
+    begin_2(2, 2, 1);
+    add_effect(0, 0, 1, 0);
+    add_effect(1, 0, 2, 1);
+    CHECK(build(2, 49) == 0 && told(MOGZIFT_ANSWERED, 29, 0) && wrote(29, 0, 0, 0));
+    CHECK(words_out[3] == 1 && words_out[4] == 1 && words_out[7] == 1);
+    CHECK(words_out[13] == 1 && words_out[14] == 1 && words_out[15] == 1);
+    CHECK(run(1, list, 1, 1) == 0 && sets_out[0] == 1);
+}
+
+/* E at the ends of its range, and repeated effects, which are taken. */
+static void effect_counts(void) {
+    static const uint8_t list[2] = {0, 1};
+    size_t i;
+    begin_2(1, 0, 1);
+    CHECK(file_len == 13 && build(1, 49) == 0 && told(MOGZIFT_ANSWERED, 3, 0) && wrote(3, 0, 0, 0));
+    CHECK(refused(run(1, list, 1, 1), MOGZIFT_BAD_SEQUENCE, 0));
+    add_effect(0, 0, 1, 0);
+    CHECK(refused(build(1, 49), MOGZIFT_EFFECT_ACTION, 9));
+
+    begin_2(1, 2, 1);
+    CHECK(build(1, 49) == 0 && told(MOGZIFT_ANSWERED, 3, 0) && wrote(3, 0, 0, 0));
+    CHECK(run(1, list, 2, 1) == 0 && told(MOGZIFT_ANSWERED, 1, 0) && wrote(0, 1, 0, 0) && sets_out[0] == 0);
+    for (i = 0; i < 32; i++) {
+        add_effect(1, 0, 1, 0);
+    }
+    CHECK(mogzift_words(1, 32, 1) == 563);
+    CHECK(answered(fitting_depth(563), MOGZIFT_ANSWERED, 1, 0));
+    CHECK(answered(fitting_depth(562), MOGZIFT_ANSWERED, 0, 0));
+    CHECK(refused(build(1, 49), MOGZIFT_SHORT_MEMORY, 563));
+    CHECK(run(1, list, 1, 1) == 0 && sets_out[0] == 0);
+    CHECK(run(1, list, 2, 1) == 0 && sets_out[0] == 1);
+    add_effect(1, 0, 1, 0);
+    CHECK(refused(fitting_depth(563), MOGZIFT_BAD_COUNT, 8));
+
+    /* the longest file */
+    begin_2(32, 32, 64);
+    for (i = 0; i < 32; i++) {
+        add_effect(31, 255, 255, 255);
+    }
+    CHECK(file_len == 809 && answered(fitting_depth(2636), MOGZIFT_ANSWERED, 0, 0));
+    CHECK(answered(fitting_depth(mogzift_words(32, 32, 3)), MOGZIFT_ANSWERED, 3, 0));
+    file_len += 1;
+    CHECK(refused(fitting_depth(2636), MOGZIFT_BAD_LENGTH, 809));
+    put(LAMP_2, sizeof LAMP_2);
+}
+
 static void messages(void) {
     size_t i, j;
     CHECK(strcmp(mogzift_message(0), "accepted") == 0);
-    for (i = 0; i <= MOGZIFT_EQUAL_ACTION + 1; i++) {
+    for (i = 0; i <= MOGZIFT_EFFECT_ACTION + 1; i++) {
         CHECK(strlen(mogzift_message(i)) > 0);
         for (j = 0; j < i; j++) {
             CHECK(strcmp(mogzift_message(i), mogzift_message(j)) != 0);
         }
     }
-    CHECK(strcmp(mogzift_message((size_t)-1), mogzift_message(MOGZIFT_EQUAL_ACTION + 1)) == 0);
+    CHECK(strcmp(mogzift_message((size_t)-1), mogzift_message(MOGZIFT_EFFECT_ACTION + 1)) == 0);
 }
 
 int main(void) {
-    memcpy(file, LAMP, sizeof file);
+    put(LAMP, sizeof LAMP);
     memset(words, MARK, sizeof words);
     memcpy(words, LAMP_WORDS, sizeof LAMP_WORDS);
     /* with one layer more the graph rests */
     CHECK(mogzift_words(3, 2, 3) == 69);
-    CHECK(mogzift_build(file, sizeof file, 3, deeper, 69, answer) == 0);
+    CHECK(mogzift_build(file, file_len, 3, deeper, 69, answer) == 0);
     builds();
     files();
     equal_actions();
@@ -399,9 +594,26 @@ int main(void) {
     depths();
     texts();
     messages();
+    CHECK(memcmp(file, LAMP, sizeof LAMP) == 0);
+
+    /* the same graph in version 2 */
+    put(LAMP_2, sizeof LAMP_2);
+    builds();
+    files_2();
+    effects_of_no_action();
+    rests_and_levels();
+    pages();
+    extracts();
+    runs_2();
+    plans_2();
+    depths();
+    texts_2();
+    interference();
+    effect_counts();
+    CHECK(memcmp(file, LAMP_2, sizeof LAMP_2) == 0);
+
     /* what was lent for reading only */
-    CHECK(memcmp(file, LAMP, sizeof file) == 0);
     CHECK(memcmp(words, LAMP_WORDS, sizeof LAMP_WORDS) == 0 && marked_from(words, sizeof words, sizeof LAMP_WORDS));
-    printf("the lamp through 9 calls: %d checks, %d failed\n", checks, failures);
+    printf("the lamp through 9 calls, in both versions: %d checks, %d failed\n", checks, failures);
     return failures == 0 ? 0 : 1;
 }

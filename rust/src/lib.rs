@@ -4,8 +4,10 @@
 //! argument is out of bounds: any bytes, depth, set, goal, list and memory are accepted, or turned away with a
 //! [`Refusal`], and then no lent memory has changed. Memory behind what an accepted call writes stays.
 //!
-//! [`Problem`] puts a problem file together, [`Graph`] builds into memory of its own, and [`reference`](mod@reference)
-//! has the same calls in plain Rust, written from the paper.
+//! A problem file is of version 1, where an action adds and deletes the same whatever else holds, or of version 2, where
+//! it has conditional effects; each call takes both. [`Problem`] and [`ConditionalProblem`] put such files together,
+//! [`Graph`] builds into memory of its own, and [`reference`](mod@reference) has the same calls in plain Rust, written from
+//! the paper.
 //!
 //! ```
 //! // The paper's lamp: walk needs 0, adds 1, deletes 0; light needs 1, adds 2; states: at the door, at the desk.
@@ -35,7 +37,7 @@ mod problem;
 pub mod reference;
 mod refusal;
 
-pub use problem::{Graph, Problem};
+pub use problem::{ConditionalProblem, Graph, Problem};
 pub use refusal::Refusal;
 
 /// What a goal's level is.
@@ -75,8 +77,10 @@ pub const TEXT_ROOM: usize = 8600;
 pub const STACK: usize = 256 * 1024;
 
 /// The number of words of a graph: what a build needs.
-pub fn word_count(props: usize, actions: usize, depth: usize) -> usize {
-    let vertices = actions + props;
+///
+/// It goes by the number of effects, E in a file of version 2. In version 1 each action has one, so it is A there.
+pub fn word_count(props: usize, effects: usize, depth: usize) -> usize {
+    let vertices = effects + props;
     (depth + 1) * (props * (props + 1) / 2) + depth * (vertices * (vertices + 1) / 2)
 }
 
@@ -295,6 +299,8 @@ pub fn extract(file: &[u8], depth: usize, set: u64, words: &[u64], out: &mut [u6
 }
 
 /// Runs a sequence of actions from each state of a set; answers the number of sets written, which is N.
+///
+/// In version 2 a step fires, in each state, the action's effects whose antecedents held there before it.
 pub fn run(file: &[u8], set: u64, list: &[u8], out: &mut [u32]) -> Result<usize, Refusal> {
     told(|answer| unsafe {
         proved::mogzift_run(
@@ -311,7 +317,8 @@ pub fn run(file: &[u8], set: u64, list: &[u8], out: &mut [u32]) -> Result<usize,
     .map(count)
 }
 
-/// The relaxed plan of a goal for a set of states.
+/// The relaxed plan of a goal for a set of states: of each layer below the level the set of the actions that are marked,
+/// in version 2 those of which an effect is chosen.
 pub fn plan(file: &[u8], depth: usize, set: u64, goal: u32, words: &[u64], out: &mut [u32]) -> Result<Plan, Refusal> {
     let answer = told(|answer| unsafe {
         proved::mogzift_plan(

@@ -1,8 +1,64 @@
-//! A problem file put together, and a graph with memory of its own.
+//! Problem files put together, and a graph with memory of its own.
 
 use crate::{build, entry, extract, fitting_depth, level, page, plan, rest, word_count, Level, Plan, Refusal, Rest};
 
-/// A problem that is put together: so many propositions, then actions and start states in the order of their numbers.
+/// What problems of both versions have: so many propositions, and start states.
+#[derive(Clone, Debug, PartialEq, Eq)]
+struct Common {
+    props: usize,
+    states: Vec<u32>,
+}
+
+impl Common {
+    fn new(props: usize) -> Result<Common, Refusal> {
+        if !(1..=32).contains(&props) {
+            return Err(Refusal::Count(5));
+        }
+        Ok(Common { props, states: Vec::new() })
+    }
+
+    /// Sets that stand one behind the other, the first at this offset.
+    fn check(&self, sets: &[u32], offset: usize) -> Result<(), Refusal> {
+        let outside = !(u32::MAX >> (32 - self.props));
+        match sets.iter().position(|set| set & outside != 0) {
+            Some(i) => Err(Refusal::PropSet(offset + 4 * i)),
+            None => Ok(()),
+        }
+    }
+
+    /// One more start state. They stand from this offset on.
+    fn add_state(&mut self, set: u32, offset: usize) -> Result<(), Refusal> {
+        if self.states.len() == 64 {
+            return Err(Refusal::Count(7));
+        }
+        self.check(&[set], offset + 4 * self.states.len())?;
+        self.states.push(set);
+        Ok(())
+    }
+
+    /// The file of a version: its counts, and what stands between them and the start states.
+    fn file(&self, version: u8, actions: usize, rules: Vec<u8>) -> Result<Vec<u8>, Refusal> {
+        if self.states.is_empty() {
+            return Err(Refusal::Count(7));
+        }
+        let head = [b'S', b'A', b'G', version, 0, self.props as u8, actions as u8, self.states.len() as u8];
+        Ok([&head[..], &rules, &bytes_of(&self.states)].concat())
+    }
+
+    fn words(&self, effects: usize, depth: usize) -> Result<usize, Refusal> {
+        if depth > 255 {
+            return Err(Refusal::Depth);
+        }
+        Ok(word_count(self.props, effects, depth))
+    }
+}
+
+fn bytes_of(sets: &[u32]) -> Vec<u8> {
+    sets.iter().flat_map(|set| set.to_le_bytes()).collect()
+}
+
+/// A problem that is put together: so many propositions, then actions and start states in the order of their numbers. Its
+/// file is of version 1; for actions with conditional effects there is [`ConditionalProblem`].
 ///
 /// What no problem file may have is turned away as the library turns it away, with the same number and place: the offset
 /// of a set or an action is the one that it would have in the file as it is by then. Start states may repeat, actions may
@@ -32,18 +88,19 @@ use crate::{build, entry, extract, fitting_depth, level, page, plan, rest, word_
 /// ```
 #[derive(Clone, Debug, PartialEq, Eq)]
 pub struct Problem {
-    props: usize,
+    common: Common,
     actions: Vec<[u32; 3]>,
-    states: Vec<u32>,
 }
 
 impl Problem {
     /// A problem with so many propositions, 1 to 32, and as yet no actions and no start states.
     pub fn new(props: usize) -> Result<Problem, Refusal> {
-        if !(1..=32).contains(&props) {
-            return Err(Refusal::Count(5));
-        }
-        Ok(Problem { props, actions: Vec::new(), states: Vec::new() })
+        Ok(Problem { common: Common::new(props)?, actions: Vec::new() })
+    }
+
+    /// The offset behind the actions.
+    fn end(&self) -> usize {
+        8 + 12 * self.actions.len()
     }
 
     /// With one more action: what it needs, what it adds and what it deletes, bit p for proposition p. It differs from
@@ -52,12 +109,10 @@ impl Problem {
         if self.actions.len() == 32 {
             return Err(Refusal::Count(6));
         }
-        let (action, offset) = ([pre, add, del], 8 + 12 * self.actions.len());
-        for (i, set) in action.into_iter().enumerate() {
-            self.check(set, offset + 4 * i)?;
-        }
+        let action = [pre, add, del];
+        self.common.check(&action, self.end())?;
         if self.actions.contains(&action) {
-            return Err(Refusal::EqualAction(offset));
+            return Err(Refusal::EqualAction(self.end()));
         }
         self.actions.push(action);
         Ok(self)
@@ -65,39 +120,19 @@ impl Problem {
 
     /// With one more start state: the propositions that hold in it, bit p for proposition p.
     pub fn state(mut self, set: u32) -> Result<Problem, Refusal> {
-        if self.states.len() == 64 {
-            return Err(Refusal::Count(7));
-        }
-        self.check(set, 8 + 12 * self.actions.len() + 4 * self.states.len())?;
-        self.states.push(set);
+        let offset = self.end();
+        self.common.add_state(set, offset)?;
         Ok(self)
-    }
-
-    fn check(&self, set: u32, offset: usize) -> Result<(), Refusal> {
-        if set & !(u32::MAX >> (32 - self.props)) != 0 {
-            return Err(Refusal::PropSet(offset));
-        }
-        Ok(())
     }
 
     /// The problem file. A problem without a start state has none.
     pub fn bytes(&self) -> Result<Vec<u8>, Refusal> {
-        if self.states.is_empty() {
-            return Err(Refusal::Count(7));
-        }
-        let counts = [self.props, self.actions.len(), self.states.len()].map(|n| n as u8);
-        let sets = self.actions.iter().flatten().chain(&self.states);
-        let mut file = [b"SAG\x01\x00", &counts[..]].concat();
-        file.extend(sets.flat_map(|set| set.to_le_bytes()));
-        Ok(file)
+        self.common.file(1, self.actions.len(), bytes_of(&self.actions.concat()))
     }
 
     /// The number of words that the graph of a depth needs.
     pub fn words(&self, depth: usize) -> Result<usize, Refusal> {
-        if depth > 255 {
-            return Err(Refusal::Depth);
-        }
-        Ok(word_count(self.props, self.actions.len(), depth))
+        self.common.words(self.actions.len(), depth)
     }
 
     /// The greatest depth up to 255 whose graph fits so many words.
@@ -108,6 +143,139 @@ impl Problem {
     /// The graph of a depth, in memory that is made for it.
     pub fn graph(&self, depth: usize) -> Result<Graph, Refusal> {
         Graph::new(self.bytes()?, depth)
+    }
+}
+
+/// A problem with conditional effects that is put together: so many propositions, then actions, effects and start states,
+/// each in the order of their numbers. Its file is of version 2.
+///
+/// A step of an action needs the action's precondition in every state. Then each of its effects fires in the states in
+/// which the effect's antecedent held before the step: all that they add is joined, then all that they delete is removed.
+/// An action may have several effects, or none, and then its step changes nothing.
+///
+/// What no problem file may have is turned away as with a [`Problem`]. An effect is of an action that is there by then.
+/// Actions, effects and start states may repeat.
+///
+/// ```
+/// use mogzift::{ConditionalProblem, Level, Refusal};
+///
+/// # fn main() -> Result<(), Refusal> {
+/// // 0 the case is at home, 1 in the office; 2 the letter is at home, 3 in the office; 4 it is in the case.
+/// let letter = ConditionalProblem::new(5)?
+///     .action(0b00001)? // carry, action 0: needs the case at home
+///     .effect(0, 0b00000, 0b00010, 0b00001)? // the case, in any state: adds 1, deletes 0
+///     .effect(0, 0b10000, 0b01000, 0b00100)? // the letter, where it is in the case: adds 3, deletes 2
+///     .action(0b00101)? // pack, action 1: needs both at home
+///     .effect(1, 0b00000, 0b10000, 0b00000)? // adds 4
+///     .state(0b00101)? // both are at home
+///     .state(0b10101)?; // and packed
+/// let file = letter.bytes()?;
+/// assert_eq!(file.len(), 9 + 4 * 2 + 13 * 3 + 4 * 2);
+///
+/// // carried from both states
+/// let mut ends = [0; 2];
+/// assert_eq!(mogzift::run(&file, 0b11, &[0], &mut ends), Ok(2));
+/// assert_eq!(ends, [0b00110, 0b11010]);
+///
+/// // the letter in the office: packed and carried, or carried at once
+/// let graph = letter.graph(2)?;
+/// assert_eq!(graph.level(0b01, 0b01000)?, Level::At(2));
+/// assert_eq!(graph.level(0b10, 0b01000)?, Level::At(1));
+/// // a plan marks actions: pack, then carry
+/// assert_eq!(graph.plan(0b01, 0b01000)?.1, [0b10, 0b01]);
+///
+/// assert_eq!(letter.effect(2, 0, 0b00001, 0), Err(Refusal::EffectAction(56))); // there is no action 2
+/// # Ok(())
+/// # }
+/// ```
+#[derive(Clone, Debug, PartialEq, Eq)]
+pub struct ConditionalProblem {
+    common: Common,
+    actions: Vec<u32>,
+    effects: Vec<(u8, [u32; 3])>,
+}
+
+impl ConditionalProblem {
+    /// A problem with so many propositions, 1 to 32, and as yet no actions, no effects and no start states.
+    pub fn new(props: usize) -> Result<ConditionalProblem, Refusal> {
+        Ok(ConditionalProblem { common: Common::new(props)?, actions: Vec::new(), effects: Vec::new() })
+    }
+
+    /// The offset behind the actions, and the one behind the effects.
+    fn ends(&self) -> (usize, usize) {
+        let actions = 9 + 4 * self.actions.len();
+        (actions, actions + 13 * self.effects.len())
+    }
+
+    /// With one more action: what it needs, bit p for proposition p. It has no effects as yet.
+    pub fn action(mut self, pre: u32) -> Result<ConditionalProblem, Refusal> {
+        if self.actions.len() == 32 {
+            return Err(Refusal::Count(6));
+        }
+        self.common.check(&[pre], self.ends().0)?;
+        self.actions.push(pre);
+        Ok(self)
+    }
+
+    /// With one more effect of the action of this number: where it fires (its antecedent), what it adds and what it
+    /// deletes, bit p for proposition p. With an empty antecedent it fires wherever the action's step is taken.
+    pub fn effect(mut self, action: usize, when: u32, add: u32, del: u32) -> Result<ConditionalProblem, Refusal> {
+        if self.effects.len() == 32 {
+            return Err(Refusal::Count(8));
+        }
+        let (sets, offset) = ([when, add, del], self.ends().1);
+        self.common.check(&sets, offset + 1)?;
+        if action >= self.actions.len() {
+            return Err(Refusal::EffectAction(offset));
+        }
+        self.effects.push((action as u8, sets));
+        Ok(self)
+    }
+
+    /// With one more start state: the propositions that hold in it, bit p for proposition p.
+    pub fn state(mut self, set: u32) -> Result<ConditionalProblem, Refusal> {
+        let offset = self.ends().1;
+        self.common.add_state(set, offset)?;
+        Ok(self)
+    }
+
+    /// The problem file. A problem without a start state has none.
+    pub fn bytes(&self) -> Result<Vec<u8>, Refusal> {
+        let mut rules = vec![self.effects.len() as u8];
+        rules.extend(bytes_of(&self.actions));
+        for (action, sets) in &self.effects {
+            rules.push(*action);
+            rules.extend(bytes_of(sets));
+        }
+        self.common.file(2, self.actions.len(), rules)
+    }
+
+    /// The number of words that the graph of a depth needs.
+    pub fn words(&self, depth: usize) -> Result<usize, Refusal> {
+        self.common.words(self.effects.len(), depth)
+    }
+
+    /// The greatest depth up to 255 whose graph fits so many words.
+    pub fn fitting_depth(&self, room: usize) -> Result<usize, Refusal> {
+        fitting_depth(&self.bytes()?, room)
+    }
+
+    /// The graph of a depth, in memory that is made for it.
+    pub fn graph(&self, depth: usize) -> Result<Graph, Refusal> {
+        Graph::new(self.bytes()?, depth)
+    }
+}
+
+/// The same problem with its actions as effects: each action has one, which fires in any state. Its graphs have the same
+/// words.
+impl From<Problem> for ConditionalProblem {
+    fn from(problem: Problem) -> ConditionalProblem {
+        let effect = |(a, &[_, add, del]): (usize, &[u32; 3])| (a as u8, [0, add, del]);
+        ConditionalProblem {
+            actions: problem.actions.iter().map(|&[pre, _, _]| pre).collect(),
+            effects: problem.actions.iter().enumerate().map(effect).collect(),
+            common: problem.common,
+        }
     }
 }
 
@@ -200,6 +368,19 @@ mod tests {
     fn numbered(a: usize, props: usize) -> [u32; 3] {
         let every = u32::MAX >> (32 - props);
         [0, 1, 2].map(|kind| (a >> (kind * props.min(5))) as u32 & every)
+    }
+
+    /// Three actions, of which the first has two effects, the second one and the third none, and two states.
+    const EFFECTS: [u8; 68] = *b"SAG\x02\x00\x03\x03\x02\x03\
+        \x01\x00\x00\x00\x02\x00\x00\x00\x03\x00\x00\x00\
+        \x00\x00\x00\x00\x00\x02\x00\x00\x00\x01\x00\x00\x00\
+        \x01\x00\x00\x00\x00\x04\x00\x00\x00\x00\x00\x00\x00\
+        \x00\x02\x00\x00\x00\x05\x00\x00\x00\x06\x00\x00\x00\
+        \x01\x00\x00\x00\x02\x00\x00\x00";
+
+    fn effects() -> Result<ConditionalProblem, Refusal> {
+        let actions = ConditionalProblem::new(3)?.action(1)?.action(2)?.action(3)?;
+        actions.effect(0, 0, 2, 1)?.effect(1, 0, 4, 0)?.effect(0, 2, 5, 6)
     }
 
     /// What the library says of a file.
@@ -306,6 +487,113 @@ mod tests {
         // states may repeat
         let twice = lamp().state(1).unwrap().state(1).unwrap();
         assert_eq!(judged(&twice.bytes().unwrap()), Ok(255));
+    }
+
+    #[test]
+    fn effects_are_written_as_in_version_2() {
+        let problem = || effects()?.state(1)?.state(2);
+        assert_eq!(problem().unwrap().bytes(), Ok(EFFECTS.to_vec()));
+        assert_eq!(judged(&EFFECTS), Ok(255));
+        // in any order of the three kinds
+        let mixed = || {
+            let first = ConditionalProblem::new(3)?.state(1)?.action(1)?.effect(0, 0, 2, 1)?.action(2)?;
+            first.effect(1, 0, 4, 0)?.state(2)?.effect(0, 2, 5, 6)?.action(3)
+        };
+        assert_eq!(mixed(), problem());
+    }
+
+    #[test]
+    fn the_words_go_by_the_effects() {
+        for (props, actions, effects) in [(1, 0, 0), (1, 1, 0), (1, 1, 32), (3, 32, 2), (16, 16, 32), (32, 32, 32)] {
+            let mut problem = ConditionalProblem::new(props).and_then(|problem| problem.state(1)).unwrap();
+            for _ in 0..actions {
+                problem = problem.action(1).unwrap();
+            }
+            for e in 0..effects {
+                problem = problem.effect(e % actions, 0, 1, 1).unwrap();
+            }
+            let file = problem.bytes().unwrap();
+            for depth in [0, 1, 255] {
+                assert_eq!(build(&file, depth, &mut []), Err(Refusal::Memory(problem.words(depth).unwrap())));
+                assert_eq!(problem.words(depth), Ok(word_count(props, effects, depth)));
+            }
+            assert_eq!(problem.words(256), Err(Refusal::Depth));
+            assert_eq!(problem.fitting_depth(problem.words(2).unwrap()), Ok(2));
+        }
+    }
+
+    #[test]
+    fn a_count_of_effects_out_of_range_is_turned_away_as_in_a_file() {
+        assert_eq!(ConditionalProblem::new(33), Err(Refusal::Count(5)));
+        let mut problem = ConditionalProblem::new(32).unwrap();
+        assert_eq!(problem.bytes(), Err(Refusal::Count(7)));
+        for _ in 0..32 {
+            problem = problem.action(u32::MAX).unwrap();
+        }
+        assert_eq!(problem.clone().action(0), Err(Refusal::Count(6)));
+        for a in 0..32 {
+            problem = problem.effect(a, u32::MAX, u32::MAX, u32::MAX).unwrap();
+        }
+        assert_eq!(problem.clone().effect(32, 0, 0, 0), Err(Refusal::Count(8)));
+        for _ in 0..64 {
+            problem = problem.state(u32::MAX).unwrap();
+        }
+        assert_eq!(problem.clone().state(0), Err(Refusal::Count(7)));
+        let file = problem.bytes().unwrap();
+        assert_eq!(file.len(), 809);
+        assert!(judged(&file).is_ok());
+        for (at, byte) in [(6, 33), (7, 65), (8, 33)] {
+            let mut file = file.clone();
+            file[at] = byte;
+            assert_eq!(judged(&file), Err(Refusal::Count(at)));
+        }
+    }
+
+    #[test]
+    fn an_effect_out_of_range_is_turned_away_as_in_a_file() {
+        let outside = 1 << 3;
+        let two =
+            || ConditionalProblem::new(3)?.action(1)?.action(2)?.action(3)?.effect(0, 0, 2, 1)?.effect(1, 0, 4, 0);
+        let refused = [
+            (9, ConditionalProblem::new(3).and_then(|problem| problem.action(outside))),
+            (17, ConditionalProblem::new(3).and_then(|problem| problem.action(1)?.action(2)?.action(outside))),
+            (48, two().and_then(|problem| problem.effect(3, outside, outside, 0))),
+            (52, two().and_then(|problem| problem.effect(0, 2, outside, outside))),
+            (56, two().and_then(|problem| problem.effect(0, 2, 5, outside))),
+            (60, effects().and_then(|problem| problem.state(outside))),
+            (64, effects().and_then(|problem| problem.state(1)?.state(outside))),
+        ];
+        for (offset, problem) in refused {
+            assert_eq!(problem, Err(Refusal::PropSet(offset)));
+            let mut file = EFFECTS;
+            file[offset] |= 1 << 3;
+            assert_eq!(judged(&file), Err(Refusal::PropSet(offset)));
+        }
+        for action in [3, 255, 256, usize::MAX] {
+            let problem = two().and_then(|problem| problem.effect(action, 2, 5, 6));
+            assert_eq!(problem, Err(Refusal::EffectAction(47)));
+        }
+        let mut file = EFFECTS;
+        for number in [3, 255] {
+            file[47] = number;
+            assert_eq!(judged(&file), Err(Refusal::EffectAction(47)));
+        }
+        assert_eq!(ConditionalProblem::new(3).unwrap().effect(0, 0, 0, 0), Err(Refusal::EffectAction(9)));
+    }
+
+    #[test]
+    fn actions_and_effects_may_repeat() {
+        let twice = || effects()?.action(1)?.effect(0, 0, 2, 1)?.effect(0, 0, 2, 1)?.state(1)?.state(1);
+        assert!(judged(&twice().unwrap().bytes().unwrap()).is_ok());
+    }
+
+    #[test]
+    fn actions_as_effects_have_the_same_graph() {
+        let problem = ConditionalProblem::from(lamp());
+        assert_eq!(problem.bytes().unwrap().len(), 9 + 4 * 2 + 13 * 2 + 4 * 2);
+        let (graph, other) = (lamp().graph(3).unwrap(), problem.graph(3).unwrap());
+        assert_eq!(graph.words(), other.words());
+        assert_eq!(graph.plan(0b11, 0b100), other.plan(0b11, 0b100));
     }
 
     #[test]

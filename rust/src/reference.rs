@@ -4,26 +4,28 @@
 //! It uses no unsafe code and no instruction that a processor may lack. What makes it quick:
 //!
 //! - The check of the file looks for equal actions in a table, and compares one only with the few that its mark leads to.
-//! - The build keeps no mutex words but the states in which two elements are together: both there and not mutex, an
-//!   element with itself where it is there. An action is together with what all its needs are together with, a
-//!   proposition with what one of its adders is together with: rows of words are met and joined, and one adder of both
-//!   propositions is a pair of adders like any other.
-//! - Persistences have no rows of their own: an action is together with one as with its proposition, if it does not
+//! - The build knows effects, of which an action of version 1 has one. It keeps no mutex words but the states in which two
+//!   elements are together: both there and not mutex, an element with itself where it is there. An effect is together
+//!   with what all its needs are together with, a proposition with what one of its adders is together with: rows of words
+//!   are met and joined, and one adder of both propositions is a pair of adders like any other. Only effects of one
+//!   action, which do not interfere, are looked at by their needs, pair by pair.
+//! - Persistences have no rows of their own: an effect is together with one as with its proposition, if it does not
 //!   delete it, and two of them are as their propositions.
 //! - All of this only grows from layer to layer: what has no need that changed is not made again, and few pairs are
 //!   made one by one. Once a layer equals the one before, all further ones are copied.
 //! - Extract cuts out runs of states by shifts where they are few, and else copies what repeats.
 //! - Level looks first at the word that stood in the goal's way one layer before, and for a rest from the top.
 //! - Page remembers in which layers such a word stands in the way, for all goals to come, and looks for a rest once.
-//! - Plan goes over the propositions that are needed only, and over the actions that add one as a set.
-//! - Run follows a sequence once, for all states, and asks whether all preconditions held after many steps at a time.
+//! - Plan goes over the propositions that are needed only, and over the effects that add one as a set.
+//! - Run follows a sequence of version 1 once, for all states, and asks whether all preconditions held after many steps at
+//!   a time. In version 2, where a step differs by state, it keeps a word of states for each proposition.
 
 #![allow(clippy::needless_range_loop)] // an index that several rows share
 
 use crate::{word_count, Level, Plan, Refusal, Rest, ENTRY_GOAL, ENTRY_NEVER, ENTRY_NOT_BY_DEPTH, TEXT_ROOM};
 use std::fmt::Write;
 
-/// The members of a set of up to R actions or propositions, rising. R is a power of two, up to 32.
+/// The members of a set of up to R effects or propositions, rising. R is a power of two, up to 32.
 struct Members<const R: usize>(u32);
 
 impl<const R: usize> Iterator for Members<R> {
@@ -52,57 +54,207 @@ fn set_of(bytes: &[u8]) -> u32 {
     u32::from_le_bytes(*bytes.first_chunk().unwrap())
 }
 
-/// A problem file that is in order: its counts, and the sets from offset 8 on.
+/// The sets in the first twelve bytes.
+#[inline]
+fn three_sets(bytes: &[u8]) -> [u32; 3] {
+    [set_of(bytes), set_of(&bytes[4..]), set_of(&bytes[8..])]
+}
+
+/// All sets of these bytes together.
+#[inline]
+fn joined(sets: &[u8]) -> u32 {
+    sets.chunks_exact(4).fold(0, |all, bytes| all | set_of(bytes))
+}
+
+/// All sets of these effects of version 2 together.
+#[inline]
+fn joined_effects(effects: &[u8]) -> u32 {
+    let (two, last) = effects.chunks_exact(13).fold((0, 0), |(two, last), bytes| {
+        (two | u64::from_le_bytes(*bytes[1..].first_chunk().unwrap()), last | set_of(&bytes[9..]))
+    });
+    two as u32 | (two >> 32) as u32 | last
+}
+
+/// What a file says of its actions: a precondition for each, and effects.
+#[derive(Clone, Copy)]
+enum Rules<'a> {
+    /// Version 1: of each action precondition, add and delete, 12 bytes. It has one effect, of the same number.
+    Actions(&'a [u8]),
+    /// Version 2: of each action its precondition, 4 bytes; of each effect its action, antecedent, add and delete, 13.
+    Effects(&'a [u8], &'a [u8]),
+}
+
+/// An effect: its action's number and precondition, the antecedent, what it adds and deletes.
+struct Effect {
+    owner: usize,
+    pre: u32,
+    when: u32,
+    add: u32,
+    del: u32,
+}
+
+impl Effect {
+    /// What it needs as a vertex.
+    fn needs(&self) -> u32 {
+        self.pre | self.when
+    }
+}
+
+impl Rules<'_> {
+    /// The preconditions in the order of their actions' numbers.
+    fn preconditions(&self) -> impl Iterator<Item = u32> + '_ {
+        let (bytes, step) = match self {
+            Rules::Actions(actions) => (actions, 12),
+            Rules::Effects(pre, _) => (pre, 4),
+        };
+        bytes.chunks_exact(step).map(set_of)
+    }
+
+    /// The effects in the order of their numbers.
+    #[inline(always)]
+    fn each_effect(self, mut take: impl FnMut(usize, Effect)) {
+        match self {
+            Rules::Actions(actions) => {
+                for (a, bytes) in actions.chunks_exact(12).enumerate() {
+                    let [pre, add, del] = three_sets(bytes);
+                    take(a, Effect { owner: a, pre, when: 0, add, del });
+                }
+            }
+            Rules::Effects(pre, effects) => {
+                for (e, bytes) in effects.chunks_exact(13).enumerate() {
+                    let (owner, [when, add, del]) = (bytes[0] as usize, three_sets(&bytes[1..]));
+                    take(e, Effect { owner, pre: set_of(&pre[4 * owner..]), when, add, del });
+                }
+            }
+        }
+    }
+
+    /// Of each proposition the effects that add it.
+    #[inline(always)]
+    fn adders(self) -> [u32; 32] {
+        match self {
+            Rules::Actions(actions) => turned(actions.chunks_exact(12).map(|bytes| set_of(&bytes[4..]))),
+            Rules::Effects(_, effects) => turned(effects.chunks_exact(13).map(|bytes| set_of(&bytes[5..]))),
+        }
+    }
+
+    /// The actions that these effects are of.
+    #[inline(always)]
+    fn owners(self, effects: u32) -> u32 {
+        match self {
+            Rules::Actions(_) => effects,
+            Rules::Effects(_, bytes) => Members::<32>(effects).fold(0, |owners, e| owners | 1 << bytes[13 * e]),
+        }
+    }
+}
+
+/// A problem file that is in order: its counts, and what stands behind them.
 struct Problem<'a> {
+    version: Version,
     props: usize,
     actions: usize,
+    effects: usize,
     states: usize,
     sets: &'a [u8],
 }
 
+enum Version {
+    One,
+    Two,
+}
+
 impl<'a> Problem<'a> {
-    /// Causes 1 to 5, and 15.
+    /// Causes 1 to 5, 16 and 15.
     fn open(file: &'a [u8]) -> Result<Self, Refusal> {
-        let Some((&[b'S', b'A', b'G', v0, v1, p, a, n], sets)) = file.split_first_chunk::<8>() else {
+        let Some((&[b'S', b'A', b'G', v0, v1, p, a, n], rest)) = file.split_first_chunk::<8>() else {
             return Err(Refusal::Head);
         };
-        if u16::from_le_bytes([v0, v1]) != 1 {
-            return Err(Refusal::Version);
+        match u16::from_le_bytes([v0, v1]) {
+            1 => Self::open_actions([p, a, n], rest),
+            2 => Self::open_effects([p, a, n], rest),
+            _ => Err(Refusal::Version),
         }
-        let (props, actions, states) = (p as usize, a as usize, n as usize);
-        if !(1..=32).contains(&props) {
-            return Err(Refusal::Count(5));
+    }
+
+    /// Version 1: the bytes behind its counts.
+    #[inline(always)]
+    fn open_actions(counts: [u8; 3], sets: &'a [u8]) -> Result<Self, Refusal> {
+        let [props, actions, states] = checked(counts)?;
+        let length = 12 * actions + 4 * states;
+        if sets.len() != length {
+            return Err(Refusal::Length(8 + length));
         }
-        if actions > 32 {
-            return Err(Refusal::Count(6));
-        }
-        if !(1..=64).contains(&states) {
-            return Err(Refusal::Count(7));
-        }
-        let length = 8 + 12 * actions + 4 * states;
-        if file.len() != length {
-            return Err(Refusal::Length(length));
-        }
-        let problem = Problem { props, actions, states, sets };
+        let problem = Problem { version: Version::One, props, actions, effects: actions, states, sets };
         let outside = !problem.all_props();
         // with 32 propositions there is none outside
-        if outside != 0 && sets.chunks_exact(4).fold(0, |any, bytes| any | set_of(bytes)) & outside != 0 {
+        if outside != 0 && joined(sets) & outside != 0 {
             let first = sets.chunks_exact(4).position(|bytes| set_of(bytes) & outside != 0).unwrap();
             return Err(Refusal::PropSet(8 + 4 * first));
         }
-        if let Some(a) = first_equal(problem.parts().0) {
+        if let Some(a) = first_equal(&sets[..12 * actions]) {
             return Err(Refusal::EqualAction(8 + 12 * a));
         }
         Ok(problem)
     }
 
-    /// The actions, 12 bytes each, and the start states, 4 bytes each.
-    fn parts(&self) -> (&'a [u8], &'a [u8]) {
-        self.sets.split_at(12 * self.actions)
+    /// Version 2: the bytes from the number of effects on.
+    #[inline(never)] // version 1 is quicker without it in the same function
+    fn open_effects(counts: [u8; 3], rest: &'a [u8]) -> Result<Self, Refusal> {
+        let (&effects, sets) = rest.split_first().ok_or(Refusal::Head)?;
+        let ([props, actions, states], effects) = (checked(counts)?, effects as usize);
+        if effects > 32 {
+            return Err(Refusal::Count(8));
+        }
+        let length = 4 * actions + 13 * effects + 4 * states;
+        if sets.len() != length {
+            return Err(Refusal::Length(9 + length));
+        }
+        let problem = Problem { version: Version::Two, props, actions, effects, states, sets };
+        let (outside, (pre, rules)) = (!problem.all_props(), problem.effect_parts());
+        if outside != 0 && (joined(pre) | joined_effects(rules) | joined(problem.starts())) & outside != 0 {
+            let first = problem.set_places().find(|&at| set_of(&sets[at..]) & outside != 0).unwrap();
+            return Err(Refusal::PropSet(9 + first));
+        }
+        if let Some(e) = rules.chunks_exact(13).position(|bytes| bytes[0] as usize >= actions) {
+            return Err(Refusal::EffectAction(9 + pre.len() + 13 * e));
+        }
+        Ok(problem)
+    }
+
+    #[inline(always)]
+    fn rules(&self) -> Rules<'a> {
+        match self.version {
+            Version::One => Rules::Actions(&self.sets[..12 * self.actions]),
+            Version::Two => {
+                let (pre, effects) = self.effect_parts();
+                Rules::Effects(pre, effects)
+            }
+        }
+    }
+
+    /// Of a version 2 file the preconditions and the effects.
+    #[inline(always)]
+    fn effect_parts(&self) -> (&'a [u8], &'a [u8]) {
+        self.sets[..4 * self.actions + 13 * self.effects].split_at(4 * self.actions)
+    }
+
+    /// Where the sets of a version 2 file stand.
+    fn set_places(&self) -> impl Iterator<Item = usize> {
+        let (first_effect, effects) = (4 * self.actions, self.effects);
+        let first_start = first_effect + 13 * effects;
+        let of_effects = (0..effects).flat_map(move |e| [1, 5, 9].map(|part| first_effect + 13 * e + part));
+        let of_starts = (first_start..self.sets.len()).step_by(4);
+        (0..first_effect).step_by(4).chain(of_effects).chain(of_starts)
+    }
+
+    /// The start states, 4 bytes each.
+    #[inline(always)]
+    fn starts(&self) -> &'a [u8] {
+        &self.sets[self.sets.len() - 4 * self.states..]
     }
 
     fn vertices(&self) -> usize {
-        self.actions + self.props
+        self.effects + self.props
     }
 
     fn all_props(&self) -> u32 {
@@ -129,7 +281,7 @@ impl<'a> Problem<'a> {
 
     /// The graph's words in a memory of so many, or cause 9.
     fn check_memory(&self, depth: usize, have: usize) -> Result<usize, Refusal> {
-        let wanted = word_count(self.props, self.actions, depth);
+        let wanted = word_count(self.props, self.effects, depth);
         if have < wanted {
             return Err(Refusal::Memory(wanted));
         }
@@ -146,6 +298,22 @@ impl<'a> Problem<'a> {
         let words = &words[..self.check_memory(depth, words.len())?];
         Ok(Layers { words, props: self.props, depth, size: size(self.props), stride: self.stride() })
     }
+}
+
+/// The counts of both versions, or cause 3.
+#[inline(always)]
+fn checked(counts: [u8; 3]) -> Result<[usize; 3], Refusal> {
+    let [props, actions, states] = counts.map(usize::from);
+    if !(1..=32).contains(&props) {
+        return Err(Refusal::Count(5));
+    }
+    if actions > 32 {
+        return Err(Refusal::Count(6));
+    }
+    if !(1..=64).contains(&states) {
+        return Err(Refusal::Count(7));
+    }
+    Ok([props, actions, states])
 }
 
 /// The first action that equals one before it. Each takes the first free slot of a table from its mark on, and meets an
@@ -197,56 +365,57 @@ pub fn build(file: &[u8], depth: usize, words: &mut [u64]) -> Result<usize, Refu
     check_depth(depth)?;
     let wanted = problem.check_memory(depth, words.len())?;
     let words = &mut words[..wanted];
-    match problem.props.max(problem.actions) {
-        0..=4 => build_graph::<4>(&problem, words),
-        5..=8 => build_graph::<8>(&problem, words),
-        9..=16 => build_graph::<16>(&problem, words),
-        _ => build_graph::<32>(&problem, words),
+    match problem.props.max(problem.effects) {
+        0..=4 => build_graph::<4, 4>(&problem, words),
+        5..=8 => build_graph::<8, 8>(&problem, words),
+        9..=16 => build_graph::<16, 16>(&problem, words),
+        _ if problem.props <= 16 => build_graph::<16, 32>(&problem, words),
+        _ => build_graph::<32, 32>(&problem, words),
     }
     Ok(wanted)
 }
 
-/// For each of up to R actions or propositions a row, with a word for each of up to R actions or propositions.
-type Rows<const R: usize> = [[u64; R]; R];
+/// For each of up to R effects or propositions a row, with a word for each of up to W effects or propositions.
+type Rows<const R: usize, const W: usize> = [[u64; W]; R];
 
-/// All layers, into just as many words as they take.
-fn build_graph<const R: usize>(problem: &Problem, words: &mut [u64]) {
-    let (layer, actions) = (size(problem.props), size(problem.vertices()));
-    let label: [u64; R] = start_labels(problem);
+/// All layers, of up to P propositions and up to E effects, into just as many words as they take. E is not below P.
+fn build_graph<const P: usize, const E: usize>(problem: &Problem, words: &mut [u64]) {
+    let (layer, vertices) = (size(problem.props), size(problem.vertices()));
+    let label: [u64; P] = start_labels(problem.starts());
     let (first, mut rest) = words.split_at_mut(layer);
     first[..problem.props].copy_from_slice(&label[..problem.props]);
     first[problem.props..].fill(0);
     if rest.is_empty() {
         return;
     }
-    let sets = Sets::new(problem);
+    let sets = Sets::<P, E>::new(problem);
     let mut now = Layer::new(problem, label);
     let mut before = &*first;
     while !rest.is_empty() {
-        let (over, next) = rest[..actions + layer].split_at_mut(actions);
+        let (over, next) = rest[..vertices + layer].split_at_mut(vertices);
         now.admit(&sets);
-        if now.pairs_due(&sets) > FEW_PAIRS * sets.actions as u32 {
+        if now.pairs_due(&sets) > FEW_PAIRS * sets.effects as u32 {
             now.pair_by_rows(&sets);
         } else {
             now.pair_one_by_one(&sets);
         }
-        now.write_actions(&sets, before, over);
+        now.write_vertices(&sets, before, over);
         let changed = now.grow(&sets);
         now.write_props(&sets, next);
         if !changed {
-            repeat(rest, actions + layer);
+            repeat(rest, vertices + layer);
             return;
         }
-        let (step, left) = rest.split_at_mut(actions + layer);
-        before = &step[actions..];
+        let (step, left) = rest.split_at_mut(vertices + layer);
+        before = &step[vertices..];
         rest = left;
     }
 }
 
 /// The label of each proposition in layer 0.
-fn start_labels<const R: usize>(problem: &Problem) -> [u64; R] {
+fn start_labels<const R: usize>(starts: &[u8]) -> [u64; R] {
     let mut label = [0; R];
-    for (i, starts) in problem.parts().1.chunks(4 * 32).enumerate() {
+    for (i, starts) in starts.chunks(4 * 32).enumerate() {
         let states = turned(starts.chunks_exact(4).map(set_of));
         label.iter_mut().zip(states).for_each(|(label, states)| *label |= (states as u64) << (32 * i));
     }
@@ -298,204 +467,260 @@ fn swap_squares<const W: usize>(rows: &mut [u32; 32]) {
     }
 }
 
-/// A problem's sets, and what follows from them for every layer.
-struct Sets<const R: usize> {
+/// A problem's sets by effect, and what follows from them for every layer.
+struct Sets<const P: usize, const E: usize> {
     props: usize,
-    actions: usize,
+    effects: usize,
     all: u64,
-    pre: [u32; R],
-    add: [u32; R],
-    del: [u32; R],
-    /// The actions that add a proposition.
-    adders: [u32; R],
-    /// The other actions with which an action does not interfere.
-    independent: [u32; R],
+    needs: [u32; E],
+    add: [u32; E],
+    del: [u32; E],
+    /// The effects that add a proposition.
+    adders: [u32; P],
+    /// The effects with which an effect does not interfere: all of its action, itself among them, and some of others.
+    free: [u32; E],
+    /// Of these the ones of other actions.
+    independent: [u32; E],
+    /// The effects whose action has several.
+    with_siblings: u32,
 }
 
-impl<const R: usize> Sets<R> {
+impl<const P: usize, const E: usize> Sets<P, E> {
     fn new(problem: &Problem) -> Self {
-        let (mut pre, mut add, mut del, mut touched) = ([0; R], [0; R], [0; R], [0; R]);
-        for (a, bytes) in problem.parts().0.chunks_exact(12).enumerate() {
-            let a = a % R;
-            (pre[a], add[a], del[a]) = (set_of(bytes), set_of(&bytes[4..]), set_of(&bytes[8..]));
-            touched[a] = pre[a] | add[a];
-        }
-        let mut adders = [0; R];
-        adders.copy_from_slice(&turned(add[..problem.actions].iter().copied())[..R]);
+        let (mut needs, mut add, mut del, mut touched) = ([0; E], [0; E], [0; E], [0; E]);
+        let rules = problem.rules();
+        rules.each_effect(|e, effect| {
+            let e = e % E;
+            (needs[e], add[e], del[e]) = (effect.needs(), effect.add, effect.del);
+            touched[e] = needs[e] | add[e];
+        });
+        let mut adders = [0; P];
+        adders.copy_from_slice(&rules.adders()[..P]);
 
-        let every = first_bits(problem.actions) as u32;
-        let mut independent = [0; R];
-        for a in 0..problem.actions {
-            let a = a % R;
+        let own: [u32; E] = effects_of_same(rules);
+        let every = first_bits(problem.effects) as u32;
+        let (mut free, mut independent, mut with_siblings) = ([0; E], [0; E], 0);
+        for e in 0..problem.effects {
+            let e = e % E;
             let mut interferers = 0;
-            for b in 0..R {
-                interferers |= ((del[a] & touched[b] | del[b] & touched[a] != 0) as u32) << b;
+            for f in 0..E {
+                interferers |= ((del[e] & touched[f] | del[f] & touched[e] != 0) as u32) << f;
             }
-            independent[a] = every & !interferers & !(1 << a);
+            free[e] = every & !interferers | own[e];
+            independent[e] = free[e] & !own[e];
+            with_siblings |= own[e] & !(1 << e);
         }
         Sets {
             props: problem.props,
-            actions: problem.actions,
+            effects: problem.effects,
             all: problem.all_states(),
-            pre,
+            needs,
             add,
             del,
             adders,
+            free,
             independent,
+            with_siblings,
         }
     }
 
-    /// The actions that go by one of these propositions. One that needs nothing goes by all.
+    /// The effects that go by one of these propositions. One that needs nothing goes by all.
     fn going_by(&self, props: u32) -> u32 {
-        (0..R).fold(0, |going, a| going | ((self.pre[a] & props != 0 || self.pre[a] == 0) as u32) << a)
-            & first_bits(self.actions) as u32
+        (0..E).fold(0, |going, e| going | ((self.needs[e] & props != 0 || self.needs[e] == 0) as u32) << e)
+            & first_bits(self.effects) as u32
     }
+}
+
+/// Of each effect those of the same action, itself among them.
+fn effects_of_same<const R: usize>(rules: Rules) -> [u32; R] {
+    if let Rules::Actions(_) = rules {
+        return std::array::from_fn(|e| 1 << e);
+    }
+    let (mut owned, mut same) = ([0; 32], [0; R]);
+    rules.each_effect(|e, effect| owned[effect.owner % 32] |= 1 << e);
+    rules.each_effect(|e, effect| same[e % R] = owned[effect.owner % 32]);
+    same
 }
 
 /// The present layer of propositions and the vertices over it. Two elements are together in a state if both are there
 /// and not mutex; an element is together with itself where it is there. All of it only grows from layer to layer, so
 /// what did not change below need not be made again.
 #[repr(align(64))]
-struct Layer<const R: usize> {
+struct Layer<const P: usize, const E: usize> {
     /// Of two propositions: the states in which they are together.
-    props: Rows<R>,
-    /// Of an action and a proposition: the states in which the action and the persistence are together.
-    kept: Rows<R>,
-    /// Of two actions: the states in which they are together.
-    actions: Rows<R>,
-    /// Of an action and a proposition: the states in which the action is together with a vertex that adds the
+    props: Rows<P, P>,
+    /// Of an effect and a proposition: the states in which the effect and the persistence are together.
+    kept: Rows<E, P>,
+    /// Of two effects: the states in which they are together.
+    effects: Rows<E, E>,
+    /// Of an effect and a proposition: the states in which the effect is together with a vertex that adds the
     /// proposition.
-    reached: Rows<R>,
-    /// A table turned round, or what is to be joined.
-    spare: Rows<R>,
-    /// The labels of propositions and of actions.
-    prop: [u64; R],
-    action: [u64; R],
-    /// The actions that some state has, and of them those to be made again.
+    reached: Rows<E, P>,
+    /// A table turned round, or, in its first P columns, what is to be joined.
+    spare: Rows<P, E>,
+    /// The labels of propositions and of effects.
+    prop: [u64; P],
+    effect: [u64; E],
+    /// The effects that some state has, and of them those to be made again.
     live: u32,
     stale: u32,
 }
 
-/// With up to so many pairs for each action it is quicker to make them one by one.
+/// With up to so many pairs for each effect it is quicker to make them one by one.
 const FEW_PAIRS: u32 = 8;
 
 /// If one in so many propositions may have something new, all rows are joined at once.
 const MANY_ROWS: u32 = 3;
 
-impl<const R: usize> Layer<R> {
-    fn new(problem: &Problem, prop: [u64; R]) -> Self {
-        let none = [[0; R]; R];
-        let mut props = none;
+impl<const P: usize, const E: usize> Layer<P, E> {
+    fn new(problem: &Problem, prop: [u64; P]) -> Self {
+        let mut props = [[0; P]; P];
         for (row, label) in props.iter_mut().zip(&prop) {
             row.iter_mut().zip(&prop).for_each(|(word, other)| *word = label & other);
         }
-        let stale = first_bits(problem.actions) as u32;
-        Layer { props, kept: none, actions: none, reached: none, spare: none, prop, action: [0; R], live: 0, stale }
+        let stale = first_bits(problem.effects) as u32;
+        Layer {
+            props,
+            kept: [[0; P]; E],
+            effects: [[0; E]; E],
+            reached: [[0; P]; E],
+            spare: [[0; E]; P],
+            prop,
+            effect: [0; E],
+            live: 0,
+            stale,
+        }
     }
 
-    /// The stale actions' labels, and their rows with the persistences.
-    fn admit(&mut self, sets: &Sets<R>) {
-        for a in Members::<R>(self.stale) {
-            let needs = sets.pre[a];
-            let some = Members::<R>(needs).fold(sets.all, |label, p| label & self.prop[p]);
+    /// The stale effects' labels, and their rows with the persistences.
+    fn admit(&mut self, sets: &Sets<P, E>) {
+        for e in Members::<E>(self.stale) {
+            let needs = sets.needs[e];
+            let some = Members::<P>(needs).fold(sets.all, |label, p| label & self.prop[p]);
             if some == 0 {
                 continue; // as it was
             }
-            let row = &mut self.kept[a];
+            let row = &mut self.kept[e];
             fold_rows(row, &self.prop, &self.props, needs, |x, y| x & y);
-            let label = Members::<R>(needs).fold(some, |label, p| label & row[p]);
+            let label = Members::<P>(needs).fold(some, |label, p| label & row[p]);
             row.iter_mut().for_each(|word| *word &= label);
-            for p in Members::<R>(sets.del[a]) {
+            for p in Members::<P>(sets.del[e]) {
                 row[p] = 0;
             }
-            self.action[a] = label;
-            self.actions[a][a] = label;
-            self.live |= ((label != 0) as u32) << a;
+            self.effect[e] = label;
+            self.effects[e][e] = label;
+            self.live |= ((label != 0) as u32) << e;
         }
         self.stale &= self.live;
     }
 
-    /// How many pairs of actions have one that is stale.
-    fn pairs_due(&self, sets: &Sets<R>) -> u32 {
-        Members::<R>(self.stale).map(|a| (sets.independent[a] & self.live).count_ones()).sum()
+    /// How many pairs of effects of different actions have one that is stale.
+    fn pairs_due(&self, sets: &Sets<P, E>) -> u32 {
+        Members::<E>(self.stale).map(|e| (sets.independent[e] & self.live).count_ones()).sum()
     }
 
-    /// All pairs of actions, and all that they reach, by whole rows.
-    fn pair_by_rows(&mut self, sets: &Sets<R>) {
+    /// All pairs of effects, and all that they reach, by whole rows.
+    fn pair_by_rows(&mut self, sets: &Sets<P, E>) {
         turn(&mut self.spare, &self.kept);
-        for a in Members::<R>(self.live) {
-            let label = self.action[a];
-            let own = self.action.map(|other| other & label);
-            let row = &mut self.actions[a];
-            fold_rows(row, &own, &self.spare, sets.pre[a], |x, y| x & y);
-            for b in Members::<R>(self.live & !sets.independent[a]) {
-                row[b] = 0;
+        for e in Members::<E>(self.live) {
+            let label = self.effect[e];
+            let own = self.effect.map(|other| other & label);
+            let row = &mut self.effects[e];
+            fold_rows(row, &own, &self.spare, sets.needs[e], |x, y| x & y);
+            for f in Members::<E>(self.live & !sets.independent[e]) {
+                row[f] = 0;
             }
-            row[a] = label;
+            row[e] = label;
+        }
+        if sets.with_siblings != 0 {
+            self.pair_siblings(sets, self.live);
         }
         for (p, row) in self.spare.iter_mut().enumerate() {
             let own = *row;
-            fold_rows(row, &own, &self.actions, sets.adders[p] & self.live, |x, y| x | y);
+            fold_rows(row, &own, &self.effects, sets.adders[p] & self.live, |x, y| x | y);
         }
         turn(&mut self.reached, &self.spare);
     }
 
-    /// The pairs with a stale action, and what the stale ones reach, one by one.
-    fn pair_one_by_one(&mut self, sets: &Sets<R>) {
+    /// The pairs with a stale effect, and what the stale ones reach, one by one.
+    fn pair_one_by_one(&mut self, sets: &Sets<P, E>) {
         let mut open = self.live;
-        for a in Members::<R>(self.stale) {
-            open &= !(self.stale & 1 << a);
-            let (label, row) = (self.action[a], &self.kept[a]);
-            // a pair of two stale actions once
-            for b in Members::<R>(sets.independent[a] & open) {
-                let with = Members::<R>(sets.pre[b]).fold(label & self.action[b], |with, p| with & row[p]);
-                self.actions[a][b] = with;
-                self.actions[b][a] = with;
+        for e in Members::<E>(self.stale) {
+            open &= !(self.stale & 1 << e);
+            let (label, row) = (self.effect[e], &self.kept[e]);
+            // a pair of two stale effects once
+            for f in Members::<E>(sets.independent[e] & open) {
+                let with = Members::<P>(sets.needs[f]).fold(label & self.effect[f], |with, p| with & row[p]);
+                self.effects[e][f] = with;
+                self.effects[f][e] = with;
             }
         }
-        for a in Members::<R>(self.stale) {
-            let row = &mut self.reached[a];
-            *row = self.kept[a];
-            for b in Members::<R>(sets.independent[a] & self.live | 1 << a) {
-                let with = self.actions[a][b];
-                for p in Members::<R>(sets.add[b]) {
+        if sets.with_siblings != 0 {
+            self.pair_siblings(sets, self.stale);
+        }
+        for e in Members::<E>(self.stale) {
+            let row = &mut self.reached[e];
+            *row = self.kept[e];
+            for f in Members::<E>(sets.free[e] & self.live) {
+                let with = self.effects[e][f];
+                for p in Members::<P>(sets.add[f]) {
                     row[p] |= with;
                 }
             }
         }
     }
 
+    /// The pairs of effects of one action of which one is of these. They are apart by their needs only, so that the
+    /// rows with the persistences, which leave out what an effect deletes, do not serve; what both need does not matter.
+    #[inline(never)] // version 1 is quicker without it in the same function
+    fn pair_siblings(&mut self, sets: &Sets<P, E>, these: u32) {
+        let mut open = self.live;
+        for e in Members::<E>(these & sets.with_siblings) {
+            open &= !(1 << e);
+            for f in Members::<E>(sets.free[e] & !sets.independent[e] & open) {
+                let mut with = self.effect[e] & self.effect[f];
+                for p in Members::<P>(sets.needs[e] & !sets.needs[f]) {
+                    let row = &self.props[p];
+                    with = Members::<P>(sets.needs[f] & !sets.needs[e]).fold(with, |with, q| with & row[q]);
+                }
+                self.effects[e][f] = with;
+                self.effects[f][e] = with;
+            }
+        }
+    }
+
     /// Goes on to the next layer of propositions. Whether anything changed.
-    fn grow(&mut self, sets: &Sets<R>) -> bool {
-        let touched = Members::<R>(self.stale).fold(0, |touched, a| touched | sets.add[a]);
+    fn grow(&mut self, sets: &Sets<P, E>) -> bool {
+        let touched = Members::<E>(self.stale).fold(0, |touched, e| touched | sets.add[e]);
         let changed = if MANY_ROWS * touched.count_ones() > sets.props as u32 {
             for (p, row) in self.spare.iter_mut().enumerate() {
-                fold_rows(row, &[0; R], &self.reached, sets.adders[p] & self.stale, |x, y| x | y);
+                let row = row.first_chunk_mut().unwrap();
+                fold_rows(row, &[0; P], &self.reached, sets.adders[p] & self.stale, |x, y| x | y);
             }
             join_both_ways(&mut self.props, &self.spare)
         } else {
             self.join_rows(sets, touched)
         };
-        for p in 0..R {
+        for p in 0..P {
             self.prop[p] = self.props[p][p];
         }
         self.stale = sets.going_by(changed);
         changed != 0
     }
 
-    /// Joins what the stale actions reach into these propositions' rows, and into the same columns. The propositions
+    /// Joins what the stale effects reach into these propositions' rows, and into the same columns. The propositions
     /// with something new.
-    fn join_rows(&mut self, sets: &Sets<R>, touched: u32) -> u32 {
+    fn join_rows(&mut self, sets: &Sets<P, E>, touched: u32) -> u32 {
         let mut changed = 0;
-        for p in Members::<R>(touched) {
-            let mut row = [0; R];
+        for p in Members::<P>(touched) {
+            let mut row = [0; P];
             fold_rows(&mut row, &self.props[p], &self.reached, sets.adders[p] & self.stale, |x, y| x | y);
             let mut new = 0;
-            for q in 0..R {
+            for q in 0..P {
                 new |= ((row[q] != self.props[p][q]) as u32) << q;
             }
             self.props[p] = row;
-            for q in Members::<R>(new) {
+            for q in Members::<P>(new) {
                 self.props[q][p] = row[q];
             }
             changed |= new | ((new != 0) as u32) << p;
@@ -504,38 +729,38 @@ impl<const R: usize> Layer<R> {
     }
 
     /// The action layer, over the layer of propositions whose words are `before`.
-    fn write_actions(&self, sets: &Sets<R>, before: &[u64], words: &mut [u64]) {
-        let (props, actions) = (sets.props, sets.actions);
-        let (labels, mut pairs) = words.split_at_mut(actions + props);
-        labels[..actions].copy_from_slice(&self.action[..actions]);
-        labels[actions..].copy_from_slice(&self.prop[..props]);
-        for a in 0..actions {
-            let a = a % R;
-            let (by_action, after) = pairs.split_at_mut(actions - a - 1);
+    fn write_vertices(&self, sets: &Sets<P, E>, before: &[u64], words: &mut [u64]) {
+        let (props, effects) = (sets.props, sets.effects);
+        let (labels, mut pairs) = words.split_at_mut(effects + props);
+        labels[..effects].copy_from_slice(&self.effect[..effects]);
+        labels[effects..].copy_from_slice(&self.prop[..props]);
+        for e in 0..effects {
+            let e = e % E;
+            let (by_effect, after) = pairs.split_at_mut(effects - e - 1);
             let (by_prop, after) = after.split_at_mut(props);
             pairs = after;
-            let label = self.action[a];
+            let label = self.effect[e];
             if label == 0 {
-                by_action.fill(0);
+                by_effect.fill(0);
                 by_prop.fill(0);
                 continue;
             }
-            write_apart(by_action, label, &self.action[a + 1..], &self.actions[a][a + 1..]);
+            write_apart(by_effect, label, &self.effect[e + 1..], &self.effects[e][e + 1..]);
             // a full row has a length that the compiler knows
-            match <&mut [u64; R]>::try_from(&mut *by_prop) {
-                Ok(full) => write_apart(full, label, &self.prop, &self.kept[a]),
-                Err(_) => write_apart(by_prop, label, &self.prop, &self.kept[a]),
+            match <&mut [u64; P]>::try_from(&mut *by_prop) {
+                Ok(full) => write_apart(full, label, &self.prop, &self.kept[e]),
+                Err(_) => write_apart(by_prop, label, &self.prop, &self.kept[e]),
             }
         }
         // two persistences are mutex as their propositions are
         pairs.copy_from_slice(&before[props..]);
     }
 
-    fn write_props(&self, sets: &Sets<R>, words: &mut [u64]) {
+    fn write_props(&self, sets: &Sets<P, E>, words: &mut [u64]) {
         let (labels, mut pairs) = words.split_at_mut(sets.props);
         labels.copy_from_slice(&self.prop[..sets.props]);
         for p in 0..sets.props {
-            let p = p % R;
+            let p = p % P;
             let (row, after) = pairs.split_at_mut(sets.props - p - 1);
             pairs = after;
             write_apart(row, self.prop[p], &self.prop[p + 1..], &self.props[p][p + 1..]);
@@ -556,15 +781,15 @@ const PART: usize = 16;
 
 /// A row from its first words and the named rows, part by part.
 #[inline(always)]
-fn fold_rows<const R: usize>(
-    to: &mut [u64; R],
-    first: &[u64; R],
-    rows: &Rows<R>,
+fn fold_rows<const R: usize, const W: usize>(
+    to: &mut [u64; W],
+    first: &[u64; W],
+    rows: &Rows<R, W>,
     named: u32,
     join: impl Fn(u64, u64) -> u64,
 ) {
-    let width = PART.min(R);
-    for at in (0..R).step_by(width) {
+    let width = PART.min(W);
+    for at in (0..W).step_by(width) {
         let mut part = [0; PART];
         part[..width].copy_from_slice(&first[at..at + width]);
         for i in Members::<R>(named) {
@@ -579,8 +804,8 @@ fn fold_rows<const R: usize>(
 
 /// Word `[j][i]` of the one is word `[i][j]` of the other.
 #[inline(always)]
-fn turn<const R: usize>(to: &mut Rows<R>, from: &Rows<R>) {
-    for j in 0..R {
+fn turn<const R: usize, const W: usize>(to: &mut Rows<W, R>, from: &Rows<R, W>) {
+    for j in 0..W {
         for i in 0..R {
             to[j][i] = from[i][j];
         }
@@ -589,13 +814,14 @@ fn turn<const R: usize>(to: &mut Rows<R>, from: &Rows<R>) {
 
 /// The square of two rows and two columns that begins at `[p][q]`.
 #[inline(always)]
-fn square<const R: usize>(rows: &Rows<R>, p: usize, q: usize) -> [u64; 4] {
+fn square<const R: usize, const W: usize>(rows: &Rows<R, W>, p: usize, q: usize) -> [u64; 4] {
     [rows[p][q], rows[p][q + 1], rows[p + 1][q], rows[p + 1][q + 1]]
 }
 
-/// Joins a table, as it is and turned round, into one that is the same turned round. The rows with something new.
+/// Joins a table of R columns, as it is and turned round, into one that is the same turned round. The rows with something
+/// new.
 #[inline(always)]
-fn join_both_ways<const R: usize>(to: &mut Rows<R>, from: &Rows<R>) -> u32 {
+fn join_both_ways<const R: usize, const W: usize>(to: &mut Rows<R, R>, from: &Rows<R, W>) -> u32 {
     let mut new = [0; R];
     for p in (0..R).step_by(2) {
         for q in (p..R).step_by(2) {
@@ -939,9 +1165,6 @@ fn moves(set: u64) -> [Move; 6] {
 // ---- run
 
 /// Runs a sequence of actions from each state of a set; answers the number of sets written, which is N.
-///
-/// A step removes and adds the same propositions in every state, and so does a sequence: it is followed once, with the
-/// propositions that all states of the set have, and the states are moved at its end.
 pub fn run(file: &[u8], set: u64, list: &[u8], out: &mut [u32]) -> Result<usize, Refusal> {
     let problem = Problem::open(file)?;
     problem.check_set(set)?;
@@ -955,7 +1178,17 @@ pub fn run(file: &[u8], set: u64, list: &[u8], out: &mut [u32]) -> Result<usize,
     if !list.is_empty() && !known(list.iter().fold(0, |most, &a| most.max(a))) {
         return Err(Refusal::Sequence(list.iter().position(|&a| !known(a)).unwrap()));
     }
-    let (actions, starts) = problem.parts();
+    match problem.rules() {
+        Rules::Actions(actions) => run_actions(actions, problem.starts(), set, list, out)?,
+        rules => run_effects(rules, problem.starts(), set, list, out)?,
+    }
+    Ok(problem.states)
+}
+
+/// Version 1. A step removes and adds the same propositions in every state, and so does a sequence: it is followed
+/// once, with the propositions that all states of the set have, and the states are moved at its end.
+#[inline(always)]
+fn run_actions(actions: &[u8], starts: &[u8], set: u64, list: &[u8], out: &mut [u32]) -> Result<(), Refusal> {
     // of each state: all ones if it is of the set
     let mut within = [0; 64];
     let mut sure = u32::MAX;
@@ -968,7 +1201,7 @@ pub fn run(file: &[u8], set: u64, list: &[u8], out: &mut [u32]) -> Result<usize,
         let start = set_of(start);
         *end = (start & kept | added) & within | start & !within;
     }
-    Ok(problem.states)
+    Ok(())
 }
 
 /// What a step keeps, adds for good, and does not ask for. A set stands in both halves of a word, so that two sets take
@@ -983,7 +1216,7 @@ struct Step {
 
 impl Step {
     fn of(bytes: &[u8]) -> Step {
-        let (pre, add, del) = (set_of(bytes), set_of(&bytes[4..]), set_of(&bytes[8..]));
+        let [pre, add, del] = three_sets(bytes);
         let twice = |set: u32| set as u64 | (set as u64) << 32;
         Step { kept: twice(!del), added: twice(add & !del), unasked: !pre }
     }
@@ -993,6 +1226,7 @@ impl Step {
 const BLOCK: usize = 64;
 
 /// Follows a list of actions, given as bytes, from what all states have: what the list keeps of a set, and what it adds.
+#[inline(always)]
 fn follow(actions: &[u8], sure: u32, list: &[u8]) -> Result<(u32, u32), Refusal> {
     if list.is_empty() {
         return Ok((u32::MAX, 0)); // and there is no table to make
@@ -1031,6 +1265,77 @@ fn first_unmet(steps: &[Step; 32], mut sure: u64, block: &[u8]) -> usize {
     block.iter().position(unmet).unwrap()
 }
 
+/// Version 2. An effect fires in some states and not in others, so the sets are kept turned round: of each proposition
+/// the states that have it.
+#[inline(never)] // version 1 is quicker without it in the same function
+fn run_effects(rules: Rules, starts: &[u8], set: u64, list: &[u8], out: &mut [u32]) -> Result<(), Refusal> {
+    if list.is_empty() {
+        out.iter_mut().zip(starts.chunks_exact(4)).for_each(|(end, start)| *end = set_of(start));
+        return Ok(()); // and nothing is turned round
+    }
+    let steps = Steps::new(rules);
+    let (mut labels, mut fired) = (start_labels(starts), [0; 32]);
+    for (i, &a) in list.iter().enumerate() {
+        if !steps.take(a as usize % 32, set, &mut labels, &mut fired) {
+            return Err(Refusal::Precondition(i));
+        }
+    }
+    for (i, ends) in out[..starts.len() / 4].chunks_mut(32).enumerate() {
+        let mut rows = labels.map(|states| (states >> (32 * i)) as u32);
+        turn_bits(&mut rows);
+        ends.copy_from_slice(&rows[..ends.len()]);
+    }
+    Ok(())
+}
+
+/// Preconditions and effects by action, and the sets of each effect.
+struct Steps {
+    pre: [u32; 32],
+    effects: [u32; 32],
+    when: [u32; 32],
+    add: [u32; 32],
+    del: [u32; 32],
+}
+
+impl Steps {
+    fn new(rules: Rules) -> Self {
+        let mut steps = Steps { pre: [0; 32], effects: [0; 32], when: [0; 32], add: [0; 32], del: [0; 32] };
+        for (to, pre) in steps.pre.iter_mut().zip(rules.preconditions()) {
+            *to = pre;
+        }
+        rules.each_effect(|e, effect| {
+            let e = e % 32;
+            steps.effects[effect.owner % 32] |= 1 << e;
+            (steps.when[e], steps.add[e], steps.del[e]) = (effect.when, effect.add, effect.del);
+        });
+        steps
+    }
+
+    /// A step of an action in the states of a set. Whether its precondition held in all of them; else it is not made.
+    #[inline(always)]
+    fn take(&self, a: usize, set: u64, labels: &mut [u64; 32], fired: &mut [u64; 32]) -> bool {
+        let having = |props: u32, labels: &[u64; 32]| Members::<32>(props).fold(set, |all, p| all & labels[p]);
+        if having(self.pre[a], labels) != set {
+            return false;
+        }
+        let effects = self.effects[a];
+        for e in Members::<32>(effects) {
+            fired[e] = having(self.when[e], labels);
+        }
+        for e in Members::<32>(effects) {
+            for p in Members::<32>(self.add[e]) {
+                labels[p] |= fired[e];
+            }
+        }
+        for e in Members::<32>(effects) {
+            for p in Members::<32>(self.del[e]) {
+                labels[p] &= !fired[e];
+            }
+        }
+        true
+    }
+}
+
 // ---- plan
 
 /// The relaxed plan of a goal for a set of states.
@@ -1045,12 +1350,10 @@ pub fn plan(file: &[u8], depth: usize, set: u64, goal: u32, words: &[u64], out: 
     }
     let level = layers.first_met(set, goal).ok_or(Refusal::NoLevel(depth))?;
 
-    let actions = problem.parts().0.chunks_exact(12);
-    let mut pre = [0; 32];
-    for (pre, bytes) in pre.iter_mut().zip(actions.clone()) {
-        *pre = set_of(bytes);
-    }
-    let adders = turned(actions.map(|bytes| set_of(&bytes[4..])));
+    let rules = problem.rules();
+    let mut needs = [0; 32];
+    rules.each_effect(|e, effect| needs[e % 32] = effect.needs());
+    let adders = rules.adders();
 
     // the propositions that are needed, and the states that each is needed for, here and a layer below
     let mut needed = goal;
@@ -1062,8 +1365,8 @@ pub fn plan(file: &[u8], depth: usize, set: u64, goal: u32, words: &[u64], out: 
     let mut count = 0;
     for t in (1..=level).rev() {
         let labels = &words[(t - 1) * layers.stride + layers.size..][..problem.vertices()];
-        let (actions, persistences) = labels.split_at(problem.actions);
-        let (mut needed_below, mut marks) = (0, 0);
+        let (effects, persistences) = labels.split_at(problem.effects);
+        let (mut needed_below, mut chosen) = (0, 0);
         for p in Members::<32>(needed) {
             let mut left = std::mem::take(&mut wanted[p]);
             let carried = left & persistences[p];
@@ -1072,18 +1375,19 @@ pub fn plan(file: &[u8], depth: usize, set: u64, goal: u32, words: &[u64], out: 
             left ^= carried;
             let mut adders = Members::<32>(adders[p]);
             while left != 0 {
-                let a = adders.next().ok_or(Refusal::Uncovered(t))?;
-                let taken = left & actions[a];
+                let e = adders.next().ok_or(Refusal::Uncovered(t))?;
+                let taken = left & effects[e];
                 if taken != 0 {
-                    marks |= 1 << a;
-                    needed_below |= pre[a];
-                    for q in Members::<32>(pre[a]) {
+                    chosen |= 1 << e;
+                    needed_below |= needs[e];
+                    for q in Members::<32>(needs[e]) {
                         below[q] |= taken;
                     }
                     left ^= taken;
                 }
             }
         }
+        let marks = rules.owners(chosen);
         marked[t - 1] = marks;
         count += marks.count_ones() as usize;
         needed = needed_below;
@@ -1102,7 +1406,7 @@ pub fn plan(file: &[u8], depth: usize, set: u64, goal: u32, words: &[u64], out: 
 pub fn fitting_depth(file: &[u8], room: usize) -> Result<usize, Refusal> {
     let problem = Problem::open(file)?;
     problem.check_memory(0, room)?;
-    Ok((0..=255).rev().find(|&depth| word_count(problem.props, problem.actions, depth) <= room).unwrap())
+    Ok((0..=255).rev().find(|&depth| word_count(problem.props, problem.effects, depth) <= room).unwrap())
 }
 
 // ---- the text of `levels`

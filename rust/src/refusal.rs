@@ -3,10 +3,10 @@
 use std::fmt;
 
 /// The texts of `mogzift_message` in include/mogzift.h, from number 1 on.
-const MESSAGES: [&str; 15] = [
-    "not a problem file: begin it with SAG, the version and the three counts, 8 bytes in all",
-    "another version: write 1 and 0 at offsets 3 and 4",
-    "a count is out of range, at the place: 1 to 32 propositions, 0 to 32 actions, 1 to 64 start states",
+const MESSAGES: [&str; 16] = [
+    "not a problem file: begin it with SAG, the version and its counts, 8 bytes in all, 9 in version 2",
+    "another version: write 1 and 0, or 2 and 0, at offsets 3 and 4",
+    "a count is out of range, at the place: 1 to 32 propositions, 0 to 32 actions and effects, 1 to 64 states",
     "the length does not fit the counts: make it as long as the place says, or set the counts right",
     "a set in the file, at the place, has bit P or above: clear the bit, or count P up",
     "the depth is above 255: ask for 255 at most",
@@ -19,20 +19,22 @@ const MESSAGES: [&str; 15] = [
     "the goal has no level up to the depth, so there is no plan: build deeper, unless the level is never",
     "the graph's words were altered, seen at the layer that the place says: build the graph again",
     "an action, at the place, has the same three sets as an earlier one: leave it out, and count A down",
+    "an effect, at the place, has an action number of A or above: name only 0 to A - 1, or count A up",
 ];
 
 /// Why a call is turned away: the paper's causes in the order of their numbers, with the place where it varies.
 ///
-/// The first cause that holds is told. They are looked for in the order of their numbers, but 15 right behind 5.
+/// The first cause that holds is told. They are looked for in the order of their numbers, but 16 and then 15 right
+/// behind 5.
 ///
 /// It displays as its [`message`](Refusal::message), number and place.
 #[derive(Clone, Copy, Debug, PartialEq, Eq, Hash)]
 pub enum Refusal {
-    /// Under 8 bytes, or no `SAG`.
+    /// Under 8 bytes, in version 2 under 9, or no `SAG`.
     Head,
-    /// Another version.
+    /// Another version than 1 and 2.
     Version,
-    /// A count outside its range, with its offset: 5, 6 or 7.
+    /// A count outside its range, with its offset: 5, 6 or 7, in version 2 also 8.
     Count(usize),
     /// The file's length is wrong, with the right one.
     Length(usize),
@@ -56,12 +58,14 @@ pub enum Refusal {
     NoLevel(usize),
     /// The graph's words were altered: states are left uncovered at this layer, or a need lies outside its label at 0.
     Uncovered(usize),
-    /// An action has the same three sets as an earlier one, with the offset of the first that does.
+    /// In version 1 an action has the same three sets as an earlier one, with the offset of the first that does.
     EqualAction(usize),
+    /// In version 2 an effect has an action number of A or above, with the offset of the first that does.
+    EffectAction(usize),
 }
 
 impl Refusal {
-    /// The paper's number, 1 to 15.
+    /// The paper's number, 1 to 16.
     pub fn number(self) -> usize {
         match self {
             Refusal::Head => 1,
@@ -79,6 +83,7 @@ impl Refusal {
             Refusal::NoLevel(_) => 13,
             Refusal::Uncovered(_) => 14,
             Refusal::EqualAction(_) => 15,
+            Refusal::EffectAction(_) => 16,
         }
     }
 
@@ -97,7 +102,8 @@ impl Refusal {
             | Refusal::Precondition(place)
             | Refusal::NoLevel(place)
             | Refusal::Uncovered(place)
-            | Refusal::EqualAction(place) => place,
+            | Refusal::EqualAction(place)
+            | Refusal::EffectAction(place) => place,
         }
     }
 
@@ -123,6 +129,7 @@ impl Refusal {
             13 => Refusal::NoLevel(place),
             14 => Refusal::Uncovered(place),
             15 => Refusal::EqualAction(place),
+            16 => Refusal::EffectAction(place),
             _ => unreachable!("no refusal has the number {number}"),
         };
         assert_eq!(refusal.place(), place, "the place of refusal {number}");

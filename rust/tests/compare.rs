@@ -1,6 +1,7 @@
 //! Makes each call of the proved library and of the plain Rust version on the same input, and compares the answers and
-//! all lent memory: many problems, short and long, whole, damaged and with equal actions, over built, altered and junk
-//! words. What a page of goals says of each is held to the single call for it, too.
+//! all lent memory: many problems of both versions, short and long, whole, damaged, with equal actions and with effects of
+//! no action, over built, altered and junk words. What a page of goals says of each is held to the single call for it,
+//! too, and the graph of actions to that of the same actions as effects.
 //!
 //! Prints how often each kind of answer came up, and fails where one that the paper has never did.
 
@@ -10,7 +11,7 @@ use std::fmt::Debug;
 use std::time::Instant;
 
 const SEED: u64 = 64;
-const PROBLEMS: usize = 8000;
+const PROBLEMS: usize = 10_000;
 
 // ---- random numbers
 
@@ -68,21 +69,70 @@ impl Random {
 
 // ---- problems
 
+/// A problem of either version. In version 1 effect i is all that action i does, and has no antecedent.
+#[derive(Clone)]
 struct Problem {
+    version: u8,
     props: usize,
-    actions: Vec<[u32; 3]>,
+    pre: Vec<u32>,
+    effects: Vec<Effect>,
     starts: Vec<u32>,
 }
 
+#[derive(Clone, Copy)]
+struct Effect {
+    owner: usize,
+    when: u32,
+    add: u32,
+    del: u32,
+}
+
 impl Problem {
+    /// Version 1.
+    fn of_actions(props: usize, actions: &[[u32; 3]], starts: Vec<u32>) -> Problem {
+        let effect = |(owner, &[_, add, del]): (usize, &[u32; 3])| Effect { owner, when: 0, add, del };
+        Problem {
+            version: 1,
+            props,
+            pre: actions.iter().map(|action| action[0]).collect(),
+            effects: actions.iter().enumerate().map(effect).collect(),
+            starts,
+        }
+    }
+
+    /// Of version 1 the three sets of each action.
+    fn actions(&self) -> Vec<[u32; 3]> {
+        self.pre.iter().zip(&self.effects).map(|(&pre, effect)| [pre, effect.add, effect.del]).collect()
+    }
+
     fn file(&self) -> Vec<u8> {
-        let counts = [self.props, self.actions.len(), self.starts.len()].map(|n| n as u8);
-        let sets = self.actions.iter().flatten().chain(&self.starts);
-        [b"SAG\x01\x00", &counts[..]].concat().into_iter().chain(sets.flat_map(|set| set.to_le_bytes())).collect()
+        let counts = [self.props, self.pre.len(), self.starts.len()].map(|n| n as u8);
+        let mut file = [b'S', b'A', b'G', self.version, 0].to_vec();
+        file.extend(counts);
+        let bytes = |sets: &[u32]| -> Vec<u8> { sets.iter().flat_map(|set| set.to_le_bytes()).collect() };
+        if self.version == 1 {
+            file.extend(bytes(&self.actions().concat()));
+        } else {
+            file.push(self.effects.len() as u8);
+            file.extend(bytes(&self.pre));
+            for &Effect { owner, when, add, del } in &self.effects {
+                file.push(owner as u8);
+                file.extend(bytes(&[when, add, del]));
+            }
+        }
+        file.extend(bytes(&self.starts));
+        file
     }
 
     fn words(&self, depth: usize) -> usize {
-        word_count(self.props, self.actions.len(), depth)
+        word_count(self.props, self.effects.len(), depth)
+    }
+
+    /// What a step of an action makes of a state.
+    fn after(&self, action: usize, state: u32) -> u32 {
+        let fired = self.effects.iter().filter(|effect| effect.owner == action && effect.when & !state == 0);
+        let (add, del) = fired.fold((0, 0), |(add, del), effect| (add | effect.add, del | effect.del));
+        (state | add) & !del
     }
 }
 
@@ -124,7 +174,7 @@ fn scattered(random: &mut Random) -> Problem {
         std::array::from_fn(|kind| random.bits(props, dense[kind]) as u32)
     });
     let starts = (0..states).map(|_| random.bits(props, dense[3]) as u32).collect();
-    Problem { props, actions, starts }
+    Problem::of_actions(props, &actions, starts)
 }
 
 /// Actions that go from one proposition to another, so that a level may lie deep; some ask or delete something more.
@@ -142,15 +192,72 @@ fn chained(random: &mut Random) -> Problem {
             _ => [1 << from, 1 << to, 1 << from],
         }
     });
-    let starts = (0..states)
-        .map(|_| if random.one_in(4) { random.bits(props, 3) as u32 } else { 1 << random.below(props) })
-        .collect();
-    Problem { props, actions, starts }
+    let starts = chain_starts(random, props, states);
+    Problem::of_actions(props, &actions, starts)
+}
+
+fn chain_starts(random: &mut Random, props: usize, states: usize) -> Vec<u32> {
+    let mut start = || if random.one_in(4) { random.bits(props, 3) as u32 } else { 1 << random.below(props) };
+    (0..states).map(|_| start()).collect()
+}
+
+/// So many effects, drawn in turn, of actions drawn for them: any, or one of the first few only, so that some have many
+/// effects and some none. At times one is drawn as a copy of an earlier one, of the same action or another.
+fn owned(random: &mut Random, actions: usize, draw: impl Fn(&mut Random, usize) -> [u32; 3]) -> Vec<Effect> {
+    if actions == 0 {
+        return Vec::new();
+    }
+    let most = random.pick(&[actions, actions, 2 * actions, 32]).min(32);
+    let count = if random.one_in(8) { random.pick(&[0, 1, 31, 32]) } else { random.from(0, most) };
+    let owners = if random.one_in(3) { random.from(1, actions) } else { actions };
+    let mut effects: Vec<Effect> = Vec::new();
+    for i in 0..count {
+        let owner = random.below(owners);
+        let [when, add, del] = draw(random, i);
+        let mut effect = Effect { owner, when, add, del };
+        if i > 0 && random.one_in(20) {
+            effect = random.pick(&effects);
+            effect.owner = if random.one_in(2) { effect.owner } else { owner };
+        }
+        effects.push(effect);
+    }
+    effects
+}
+
+/// As `scattered`, with effects.
+fn scattered_effects(random: &mut Random) -> Problem {
+    let (props, actions, states) = counts(random);
+    let dense: [usize; 5] = std::array::from_fn(|_| random.pick(&[0, 1, 2, 2, 4, 4, 8, 13, 16]));
+    let effects =
+        owned(random, actions, |random, _| std::array::from_fn(|kind| random.bits(props, dense[kind]) as u32));
+    let pre = (0..actions).map(|_| random.bits(props, dense[3]) as u32).collect();
+    let starts = (0..states).map(|_| random.bits(props, dense[4]) as u32).collect();
+    Problem { version: 2, props, pre, effects, starts }
+}
+
+/// As `chained`, with effects, most of which go from their antecedents. Half of the actions need something besides.
+fn chained_effects(random: &mut Random) -> Problem {
+    let (props, actions, states) = counts(random);
+    let effects = owned(random, actions, |random, i| {
+        let (from, to) = (1 << (i % props), 1 << random.pick(&[(i + 1) % props, i / 2 % props]));
+        let more = random.bits(props, 1) as u32;
+        match random.below(6) {
+            0 => [from | more, to, from],
+            1 => [from, to | more, from],
+            2 => [from, to, more],
+            3 => [0, to, more],
+            _ => [from, to, from],
+        }
+    });
+    let mut pre = || if random.one_in(2) { 0 } else { 1 << random.below(props) };
+    let pre = (0..actions).map(|_| pre()).collect();
+    let starts = chain_starts(random, props, states);
+    Problem { version: 2, props, pre, effects, starts }
 }
 
 /// A depth for which a plain build does not take too long: a chosen few problems may cost more.
 fn depth(random: &mut Random, problem: &Problem) -> usize {
-    let vertices = problem.props + problem.actions.len();
+    let vertices = problem.props + problem.effects.len();
     let layer = (vertices * vertices * problem.props * problem.props).max(500);
     let budget = match random.below(200) {
         0..=1 => 200_000_000,
@@ -182,8 +289,13 @@ fn damaged(random: &mut Random, mut file: Vec<u8>) -> Vec<u8> {
         3 => file.push(random.word() as u8),
         4 => file.extend((0..random.below(40)).map(|i| i as u8)),
         5 => file[random.below(3)] ^= 1 << random.below(8),
+        6 if random.one_in(3) => file[3] = random.pick(&[1, 2, 3]),
         6 => file[random.from(3, 4)] ^= 1 << random.below(8),
-        7 => file[random.from(5, 7)] = random.pick(&[0, 1, 31, 32, 33, 63, 64, 65, 128, 255]),
+        7 => {
+            // the last of these is a count in version 2 only
+            let counts = random.from(1, 2);
+            (0..counts).for_each(|_| file[random.from(5, 8)] = random.pick(&[0, 1, 31, 32, 33, 63, 64, 65, 128, 255]));
+        }
         8 => flip(random, &mut file, 8),
         _ => (0..random.from(1, 6)).for_each(|_| flip(random, &mut file, 0)),
     }
@@ -193,7 +305,7 @@ fn damaged(random: &mut Random, mut file: Vec<u8>) -> Vec<u8> {
 /// The file with equal actions: up to three copies, each before an action or in the place of one. At times the last copy
 /// has a bit changed, or something else is wrong too.
 fn repeated(random: &mut Random, problem: &Problem) -> Vec<u8> {
-    let mut actions = problem.actions.clone();
+    let mut actions = problem.actions();
     for left in (0..random.from(1, 3)).rev() {
         if actions.is_empty() {
             break;
@@ -208,7 +320,26 @@ fn repeated(random: &mut Random, problem: &Problem) -> Vec<u8> {
             actions[at] = copy;
         }
     }
-    let file = Problem { props: problem.props, actions, starts: problem.starts.clone() }.file();
+    let file = Problem::of_actions(problem.props, &actions, problem.starts.clone()).file();
+    if random.one_in(4) {
+        damaged(random, file)
+    } else {
+        file
+    }
+}
+
+/// The file with up to three effects of no action. At times something else is wrong too.
+fn misowned(random: &mut Random, problem: &Problem) -> Vec<u8> {
+    let (mut problem, actions) = (problem.clone(), problem.pre.len());
+    for _ in 0..random.from(1, 3) {
+        let owner = random.pick(&[actions, actions, actions + 1, 128, 255]);
+        if problem.effects.is_empty() {
+            problem.effects.push(Effect { owner, when: 0, add: 1, del: 1 });
+        }
+        let at = random.below(problem.effects.len());
+        problem.effects[at].owner = owner;
+    }
+    let file = problem.file();
     if random.one_in(4) {
         damaged(random, file)
     } else {
@@ -218,7 +349,7 @@ fn repeated(random: &mut Random, problem: &Problem) -> Vec<u8> {
 
 // ---- the two versions side by side
 
-const REFUSED: [&str; 15] = [
+const REFUSED: [&str; 16] = [
     "refused 1",
     "refused 2",
     "refused 3",
@@ -234,6 +365,7 @@ const REFUSED: [&str; 15] = [
     "refused 13",
     "refused 14",
     "refused 15",
+    "refused 16",
 ];
 
 /// What an answer is counted as.
@@ -317,6 +449,8 @@ impl Kind for Text {
     fn kind(&self) -> &'static str {
         if self.0.starts_with("refused 15 ") {
             "text of refusal 15"
+        } else if self.0.starts_with("refused 16 ") {
+            "text of refusal 16"
         } else if self.0.starts_with("refused") {
             "text of a refusal"
         } else if self.0.contains("rest ?") {
@@ -327,35 +461,59 @@ impl Kind for Text {
     }
 }
 
+/// What a file is counted as: version 2 if it says so and has the 8 bytes without which that is not looked at.
+fn version(file: &[u8]) -> usize {
+    if file.len() >= 8 && file.starts_with(b"SAG\x02\x00") {
+        2
+    } else {
+        1
+    }
+}
+
+/// How often each call was answered by each kind, and each number came with each place, by version.
 #[derive(Default)]
 struct Tally {
     calls: usize,
-    kinds: BTreeMap<(&'static str, &'static str), usize>,
-    places: BTreeMap<(usize, usize), usize>,
+    kinds: BTreeMap<(usize, &'static str, &'static str), usize>,
+    places: BTreeMap<(usize, usize, usize), usize>,
 }
 
 impl Tally {
     fn compare<T: Kind + Debug + PartialEq>(
         &mut self,
         call: &'static str,
+        file: &[u8],
         proved: Result<T, Refusal>,
         plain: Result<T, Refusal>,
         input: impl FnOnce() -> String,
     ) {
         assert!(proved == plain, "{call}: proved {proved:?}, plain {plain:?}; {}", input());
         self.calls += 1;
-        self.count(call, &proved);
+        self.count(call, file, &proved);
     }
 
-    fn count<T: Kind>(&mut self, call: &'static str, answer: &Result<T, Refusal>) {
+    fn count<T: Kind>(&mut self, call: &'static str, file: &[u8], answer: &Result<T, Refusal>) {
+        let version = version(file);
         let kind = match answer {
             Ok(answer) => answer.kind(),
             Err(why) => {
-                *self.places.entry((why.number(), why.place())).or_default() += 1;
+                *self.places.entry((version, why.number(), why.place())).or_default() += 1;
                 REFUSED[why.number() - 1]
             }
         };
-        *self.kinds.entry((call, kind)).or_default() += 1;
+        *self.kinds.entry((version, call, kind)).or_default() += 1;
+    }
+
+    /// How often a call of a version was answered by this.
+    fn answers(&self, version: usize, call: &str, kind: &str) -> usize {
+        let matching = self.kinds.iter().filter(|((v, c, k), _)| (*v, *c, *k) == (version, call, kind));
+        matching.map(|(_, n)| n).sum()
+    }
+
+    /// How often this number came with such a place.
+    fn refusals(&self, version: usize, number: usize, place: impl Fn(usize) -> bool) -> usize {
+        let matching = self.places.iter().filter(|((v, n, p), _)| (*v, *n) == (version, number) && place(*p));
+        matching.map(|(_, n)| n).sum()
     }
 
     /// Compares memory that was lent to a call, of which an accepted one wrote so many elements.
@@ -378,20 +536,20 @@ impl Tally {
         let input = || format!("depth {depth}, {} words, file {file:02x?}", before.len());
         let (mut proved, mut plain) = (before.clone(), before.clone());
         let answer = mogzift::build(file, depth, &mut proved);
-        self.compare("build", answer, reference::build(file, depth, &mut plain), input);
+        self.compare("build", file, answer, reference::build(file, depth, &mut plain), input);
         self.memory("build", &before, &proved, &plain, answer.unwrap_or(0), input);
         proved
     }
 
     fn rest(&mut self, file: &[u8], depth: usize, words: &[u64]) {
         let input = || format!("depth {depth}, file {file:02x?}, words {words:x?}");
-        self.compare("rest", mogzift::rest(file, depth, words), reference::rest(file, depth, words), input);
+        self.compare("rest", file, mogzift::rest(file, depth, words), reference::rest(file, depth, words), input);
     }
 
     fn level(&mut self, file: &[u8], depth: usize, set: u64, goal: u32, words: &[u64]) {
         let input = || format!("depth {depth}, set {set:x}, goal {goal:x}, file {file:02x?}, words {words:x?}");
         let proved = mogzift::level(file, depth, set, goal, words);
-        self.compare("level", proved, reference::level(file, depth, set, goal, words), input);
+        self.compare("level", file, proved, reference::level(file, depth, set, goal, words), input);
     }
 
     fn page(&mut self, file: &[u8], depth: usize, set: u64, goals: &[u32], words: &[u64], before: Vec<u16>) {
@@ -402,13 +560,13 @@ impl Tally {
         let (mut proved, mut plain) = (before.clone(), before.clone());
         let answer = mogzift::page(file, depth, set, goals, words, &mut proved);
         let other = reference::page(file, depth, set, goals, words, &mut plain);
-        self.compare("page", answer.map(Entries), other.map(Entries), input);
+        self.compare("page", file, answer.map(Entries), other.map(Entries), input);
         self.memory("page", &before, &proved, &plain, answer.unwrap_or(0), input);
         if answer.is_ok() {
             for (&goal, &code) in goals.iter().zip(&proved) {
                 let (entry, single) = (mogzift::entry(code), mogzift::level(file, depth, set, goal, words));
                 assert!(entry == single, "goal {goal:x} in a page {entry:?}, by itself {single:?}; {}", input());
-                self.count("entry", &entry);
+                self.count("entry", file, &entry);
             }
         }
     }
@@ -416,7 +574,7 @@ impl Tally {
     fn depth(&mut self, file: &[u8], room: usize) {
         let input = || format!("room {room}, file {file:02x?}");
         let proved = mogzift::fitting_depth(file, room).map(Fits);
-        self.compare("depth", proved, reference::fitting_depth(file, room).map(Fits), input);
+        self.compare("depth", file, proved, reference::fitting_depth(file, room).map(Fits), input);
     }
 
     fn text(&mut self, file: &[u8], before: Vec<u8>) {
@@ -424,7 +582,7 @@ impl Tally {
         let (mut proved, mut plain) = (before.clone(), before.clone());
         let answer = mogzift::levels_text(file, &mut proved);
         let other = reference::levels_text(file, &mut plain);
-        self.compare("text", Text::of(answer, &proved), Text::of(other, &plain), input);
+        self.compare("text", file, Text::of(answer, &proved), Text::of(other, &plain), input);
         self.memory("text", &before, &proved, &plain, answer.unwrap_or(0), input);
     }
 
@@ -432,7 +590,7 @@ impl Tally {
         let input = || format!("depth {depth}, set {set:x}, {} out, file {file:02x?}, words {words:x?}", before.len());
         let (mut proved, mut plain) = (before.clone(), before.clone());
         let answer = mogzift::extract(file, depth, set, words, &mut proved);
-        self.compare("extract", answer, reference::extract(file, depth, set, words, &mut plain), input);
+        self.compare("extract", file, answer, reference::extract(file, depth, set, words, &mut plain), input);
         self.memory("extract", &before, &proved, &plain, answer.unwrap_or(0), input);
     }
 
@@ -440,7 +598,7 @@ impl Tally {
         let input = || format!("set {set:x}, list {list:?}, {} out, file {file:02x?}", before.len());
         let (mut proved, mut plain) = (before.clone(), before.clone());
         let answer = mogzift::run(file, set, list, &mut proved);
-        self.compare("run", answer, reference::run(file, set, list, &mut plain), input);
+        self.compare("run", file, answer, reference::run(file, set, list, &mut plain), input);
         self.memory("run", &before, &proved, &plain, answer.unwrap_or(0), input);
     }
 
@@ -451,7 +609,7 @@ impl Tally {
         };
         let (mut proved, mut plain) = (before.clone(), before.clone());
         let answer = mogzift::plan(file, depth, set, goal, words, &mut proved);
-        self.compare("plan", answer, reference::plan(file, depth, set, goal, words, &mut plain), input);
+        self.compare("plan", file, answer, reference::plan(file, depth, set, goal, words, &mut plain), input);
         self.memory("plan", &before, &proved, &plain, answer.map_or(0, |plan| plan.level), input);
     }
 }
@@ -558,14 +716,13 @@ fn list(random: &mut Random, problem: &Problem, set: u64) -> Vec<u8> {
     let mut list = Vec::new();
     let most = random.pick(&[0, 1, 2, 5, 20, 100]);
     while list.len() < most {
-        let ready = |[pre, _, _]: [u32; 3]| states.iter().all(|x| pre & !x == 0);
-        let able: Vec<usize> = (0..problem.actions.len()).filter(|&a| ready(problem.actions[a])).collect();
+        let ready = |pre: u32| states.iter().all(|x| pre & !x == 0);
+        let able: Vec<usize> = (0..problem.pre.len()).filter(|&a| ready(problem.pre[a])).collect();
         if able.is_empty() {
             break;
         }
         let a = random.pick(&able);
-        let [_, add, del] = problem.actions[a];
-        states.iter_mut().for_each(|x| *x = (*x | add) & !del);
+        states.iter_mut().for_each(|x| *x = problem.after(a, *x));
         list.push(a as u8);
     }
     match random.below(12) {
@@ -573,11 +730,11 @@ fn list(random: &mut Random, problem: &Problem, set: u64) -> Vec<u8> {
             let at = random.below(list.len() + 1);
             list.insert(at, random.word() as u8);
         }
-        1..=4 if !problem.actions.is_empty() => {
+        1..=4 if !problem.pre.is_empty() => {
             let at = random.below(list.len() + 1);
-            list.insert(at, random.below(problem.actions.len()) as u8);
+            list.insert(at, random.below(problem.pre.len()) as u8);
         }
-        5 => list.extend((0..random.below(30)).map(|_| random.below(problem.actions.len() + 1) as u8)),
+        5 => list.extend((0..random.below(30)).map(|_| random.below(problem.pre.len() + 1) as u8)),
         _ => {}
     }
     if random.one_in(100) {
@@ -635,12 +792,17 @@ fn any_call(tally: &mut Tally, random: &mut Random, problem: &Problem, file: &[u
 }
 
 fn problem_calls(tally: &mut Tally, random: &mut Random) {
-    let problem = if random.one_in(2) { scattered(random) } else { chained(random) };
+    let kinds = [scattered, chained, scattered_effects, chained_effects];
+    let problem = random.pick(&kinds)(random);
     let file = problem.file();
     let depth = depth(random, &problem);
     let room = problem.words(depth) + random.below(4);
     let before = random.words(room);
-    let built = tally.build(&file, depth, before);
+    let built = tally.build(&file, depth, before.clone());
+    if problem.version == 1 && random.one_in(8) {
+        let as_effects = Problem { version: 2, ..problem.clone() };
+        assert!(tally.build(&as_effects.file(), depth, before) == built, "not the same as effects: {file:02x?}");
+    }
     // fewer calls where there are many words to copy for each
     let calls = if built.len() < 20_000 { 30 } else { 6 };
     for _ in 0..calls {
@@ -651,7 +813,7 @@ fn problem_calls(tally: &mut Tally, random: &mut Random) {
         any_call(tally, random, &problem, &file, depth, &built);
     }
     for _ in 0..1 + calls / 15 {
-        let file = repeated(random, &problem);
+        let file = if problem.version == 1 { repeated(random, &problem) } else { misowned(random, &problem) };
         any_call(tally, random, &problem, &file, depth, &built);
     }
 }
@@ -662,64 +824,75 @@ fn widest(tally: &mut Tally, random: &mut Random) {
         let draw = |random: &mut Random, _| std::array::from_fn(|_| random.bits(32, dense) as u32);
         let actions = different(random, 32, 32, draw);
         let starts = (0..64).map(|_| random.bits(32, dense) as u32).collect();
-        let problem = Problem { props: 32, actions, starts };
-        let (file, depth) = (problem.file(), 255);
-        let before = random.words(problem.words(depth));
-        let built = tally.build(&file, depth, before);
-        for _ in 0..10 {
-            any_call(tally, random, &problem, &file, depth, &built);
+        let mut problem = Problem::of_actions(32, &actions, starts);
+        deepest_calls(tally, random, &problem);
+        problem.version = 2;
+        for effect in &mut problem.effects {
+            (effect.owner, effect.when) = (random.below(32), random.bits(32, dense) as u32);
         }
+        deepest_calls(tally, random, &problem);
     }
 }
 
-fn main() {
-    let began = Instant::now();
-    let mut random = Random(SEED);
-    let mut tally = Tally::default();
-    for _ in 0..PROBLEMS {
-        problem_calls(&mut tally, &mut random);
+fn deepest_calls(tally: &mut Tally, random: &mut Random, problem: &Problem) {
+    let (file, depth) = (problem.file(), 255);
+    let before = random.words(problem.words(depth));
+    let built = tally.build(&file, depth, before);
+    for _ in 0..10 {
+        any_call(tally, random, problem, &file, depth, &built);
     }
-    widest(&mut tally, &mut random);
+}
 
-    println!("seed {SEED}: {} calls in {:.1} s, all alike", tally.calls, began.elapsed().as_secs_f64());
-    let count = |call: Option<&str>, kind: &str| -> usize {
-        tally
-            .kinds
-            .iter()
-            .filter(|((c, k), _)| call.map_or(true, |call| call == *c) && *k == kind)
-            .map(|(_, n)| n)
-            .sum()
-    };
-    // an entry is no call: these are the goals of the pages that were accepted
-    let calls = ["build", "rest", "level", "page", "entry", "extract", "run", "plan", "depth", "text"];
-    println!("{:<24} {}", "", calls.map(|call| format!("{call:>8}")).concat());
+// ---- what came up
+
+/// An entry is no call: these are the goals of the pages that were accepted.
+const CALLS: [&str; 10] = ["build", "rest", "level", "page", "entry", "extract", "run", "plan", "depth", "text"];
+
+fn print_kinds(tally: &Tally, version: usize) {
+    println!("{:<24} {}", format!("version {version}"), CALLS.map(|call| format!("{call:>8}")).concat());
     let mut kinds: Vec<&str> =
-        tally.kinds.keys().map(|(_, kind)| *kind).filter(|kind| !REFUSED.contains(kind)).collect();
+        tally.kinds.keys().map(|(_, _, kind)| *kind).filter(|kind| !REFUSED.contains(kind)).collect();
     kinds.sort();
     kinds.dedup();
     for kind in kinds.into_iter().chain(REFUSED) {
-        println!("{kind:<24} {}", calls.map(|call| format!("{:>8}", count(Some(call), kind))).concat());
+        println!("{kind:<24} {}", CALLS.map(|call| format!("{:>8}", tally.answers(version, call, kind))).concat());
     }
-    let places = |number: usize, test: &dyn Fn(usize) -> bool| -> usize {
-        tally.places.iter().filter(|((n, place), _)| *n == number && test(*place)).map(|(_, n)| n).sum()
-    };
-    let special = [
-        ("3 at offset 5", places(3, &|place| place == 5)),
-        ("3 at offset 6", places(3, &|place| place == 6)),
-        ("3 at offset 7", places(3, &|place| place == 7)),
-        ("11, too long", places(11, &|place| place == 65_535)),
-        ("11, a number", places(11, &|place| place != 65_535)),
-        ("12, not the first step", places(12, &|place| place > 0)),
-        ("14 at layer 0", places(14, &|place| place == 0)),
-        ("14 above layer 0", places(14, &|place| place > 0)),
-        ("15, the second action", places(15, &|place| place == 20)),
-        ("15, a later one", places(15, &|place| place > 20)),
-    ];
-    for (what, count) in special {
-        println!("{what:<24} {count:>8}");
-    }
+}
 
-    assert!(tally.calls >= 100_000, "too few calls");
+/// How often some refusals came with the places that they can have.
+fn print_places(tally: &Tally) {
+    let mut places = Vec::new();
+    for version in [1, 2] {
+        let mut place = |what: &'static str, number: usize, test: fn(usize) -> bool| {
+            places.push((version, what, tally.refusals(version, number, test)));
+        };
+        place("3 at offset 5", 3, |place| place == 5);
+        place("3 at offset 6", 3, |place| place == 6);
+        place("3 at offset 7", 3, |place| place == 7);
+        place("11, too long", 11, |place| place == 65_535);
+        place("11, a number", 11, |place| place != 65_535);
+        place("12, not the first step", 12, |place| place > 0);
+        place("14 at layer 0", 14, |place| place == 0);
+        place("14 above layer 0", 14, |place| place > 0);
+        if version == 1 {
+            place("15, the second action", 15, |place| place == 20);
+            place("15, a later one", 15, |place| place > 20);
+        } else {
+            place("1, of 8 bytes", 1, |_| true);
+            place("3 at offset 8", 3, |place| place == 8);
+            place("5, the first set", 5, |place| place == 9);
+            place("5, a later one", 5, |place| place > 9);
+            place("16, without an action", 16, |place| place == 9);
+            place("16, elsewhere", 16, |place| place > 9);
+        }
+    }
+    for (version, what, count) in places {
+        println!("version {version}: {what:<24} {count:>8}");
+        assert!(count > 0, "nothing of version {version} was refused by {what}");
+    }
+}
+
+fn check_kinds(tally: &Tally, version: usize) {
     for (call, kind) in [
         ("build", "written"),
         ("rest", "layer"),
@@ -746,18 +919,35 @@ fn main() {
         ("text", "text, a rest"),
         ("text", "text, no rest"),
         ("text", "text of a refusal"),
-        ("text", "text of refusal 15"),
+        ("text", if version == 1 { "text of refusal 15" } else { "text of refusal 16" }),
         ("text", REFUSED[9]),
     ] {
-        assert!(count(Some(call), kind) > 0, "no {call} was answered by: {kind}");
+        assert!(tally.answers(version, call, kind) > 0, "version {version}: no {call} was answered by: {kind}");
     }
-    for kind in REFUSED {
-        assert!(count(None, kind) > 0, "no call was {kind}");
+    // a file of another version than these is counted as version 1
+    let others: &[usize] = if version == 1 { &[16] } else { &[2, 15] };
+    for number in 1..=16 {
+        let count = tally.refusals(version, number, |_| true);
+        assert_eq!(count > 0, !others.contains(&number), "version {version}: {count} refused with {number}");
     }
+    let own = if version == 1 { 15 } else { 16 };
     for call in ["build", "rest", "level", "page", "extract", "run", "plan", "depth"] {
-        assert!(count(Some(call), REFUSED[14]) > 0, "no {call} was refused for equal actions");
+        assert!(tally.answers(version, call, REFUSED[own - 1]) > 0, "no {call} was refused with {own}");
     }
-    for (what, count) in special {
-        assert!(count > 0, "nothing was refused by {what}");
+}
+
+fn main() {
+    let began = Instant::now();
+    let mut random = Random(SEED);
+    let mut tally = Tally::default();
+    for _ in 0..PROBLEMS {
+        problem_calls(&mut tally, &mut random);
     }
+    widest(&mut tally, &mut random);
+
+    println!("seed {SEED}: {} calls in {:.1} s, all alike", tally.calls, began.elapsed().as_secs_f64());
+    [1, 2].into_iter().for_each(|version| print_kinds(&tally, version));
+    print_places(&tally);
+    assert!(tally.calls >= 100_000, "too few calls");
+    [1, 2].into_iter().for_each(|version| check_kinds(&tally, version));
 }

@@ -1,6 +1,6 @@
 //! The C header beside the Rust library: the refusals' numbers and texts, the other numbers, and the C test.
 
-use mogzift::{Level, Plan, Problem, Refusal};
+use mogzift::{ConditionalProblem, Level, Plan, Problem, Refusal};
 use std::path::Path;
 use std::process::Command;
 use std::thread;
@@ -8,7 +8,7 @@ use std::thread;
 const HEADER: &str = include_str!("../../include/mogzift.h");
 
 /// The refusals by the header's names, in the order of their numbers, each with a place that it can have.
-const REFUSALS: [(&str, Refusal); 15] = [
+const REFUSALS: [(&str, Refusal); 16] = [
     ("MOGZIFT_BAD_HEAD", Refusal::Head),
     ("MOGZIFT_BAD_VERSION", Refusal::Version),
     ("MOGZIFT_BAD_COUNT", Refusal::Count(5)),
@@ -24,6 +24,7 @@ const REFUSALS: [(&str, Refusal); 15] = [
     ("MOGZIFT_NO_LEVEL", Refusal::NoLevel(2)),
     ("MOGZIFT_UNCOVERED", Refusal::Uncovered(1)),
     ("MOGZIFT_EQUAL_ACTION", Refusal::EqualAction(20)),
+    ("MOGZIFT_EFFECT_ACTION", Refusal::EffectAction(17)),
 ];
 
 /// What stands in the header between these two, once.
@@ -51,7 +52,7 @@ fn refusals_have_the_headers_numbers_and_texts() {
     }
     assert_eq!(
         HEADER.matches("        return \"").count(),
-        17,
+        REFUSALS.len() + 2,
         "a text for 0, one for each number, one for all others"
     );
 }
@@ -80,14 +81,18 @@ fn a_thread_of_the_headers_stack_makes_the_deepest_calls() {
     for p in 0..32 {
         problem = problem.action(1 << p, 1 << ((p + 1) % 32), 1 << p).unwrap();
     }
-    let file = problem.state(1).unwrap().bytes().unwrap();
+    let problem = problem.state(1).unwrap();
+    let files = [problem.bytes().unwrap(), ConditionalProblem::from(problem).bytes().unwrap()];
     let (mut words, mut out) = (vec![0; mogzift::word_count(32, 32, 40)], vec![0; 40]);
     let mut text = vec![0; mogzift::TEXT_ROOM];
     let calls = move || {
-        mogzift::build(&file, 40, &mut words).unwrap();
-        let plan = mogzift::plan(&file, 40, 1, 1 << 31, &words, &mut out).unwrap();
-        assert_eq!(plan, Plan { level: 31, count: 31 });
-        mogzift::levels_text(&file, &mut text).unwrap();
+        for file in files {
+            mogzift::build(&file, 40, &mut words).unwrap();
+            let plan = mogzift::plan(&file, 40, 1, 1 << 31, &words, &mut out).unwrap();
+            assert_eq!(plan, Plan { level: 31, count: 31 });
+            mogzift::run(&file, 1, &[0, 1, 2], &mut out).unwrap();
+            mogzift::levels_text(&file, &mut text).unwrap();
+        }
     };
     thread::Builder::new().stack_size(mogzift::STACK).spawn(calls).unwrap().join().unwrap();
 }

@@ -27,6 +27,9 @@ const STEPS: usize = 1000;
 /// The goals of a page.
 const GOALS: usize = 500;
 
+/// The effects of a problem of version 2.
+const EFFECTS: usize = 32;
+
 // ---- problems
 
 /// SplitMix64.
@@ -93,6 +96,42 @@ fn dense(random: &mut Random, props: usize, actions: usize, states: usize) -> Ve
     file(props, &actions, &starts)
 }
 
+/// An effect for each of these sizes, of an action drawn for it: some actions own several, some none.
+fn owned(random: &mut Random, actions: usize, sizes: &[[usize; 3]], props: usize) -> Vec<(usize, [u32; 3])> {
+    sizes.iter().map(|sizes| (random.below(actions), sizes.map(|size| random.set(props, size)))).collect()
+}
+
+/// A file of version 2: of each action its precondition, of each effect its action, antecedent, add and delete.
+fn effects_file(props: usize, pre: &[u32], effects: &[(usize, [u32; 3])], starts: &[u32]) -> Vec<u8> {
+    let mut file = vec![b'S', b'A', b'G', 2, 0, props as u8, pre.len() as u8, starts.len() as u8, effects.len() as u8];
+    file.extend(pre.iter().flat_map(|set| set.to_le_bytes()));
+    for (action, sets) in effects {
+        file.push(*action as u8);
+        file.extend(sets.iter().flat_map(|set| set.to_le_bytes()));
+    }
+    file.extend(starts.iter().flat_map(|set| set.to_le_bytes()));
+    file
+}
+
+/// Sparse, with effects: an action needs one proposition, and an effect up to one more; it adds and deletes what a sparse
+/// action does.
+fn sparse_effects(random: &mut Random, props: usize, actions: usize, states: usize) -> Vec<u8> {
+    let sizes: Vec<[usize; 3]> = (0..EFFECTS).map(|_| [0, 1, 1].map(|least| least + random.below(2))).collect();
+    let effects = owned(random, actions, &sizes, props);
+    let pre: Vec<_> = (0..actions).map(|_| random.set(props, 1)).collect();
+    let starts: Vec<_> = (0..states).map(|_| random.set(props, 2 + props / 8)).collect();
+    effects_file(props, &pre, &effects, &starts)
+}
+
+/// Dense, with effects: an action needs up to an eighth of the propositions, and an effect up to an eighth more; it adds
+/// and deletes what a dense action does.
+fn dense_effects(random: &mut Random, props: usize, actions: usize, states: usize) -> Vec<u8> {
+    let effects = owned(random, actions, &[[props / 8, props / 2, props / 4]; EFFECTS], props);
+    let pre: Vec<_> = (0..actions).map(|_| random.set(props, props / 8)).collect();
+    let starts: Vec<_> = (0..states).map(|_| random.set(props, 3 * props / 4)).collect();
+    effects_file(props, &pre, &effects, &starts)
+}
+
 /// Chain: action i goes from proposition i to the next, round a ring, and a state begins within the first quarter. The
 /// graph grows by little at each layer, and comes to rest late.
 fn chain(random: &mut Random, props: usize, states: usize) -> Vec<u8> {
@@ -110,7 +149,8 @@ struct Case {
 
 impl Case {
     fn new(name: &'static str, file: Vec<u8>, depth: usize) -> Case {
-        let mut words = vec![0; word_count(file[5] as usize, file[6] as usize, depth)];
+        let effects = if has_effects(&file) { file[8] } else { file[6] };
+        let mut words = vec![0; word_count(file[5] as usize, effects as usize, depth)];
         reference::build(&file, depth, &mut words).unwrap();
         Case { name, file, depth, words }
     }
@@ -121,7 +161,7 @@ impl Case {
 
     /// The start states by themselves, as files of one state.
     fn alone(&self) -> Vec<Vec<u8>> {
-        let (head, starts) = self.file.split_at(8 + 12 * self.file[6] as usize);
+        let (head, starts) = self.file.split_at(self.file.len() - 4 * self.file[7] as usize);
         let one = |start: &[u8]| [&head[..7], &[1], &head[8..], start].concat();
         starts.chunks(4).map(one).collect()
     }
@@ -183,16 +223,33 @@ impl Case {
         set
     }
 
-    /// The problem with an action that brings every proposition, the last one, so that long lists work. It equals no
-    /// other: all others need something.
+    /// The problem with an action that brings every proposition, the last one, so that long lists work. In version 1 it
+    /// equals no other: all others need something.
     fn refilled(&self) -> Vec<u8> {
         let mut file = self.file.clone();
-        let last = 8 + 12 * (file[6] as usize - 1);
-        file[last..last + 12].fill(0);
-        let every = u32::MAX >> (32 - file[5]);
-        file[last + 4..last + 8].copy_from_slice(&every.to_le_bytes());
+        let last = file[6] as usize - 1;
+        let every = (u32::MAX >> (32 - file[5])).to_le_bytes();
+        let refill = [[0; 4], every, [0; 4]].concat();
+        if !has_effects(&file) {
+            file[8 + 12 * last..][..12].copy_from_slice(&refill);
+            return file;
+        }
+        // the last effect becomes its only one
+        file[9 + 4 * last..][..4].fill(0);
+        let effects = 9 + 4 * (last + 1);
+        for effect in file[effects..].chunks_exact_mut(13).take(EFFECTS) {
+            effect[0] %= last as u8;
+        }
+        let effect = &mut file[effects + 13 * (EFFECTS - 1)..][..13];
+        effect[0] = last as u8;
+        effect[1..].copy_from_slice(&refill);
         file
     }
+}
+
+/// Whether a file is of version 2.
+fn has_effects(file: &[u8]) -> bool {
+    file[3] == 2
 }
 
 /// A list of so many steps that works for the states, where there is one.
@@ -255,7 +312,7 @@ impl Race {
     fn print(&self, call: &str, case: &Case, what: String) {
         let Race { first, second, ratio, rounds } = self;
         let name = format!("{call:<8} {}, depth {} ({what})", case.name, case.depth);
-        println!("{name:<80} {first:>13.0} {second:>13.0} {ratio:>9.2} {rounds:>7}");
+        println!("{name:<84} {first:>13.0} {second:>13.0} {ratio:>9.2} {rounds:>7}");
     }
 }
 
@@ -420,7 +477,7 @@ fn goal_by_goal(version: &str, level: SingleLevel, page: Page, case: &Case, set:
 }
 
 fn heading(what: &str, first: &str, second: &str) {
-    println!("{what:<80} {first:>13} {second:>13} {:>9} {:>7}", "ratio", "rounds");
+    println!("{what:<84} {first:>13} {second:>13} {:>9} {:>7}", "ratio", "rounds");
 }
 
 fn main() {
@@ -434,6 +491,14 @@ fn main() {
         Case::new("wide dense", dense(&mut random, 32, 32, 64), 64),
         Case::new("wide chain", chain(&mut random, 32, 64), 64),
     ];
+    // numbers of their own, so that what is drawn for the others does not depend on them
+    let mut other = Random(seed.rotate_left(32));
+    cases.extend([
+        Case::new("medium sparse effects", sparse_effects(&mut other, 16, 16, 16), 32),
+        Case::new("medium dense effects", dense_effects(&mut other, 16, 16, 16), 32),
+        Case::new("wide sparse effects", sparse_effects(&mut other, 32, 32, 64), 64),
+        Case::new("wide dense effects", dense_effects(&mut other, 32, 32, 64), 64),
+    ]);
     if let Some(name) = std::env::args().nth(1) {
         cases.retain(|case| case.name.contains(&name));
     }
@@ -441,7 +506,7 @@ fn main() {
         "ns a call, medians of rounds that alternate the two; the ratio is the median of neighbouring rounds' ratios;"
     );
     println!("memory that is written is not cleared between calls; seed {seed}");
-    println!("small: P=3 A=2 N=2; medium: P=16 A=16 N=16; wide: P=32 A=32 N=64");
+    println!("small: P=3 A=2 N=2; medium: P=16 A=16 N=16; wide: P=32 A=32 N=64; effects: version 2, E={EFFECTS}");
     heading("call", "proved ns", "plain Rust ns");
     for case in &cases {
         builds(case);

@@ -1,10 +1,10 @@
 //! Measures the stack that each call needs, twice.
 //!
 //! First by paint: the call is made on a stack of its own, filled with a pattern, and the deepest byte is looked for that
-//! is the pattern no more. The figure is the largest over problems of the size, and has the frames of this program and of
-//! the Rust wrapper in it, a few hundred bytes. Then by threads: the smallest stack, in steps of a page, of a thread that
-//! makes the call on the largest problems, each in a process of its own, since a stack that is too small ends it. What a
-//! thread needs for itself is in that figure; no thread has less than 16 KiB.
+//! is the pattern no more. The figure is the largest over problems of the size, of both versions, and has the frames of
+//! this program and of the Rust wrapper in it, a few hundred bytes. Then by threads: the smallest stack, in steps of a
+//! page, of a thread that makes the call on the largest problems, each in a process of its own, since a stack that is too
+//! small ends it. What a thread needs for itself is in that figure; no thread has less than 16 KiB.
 //!
 //! It fails where `STACK`, which the header says, is not half as much again as the largest of these at least.
 
@@ -14,7 +14,7 @@ use std::{arch, env, hint, thread};
 
 const CALLS: [&str; 9] = ["build", "rest", "level", "page", "extract", "run", "plan", "fitting_depth", "levels_text"];
 
-/// P, A and N of the problems, and the depth of their graphs.
+/// P, A and N of the problems, which have as many effects as actions, and the depth of their graphs.
 const SIZES: [(usize, usize, usize); 4] = [(3, 2, 2), (8, 8, 8), (16, 16, 16), (32, 32, 64)];
 const DEPTH: usize = 12;
 
@@ -36,6 +36,22 @@ impl Random {
     }
 }
 
+fn bytes_of(sets: &[u32]) -> Vec<u8> {
+    sets.iter().flat_map(|set| set.to_le_bytes()).collect()
+}
+
+/// What stands between N and the start states in version 2: an effect for each of these actions, of one drawn for it. What
+/// the action needed is its antecedent, and no action needs anything.
+fn as_effects(actions: &[[u32; 3]], random: &mut Random) -> Vec<u8> {
+    let mut bytes = vec![actions.len() as u8];
+    bytes.extend(vec![0; 4 * actions.len()]);
+    for sets in actions {
+        bytes.push((random.word() % actions.len() as u64) as u8);
+        bytes.extend(bytes_of(sets));
+    }
+    bytes
+}
+
 /// A problem file, its graph, and what else is lent to a call.
 struct Case {
     file: Vec<u8>,
@@ -47,8 +63,8 @@ struct Case {
 }
 
 impl Case {
-    /// A problem of this size whose sets have so many members at most.
-    fn new((props, actions, states): (usize, usize, usize), members: usize) -> Case {
+    /// A problem of this size and version whose sets have so many members at most.
+    fn new((props, actions, states): (usize, usize, usize), members: usize, version: u8) -> Case {
         let mut random = Random(members as u64);
         let mut set = || (0..members).fold(0u32, |set, _| set | 1 << (random.word() % props as u64));
         let mut drawn = Vec::new();
@@ -60,16 +76,18 @@ impl Case {
             }
         }
         let starts: Vec<u32> = (0..states).map(|_| set()).collect();
-        let mut file = vec![b'S', b'A', b'G', 1, 0, props as u8, actions as u8, states as u8];
-        file.extend(drawn.iter().flatten().chain(&starts).flat_map(|set| set.to_le_bytes()));
+        let mut file = vec![b'S', b'A', b'G', version, 0, props as u8, actions as u8, states as u8];
+        file.extend(if version == 1 { bytes_of(&drawn.concat()) } else { as_effects(&drawn, &mut random) });
+        file.extend(bytes_of(&starts));
         let mut words = vec![0; word_count(props, actions, DEPTH)];
         mogzift::build(&file, DEPTH, &mut words).expect("a file that is in order");
         let out = words.clone();
         Case { file, words, out, sets: vec![0; 64], levels: vec![0; 3], text: vec![0; TEXT_ROOM] }
     }
 
-    fn all((props, actions, states): (usize, usize, usize)) -> Vec<Case> {
-        [1, 2, 5].into_iter().map(|members| Case::new((props, actions, states), members)).collect()
+    fn all(size: (usize, usize, usize)) -> Vec<Case> {
+        let both = |members| [1, 2].map(|version| Case::new(size, members, version));
+        [1, 2, 5].into_iter().flat_map(both).collect()
     }
 
     /// Makes the call for each single goal and for several sets of states, accepted or turned away.
