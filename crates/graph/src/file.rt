@@ -9,6 +9,7 @@ use crate::format::LONG_HEAD;
 use crate::format::PLAIN_VERSION;
 use crate::format::PROPS_OFFSET;
 use crate::format::SET_BYTES;
+use crate::format::SETS_EACH;
 use crate::format::STATES_OFFSET;
 use crate::limits::MAX_ACTIONS;
 use crate::limits::MAX_EFFECTS;
@@ -200,7 +201,7 @@ fn joined_effects(file: &[u8], c: Counts) -> u32
 {
     let mut joined = 0u32;
     for e in 0..c.effects {
-        joined = joined | joined_sets(file, c.when_at(e), 3);
+        joined = joined | joined_sets(file, c.when_at(e), SETS_EACH);
     }
     joined
 }
@@ -211,7 +212,7 @@ fn joined_all(file: &[u8], c: Counts) -> u32
     ensures { λ r. ⌜ (r < 2 ^ c .props → accepted tt ≡ R.setsRule (now (file .entry)) c) ⌝ }
 {
     if c.version == PLAIN_VERSION {
-        return joined_sets(file, HEAD_BYTES, 3 * c.actions + c.states);
+        return joined_sets(file, HEAD_BYTES, SETS_EACH * c.actions + c.states);
     }
     joined_sets(file, LONG_HEAD, c.actions)
         | joined_effects(file, c)
@@ -238,7 +239,7 @@ fn find_effect_set(file: &[u8], c: Counts) -> Check
     ensures { λ r. ⌜ checkVerdict r ≡ R.effectSets (now (file .entry)) c (c .effects) 0 ⌝ }
 {
     for e in 0..c.effects {
-        let sets = find_set(file, c.props, c.when_at(e), 3);
+        let sets = find_set(file, c.props, c.when_at(e), SETS_EACH);
         if let Check::Refused(why) = sets {
             return Check::Refused(why);
         }
@@ -252,7 +253,7 @@ fn find_action_set(file: &[u8], c: Counts) -> Check
     ensures { λ r. ⌜ checkVerdict r ≡ R.actionSets (now (file .entry)) c ⌝ }
 {
     if c.version == PLAIN_VERSION {
-        return find_set(file, c.props, HEAD_BYTES, 3 * c.actions);
+        return find_set(file, c.props, HEAD_BYTES, SETS_EACH * c.actions);
     }
     let pre = find_set(file, c.props, LONG_HEAD, c.actions);
     if let Check::Refused(why) = pre {

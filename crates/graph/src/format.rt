@@ -9,6 +9,9 @@ ghost use Rattle.graph.specs.Format as F;
 
 pub const SET_BYTES: usize = 4;
 
+// How many sets an action of version 1 has, and an effect of version 2.
+pub const SETS_EACH: usize = 3;
+
 pub const HEAD_BYTES: usize = 8;
 
 pub const LONG_HEAD: usize = 9;
