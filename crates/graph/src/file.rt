@@ -288,18 +288,58 @@ fn check_sets(file: &[u8], c: Counts) -> Check
     find_sets(file, c)
 }
 
-// Version 2: cause 16.
+// Version 2: the number that effect e has of its action.
+pub(crate) fn owner_at(file: &[u8], c: Counts, e: usize) -> usize
+    requires { ⌜ Ranged c × So (fails (F.plain c)) × (length (now file) ≡ F.rightLength c) × (e < c .effects) ⌝ }
+    ensures { λ r. ⌜ r ≡ F.actionsOf (now (file .entry)) c .owner e ⌝ }
+{
+    byte(file, c.effect_at(e))
+}
+
+// The first effect whose number is that of no action.
 fn find_stray(file: &[u8], c: Counts) -> Check
     requires { ⌜ Ranged c × So (fails (F.plain c)) × (length (now file) ≡ F.rightLength c) ⌝ }
     ensures { λ r. ⌜ checkVerdict r ≡ R.ownersRule (now (file .entry)) c ⌝ }
 {
     for e in 0..c.effects {
-        let at = c.effect_at(e);
-        if c.actions <= byte(file, at) {
-            return Check::Refused(Refusal::EffectAction(at));
+        if c.actions <= owner_at(file, c, e) {
+            return Check::Refused(Refusal::EffectAction(c.effect_at(e)));
         }
     }
     Check::Passed
+}
+
+// The larger of two numbers.
+fn most(a: usize, b: usize) -> usize
+    ensures { λ r. ⌜ (a ≤ r) × (b ≤ r) ⌝ }
+{
+    if a < b {
+        return b;
+    }
+    a
+}
+
+// The largest number of an action that an effect has: no way out of the loop, which is quicker than to look at each.
+fn last_owner(file: &[u8], c: Counts) -> usize
+    requires { ⌜ Ranged c × So (fails (F.plain c)) × (length (now file) ≡ F.rightLength c) ⌝ }
+    ensures { λ r. ⌜ (r < c .actions → accepted tt ≡ R.ownersRule (now (file .entry)) c) ⌝ }
+{
+    let mut last = 0;
+    for e in 0..c.effects {
+        last = most(last, owner_at(file, c, e));
+    }
+    last
+}
+
+// Version 2: cause 16; where the largest number is that of an action, all are.
+fn check_owners(file: &[u8], c: Counts) -> Check
+    requires { ⌜ Ranged c × So (fails (F.plain c)) × (length (now file) ≡ F.rightLength c) ⌝ }
+    ensures { λ r. ⌜ checkVerdict r ≡ R.ownersRule (now (file .entry)) c ⌝ }
+{
+    if last_owner(file, c) < c.actions {
+        return Check::Passed;
+    }
+    find_stray(file, c)
 }
 
 // Causes 16 and 15: in version 1 each effect has its action, and in version 2 equal actions are not looked for.
@@ -310,7 +350,7 @@ fn check_actions(file: &[u8], c: Counts) -> Check
     if c.version == PLAIN_VERSION {
         return check_equal(file, c);
     }
-    find_stray(file, c)
+    check_owners(file, c)
 }
 
 // Causes 1 to 5, 16 and 15, in order.

@@ -1,5 +1,5 @@
 // The actions, their effects and the start states, read from the file through the view.
-use crate::file::byte;
+use crate::file::owner_at;
 use crate::format::Counts;
 use crate::format::PLAIN_VERSION;
 use crate::view::set_of;
@@ -31,7 +31,7 @@ pub fn owner(file: &[u8], c: Counts, e: usize) -> usize
     if c.version == PLAIN_VERSION {
         return e;
     }
-    byte(file, c.effect_at(e))
+    owner_at(file, c, e)
 }
 
 // Its antecedent, what it adds and what it deletes.
