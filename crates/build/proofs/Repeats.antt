@@ -5,7 +5,7 @@ use mathlib.Core.Path.{_≡_, refl, sym, ap, ap₂, subst, _∙_}
 use mathlib.Core.Logic.{by-cases}
 use mathlib.Core.List.{List, _++_}
 use native.Mathlib.Decide.{decLe}
-use native.Mathlib.Nat.{le-refl, add-comm, suc-mul, zero-mul, mul-zero, one-mul, add-mul, mul-le-mul-right, add-sub-of-le}
+use native.Mathlib.Nat.{le-refl, zero-add, add-comm, add-assoc, suc-mul, zero-mul, mul-zero, one-mul, add-mul, mul-le-mul-right, add-sub-of-le}
 use native.Mathlib.Nat.{mod-lt, mod-eq-of-lt, mod-eq-sub-mod, mul-add-mod-self-right, div-add-mod', mul-assoc}
 use native.Mathlib.Omega.{arith}
 use lib.ListN.{length, getD, take}
@@ -21,29 +21,60 @@ use Rattle.rules.proofs.Layers.{run-append, list-append, length-listOver, getD-
 use Rattle.words.specs.Memory.{putAt}
 use Rattle.layers.specs.Step.{stepWords}
 use Rattle.build.specs.Steps.{Ended, Left}
-use Rattle.words.proofs.Writes.{Lists, list-front, same-word, put-none, put-length, put-put, put-word, put-front}
+use Rattle.words.proofs.Writes.{Lists, list-done, list-front, same-word, put-none, put-length, put-put, put-word, put-front}
 use Rattle.build.proofs.Builds.{step-length}
+
+-- so many words written, and more behind them
+put-on : (f : ℕ → ℕ) (to i m : ℕ) (w₀ w : List ℕ) → to + i ≤ length w₀ → w ≡ putAt to (listOver i f) w₀
+    → putAt (to + i) (listOver m (λ j. f (i + j))) w ≡ putAt to (listOver (i + m) f) w₀
+put-on f to i m w₀ w room e =
+    let more : List ℕ = listOver m (λ j. f (i + j)) in
+    ap₂ (λ (x : ℕ) (y : List ℕ). putAt (to + x) more y) (sym (length-listOver i f)) e
+    ∙ put-put to (listOver i f) w₀ (omega (arith, length-listOver i f)) more
+    ∙ ap (λ (x : List ℕ). putAt to x w₀) (sym (list-append i m f))
+
+-- the words that a loop wrote from the front on
+pub list-got : {f : ℕ → ℕ} {n i : ℕ} {w₀ w : List ℕ} → Lists f 0 n w₀ i w → n ≤ i → listOver n (λ k. getD w k 0) ≡ listOver n f
+list-got {f} {n} {i} {w₀} {w} s h = listOver-eq (λ k l.
+    ap₂ (λ (x : List ℕ) (y : ℕ). getD x y 0) (list-done s h) (sym (zero-add k))
+    ∙ put-word 0 (listOver n f) w₀ (omega (arith, length-listOver n f, s .room)) k (omega (arith, length-listOver n f)) ∙ getD-listOver f l)
 
 -- ---- a loop that writes the `far` words before `to` again and again
 
-module _ {w₀ : List ℕ} {to far n i : ℕ} {w : List ℕ} (s : Lists (λ k. getD w₀ (to - far + k % far) 0) to n w₀ i w) (some : 0 < far) (near : far ≤ to)
-    (h : i < n) where
-  before : i < far → getD w (to + i - far) 0 ≡ getD w₀ (to - far + i % far) 0
-  before l =
-      let place : to + i - far ≡ to - far + i % far = omega (arith, mod-eq-of-lt l) in
-      same-word to (to + i - far) w w₀ (list-front to s (le-refl to)) (omega arith) ∙ ap (λ (x : ℕ). getD w₀ x 0) place
+module _ {w₀ : List ℕ} {to far n i : ℕ} {w : List ℕ} (s : Lists (λ k. getD w₀ (to - far + k % far) 0) to n w₀ i w) where
+  module _ (near : far ≤ to) where
+    -- the word that is read stood before `to`, or the loop wrote it
+    before : (k : ℕ) → k < far → getD w (to + k - far) 0 ≡ getD w₀ (to - far + k % far) 0
+    before k l =
+        let place : to + k - far ≡ to - far + k % far = omega (arith, mod-eq-of-lt l) in
+        same-word to (to + k - far) w w₀ (list-front to s (le-refl to)) (omega arith) ∙ ap (λ (x : ℕ). getD w₀ x 0) place
 
-  behind : far ≤ i → getD w (to + i - far) 0 ≡ getD w₀ (to - far + i % far) 0
-  behind l =
+    behind : (k : ℕ) → k < i + far → far ≤ k → getD w (to + k - far) 0 ≡ getD w₀ (to - far + k % far) 0
+    behind k h l =
+        let f : ℕ → ℕ = λ k. getD w₀ (to - far + k % far) 0 in
+        let place : to + k - far ≡ to + (k - far) = omega arith in
+        ap₂ (λ (x : List ℕ) (y : ℕ). getD x y 0) (s .is) place
+        ∙ put-word to (listOver i f) w₀ (omega (arith, length-listOver i f, s .room, s .within)) (k - far) (omega (arith, length-listOver i f))
+        ∙ getD-listOver f (omega arith) ∙ ap (λ (x : ℕ). getD w₀ (to - far + x) 0) (sym (mod-eq-sub-mod l))
+
+    pub repeat-word : (k : ℕ) → k < i + far → getD w (to + k - far) 0 ≡ getD w₀ (to - far + k % far) 0
+    repeat-word k h = by-cases (decLe far k) (behind k h) (λ f. before k (omega arith))
+
+  -- so many at once
+  pub repeat-block : {w₂ : List ℕ} (m : ℕ) → m ≤ far → i + m ≤ n → (0 < m → far ≤ to) → w₂ ≡ putAt (to + i) (listOver m (λ j. getD w (to + i + j - far) 0)) w
+      → Lists (λ k. getD w₀ (to - far + k % far) 0) to n w₀ (i + m) w₂
+  repeat-block m short h near e =
       let f : ℕ → ℕ = λ k. getD w₀ (to - far + k % far) 0 in
-      let place : to + i - far ≡ to + (i - far) = omega arith in
-      ap₂ (λ (x : List ℕ) (y : ℕ). getD x y 0) (s .is) place
-      ∙ put-word to (listOver i f) w₀ (omega (arith, length-listOver i f, s .room)) (i - far) (omega (arith, length-listOver i f))
-      ∙ getD-listOver f (omega arith) ∙ ap (λ (x : ℕ). getD w₀ (to - far + x) 0) (sym (mod-eq-sub-mod l))
-
-  -- the word that is read stood before `to`, or the loop wrote it
-  pub repeat-word : getD w (to + i - far) 0 ≡ getD w₀ (to - far + i % far) 0
-  repeat-word = by-cases (decLe far i) behind (λ f. before (omega arith))
+      let is =
+      e
+      ∙ ap (λ (x : List ℕ). putAt (to + i) x w) (listOver-eq (λ j l. ap (λ (x : ℕ). getD w (x - far) 0) (add-assoc to i j) ∙ repeat-word (near (omega arith)) (i + j) (omega arith)))
+      ∙ put-on f to i m w₀ w (omega (arith, s .room)) (s .is) in
+      record {
+        within = h;
+        room = s .room;
+        long = ap length is ∙ put-length to (listOver (i + m) f) w₀ (omega (arith, length-listOver (i + m) f, s .room));
+        is = is;
+      }
 
 -- words that go by the remainder are one list again and again
 list-again : (m s : ℕ) (f : ℕ → ℕ) → listOver (m * s) (λ i. f (i % s)) ≡ runOver m (λ t. listOver s f)
@@ -205,9 +236,7 @@ module _ {to s count : ℕ} {w₀ : List ℕ} {done : ℕ} {w : List ℕ} (a : A
       e
       ∙ ap (λ (x : List ℕ). putAt (to + done) x w) (listOver-eq (λ i h.
       ap (λ (y : ℕ). getD w (y + i % (done + s)) 0) here ∙ far-word some i (i % (done + s)) refl))
-      ∙ ap₂ (λ (x : ℕ) (y : List ℕ). putAt (to + x) (listOver more (λ i. word (done + i))) y) (sym (length-listOver done word)) (a .is)
-      ∙ put-put to copied w₀ fitting (listOver more (λ i. word (done + i)))
-      ∙ ap (λ (x : List ℕ). putAt to x w₀) (sym (list-append done more word))
+      ∙ put-on word to done more w₀ w (omega (arith, a .within)) (a .is)
 
   pub again-more : {w₂ : List ℕ} → done + (done + s) < count
       → w₂ ≡ putAt (to + done) (listOver (done + s) (λ i. getD w (to + done - (done + s) + i % (done + s)) 0)) w

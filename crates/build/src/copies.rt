@@ -10,7 +10,7 @@ ghost use Rattle.rules.specs.Layer as L;
 ghost use Rattle.words.specs.Memory.{putAt};
 ghost use Rattle.build.specs.Steps.{Left};
 
-// So many words on, a load need not wait for the store that it copies.
+// So many words on, a load need not wait for the store that it copies; a block has as many.
 const APART: usize = 1024;
 
 // Writes the `stride` words before `to` again and again, `count` words in all: one flat loop, which copies what it wrote itself.
@@ -21,6 +21,47 @@ fn copy_on(words: &mut [u64], to: usize, stride: usize, count: usize)
     for i in 0..count {
         words[to + i] = words[to + i - stride];
     }
+}
+
+fn take_block(block: &mut [u64], words: &[u64], at: usize, stride: usize, count: usize)
+    requires { ⌜ (count ≤ length (now block)) × (0 < count → stride ≤ at) × (at + count ≤ length (now words)) ⌝ }
+    ensures { λ r. ⌜ listOver count (λ i. getD (now (block .exit)) i 0) ≡ listOver count (λ i. getD (now (words .entry)) (at + i - stride) 0) ⌝ }
+{
+    for i in 0..count {
+        block[i] = words[at + i - stride];
+    }
+}
+
+fn put_block(words: &mut [u64], at: usize, block: &[u64], count: usize)
+    requires { ⌜ (count ≤ length (now block)) × (at + count ≤ length (now words)) ⌝ }
+    ensures { λ r. ⌜ now (words .exit) ≡ putAt at (listOver count (λ i. getD (now (block .entry)) i 0)) (now (words .entry)) ⌝ }
+{
+    for i in 0..count {
+        words[at + i] = block[i];
+    }
+}
+
+// Words copied from `stride` words before, all read before one is written: the compiler makes one move of it, and the block is never made.
+fn move_block(words: &mut [u64], at: usize, stride: usize, count: usize)
+    requires { ⌜ (count ≤ 1024) × (0 < count → stride ≤ at) × (at + count ≤ length (now words)) ⌝ }
+    ensures { λ r. ⌜ now (words .exit) ≡ putAt at (listOver count (λ i. getD (now (words .entry)) (at + i - stride) 0)) (now (words .entry)) ⌝ }
+{
+    let mut block = [0u64; APART];
+    take_block(&mut block[..], words, at, stride, count);
+    put_block(words, at, &block[..], count);
+}
+
+// As `copy_on`, in blocks: no block reaches into the words that it is copied from.
+fn copy_far(words: &mut [u64], to: usize, stride: usize, count: usize)
+    requires { ⌜ (1024 ≤ stride) × (0 < count → stride ≤ to) × (to + count ≤ length (now words)) ⌝ }
+    ensures { λ r. ⌜ now (words .exit) ≡ putAt to (listOver count (λ i. getD (now (words .entry)) (to - stride + i % stride) 0)) (now (words .entry)) ⌝ }
+{
+    let mut done = 0;
+    while done + APART < count {
+        move_block(&mut *words, to + done, stride, APART);
+        done += APART;
+    }
+    move_block(words, to + done, stride, count - done);
 }
 
 // The smaller of two numbers.
@@ -38,13 +79,15 @@ fn repeat(words: &mut [u64], to: usize, stride: usize, count: usize)
     requires { ⌜ (0 < count → (0 < stride) × (stride ≤ to)) × (to + count ≤ length (now words)) ⌝ }
     ensures { λ r. ⌜ now (words .exit) ≡ putAt to (listOver count (λ i. getD (now (words .entry)) (to - stride + i % stride) 0)) (now (words .entry)) ⌝ }
 {
-    let limit = least(count, APART);
     let mut done = 0;
-    while done + done + stride < limit {
+    while done + stride < least(count - done, APART) {
         copy_on(&mut *words, to + done, done + stride, done + stride);
         done += done + stride;
     }
-    copy_on(words, to + done, done + stride, count - done)
+    if done + stride < APART {
+        return copy_on(words, to + done, done + stride, count - done);
+    }
+    copy_far(words, to + done, done + stride, count - done)
 }
 
 // After `done` steps the graph rests or the depth is reached: the words of the steps that are left are those of the last one, again and again.

@@ -52,7 +52,7 @@ loop-less c = omega arith
 loop-again : tie.Need-loop-again Inv-loop μ-loop
 loop-again c =
     let s = c .before .before .loop .inv in
-    list-more s (search simple) refl (repeat-word s (near (c .before) .0) (near (c .before) .1) (search simple))
+    list-more s (search simple) refl (repeat-word s (near (c .before) .1) _ (omega (arith, near (c .before))))
 
 same-length : tie.Need-same-length Inv-loop μ-loop
 same-length c = c .before .loop .inv .long
