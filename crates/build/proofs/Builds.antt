@@ -122,10 +122,10 @@ layers-put D n start depth all l w₀ w₁ w₂ room q el e₁ e₂ =
 
 -- ---- the same, whatever actions the lists tell
 
-pub record Stepping (n width depth all : ℕ) (needs adds dels adders interferers labels₀ t₀ w₀ : List ℕ) (k at : ℕ) (w labels live t r mates besides spare : List ℕ) : Type 0 where
+pub record Stepping (n width span depth all : ℕ) (needs adds dels adders interferers labels₀ t₀ w₀ : List ℕ) (k at : ℕ) (w labels live t r mates besides spare : List ℕ) : Type 0 where
   pub within : k ≤ depth
   pub place : at ≡ size n + k * (size (length needs + n) + size n)
-  pub lent : Lent n width depth needs adds dels adders interferers labels live t r mates besides spare w
+  pub lent : Lent n width span depth needs adds dels adders interferers labels live t r mates besides spare w
   pub long : length w ≡ length w₀
   pub going : (A : Actions) → Told A n needs adds adders interferers → Deletes A dels → Tells A all labels₀ t₀
       → Going A all (layerBy (domain A .props) (cell t₀)) depth w₀ k at w labels t
@@ -136,10 +136,10 @@ pub told-sizes : (A : Actions) (n : ℕ) (needs adds adders interferers : List �
 unfolding domain
 told-sizes A n needs adds adders interferers told = (ap₂ (λ (x y : ℕ). size (x + y)) (told .effects) (told .props), ap size (told .props))
 
-pub stepping-none : (n width depth all at : ℕ) (needs adds dels adders interferers labels t w live r mates besides spare : List ℕ)
-    → Lent n width depth needs adds dels adders interferers labels live t r mates besides spare w → at ≡ size n
-    → Stepping n width depth all needs adds dels adders interferers labels t w 0 at w labels live t r mates besides spare
-stepping-none n width depth all at needs adds dels adders interferers labels t w live r mates besides spare lent q = record {
+pub stepping-none : (n width span depth all at : ℕ) (needs adds dels adders interferers labels t w live r mates besides spare : List ℕ)
+    → Lent n width span depth needs adds dels adders interferers labels live t r mates besides spare w → at ≡ size n
+    → Stepping n width span depth all needs adds dels adders interferers labels t w 0 at w labels live t r mates besides spare
+stepping-none n width span depth all at needs adds dels adders interferers labels t w live r mates besides spare lent q = record {
   within = omega arith;
   place = omega (arith, zero-mul (size (length needs + n) + size n));
   lent = lent;
@@ -150,14 +150,14 @@ stepping-none n width depth all at needs adds dels adders interferers labels t w
       (going-none A all depth w labels t (omega (arith, lent .fits, q)) is);
 }
 
-module _ {n width depth all : ℕ} {needs adds dels adders interferers labels₀ t₀ w₀ : List ℕ} {k at : ℕ} {w labels live t r mates besides spare : List ℕ}
-    (s : Stepping n width depth all needs adds dels adders interferers labels₀ t₀ w₀ k at w labels live t r mates besides spare) (h : k < depth) where
+module _ {n width span depth all : ℕ} {needs adds dels adders interferers labels₀ t₀ w₀ : List ℕ} {k at : ℕ} {w labels live t r mates besides spare : List ℕ}
+    (s : Stepping n width span depth all needs adds dels adders interferers labels₀ t₀ w₀ k at w labels live t r mates besides spare) (h : k < depth) where
   -- the next step has room
   pub room : at + (size (length needs + n) + size n) ≤ length w
   room = omega (arith, s .place, s .lent .fits, suc-mul k (size (length needs + n) + size n), mul-le-mul-right (size (length needs + n) + size n) h)
 
   pub ready : (act : ℕ) → act ≡ size (length needs + n)
-      → Ready n width act needs adds dels adders interferers labels live t r mates besides spare (take (length w - at) (drop at w))
+      → Ready n width span act needs adds dels adders interferers labels live t r mates besides spare (take (length w - at) (drop at w))
   ready act e = record {
     mating = s .lent .mating;
     labels-long = s .lent .labels-long;
@@ -175,7 +175,7 @@ module _ {n width depth all : ℕ} {needs adds dels adders interferers labels₀
     pub stepping-more : (far : ℕ) → far ≡ size (length needs + n) + size n → length p ≡ length (take (length w - at) (drop at w))
         → length labels' ≡ length labels → length live' ≡ length live → length t' ≡ length t → length r' ≡ length r → length mates' ≡ length mates
         → length besides' ≡ length besides → length spare' ≡ length spare
-        → Stepping n width depth all needs adds dels adders interferers labels₀ t₀ w₀ (k + 1) (at + far) (putMid at (length w - at) w p) labels' live' t' r' mates' besides' spare'
+        → Stepping n width span depth all needs adds dels adders interferers labels₀ t₀ w₀ (k + 1) (at + far) (putMid at (length w - at) w p) labels' live' t' r' mates' besides' spare'
     stepping-more far ef lp ll lv lt lr lm lb ls =
         let m = s .lent .mating in
         let lw : length (putMid at (length w - at) w p) ≡ length w = same-len-mid at (length w - at) w p lp in
@@ -185,6 +185,7 @@ module _ {n width depth all : ℕ} {needs adds dels adders interferers labels₀
           lent = record {
             mating = record {
               wide = m .wide;
+              spans = m .spans;
               adds-long = m .adds-long;
               dels-long = m .dels-long;
               adders-long = m .adders-long;
@@ -216,8 +217,8 @@ module _ {n width depth all : ℕ} {needs adds dels adders interferers labels₀
     stepping-rest e A told del is =
         let g = s .going A told del is in ended-rest g labels' t' p still h (further A told) (did A told del (g .tells)) e
 
-pub stepping-all : {n width depth all : ℕ} {needs adds dels adders interferers labels₀ t₀ w₀ : List ℕ} {k at : ℕ} {w labels live t r mates besides spare : List ℕ}
-    → Stepping n width depth all needs adds dels adders interferers labels₀ t₀ w₀ k at w labels live t r mates besides spare → depth ≤ k
+pub stepping-all : {n width span depth all : ℕ} {needs adds dels adders interferers labels₀ t₀ w₀ : List ℕ} {k at : ℕ} {w labels live t r mates besides spare : List ℕ}
+    → Stepping n width span depth all needs adds dels adders interferers labels₀ t₀ w₀ k at w labels live t r mates besides spare → depth ≤ k
     → (A : Actions) → Told A n needs adds adders interferers → Deletes A dels → Tells A all labels₀ t₀
     → Ended (domain A) all (layerBy (domain A .props) (cell t₀)) depth w₀ depth w
 stepping-all s h A told del is = ended-all (s .going A told del is) h

@@ -21,7 +21,7 @@ use Rattle.rules.proofs.Layers.{getD-listOver, length-listOver}
 use Rattle.rules.proofs.Domains.{needs-effect, adds-effect, deletes-effect, siblings-of, condition-lt}
 use Rattle.words.specs.Rows.{rowLength, InParts, Inside, columnsOf}
 use Rattle.together.specs.Interference.{clobbersIn, interfereIn, interferersOf}
-use Rattle.together.specs.Cells.{Width}
+use Rattle.together.specs.Cells.{Width, Span}
 use Rattle.layers.specs.Step.{Told, Deletes}
 use Rattle.rules.specs.Layer.{size, stride, wordCount}
 use Rattle.rules.proofs.Layouts.{count-stride}
@@ -124,8 +124,11 @@ module _ (file : List ℕ) (c : Counts) (needs adds dels owners adders interfere
       (let le : length needs ≤ rowLength = omega (arith, needs-count, few) in lt-of-lt-of-le (joinOver-lt (length needs) _ (λ j l. keep-lt (length needs) (λ t. single-lt l)))
       (pow-mono le))
 
-  pub wide-for : (width : ℕ) → InParts width → c .props ≤ width → c .effects ≤ width → Width (c .props) width needs
-  wide-for width parts p a = record { parts = parts; props = p; effects = omega (arith, needs-count); inside = needs-inside }
+  pub wide-for : (width : ℕ) → InParts width → c .props ≤ width → Width (c .props) width needs
+  wide-for width parts p = record { parts = parts; props = p; effects = omega (arith, needs-count, few); inside = needs-inside }
+
+  pub spans-for : (span : ℕ) → InParts span → c .effects ≤ span → Span span needs
+  spans-for span parts e = record { parts = parts; effects = omega (arith, needs-count) }
 
   pub adds-same : length adds ≡ length needs
   adds-same = adds-count ∙ sym needs-count

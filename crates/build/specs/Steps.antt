@@ -21,8 +21,8 @@ pub record Ended (D : Domain) (all : ℕ) (l : List ℕ) (depth : ℕ) (w₀ : L
   pub rests : t < depth → (0 < t) × (propFrom D all l (t - 1) ≡ propFrom D all l t)
 
 -- what the code asks of the lists and tables of a step, and of the memory
-pub record Lent (n width depth : ℕ) (needs adds dels adders interferers labels live t r mates besides spare words : List ℕ) : Type 0 where
-  pub mating : Mating n width needs adds dels adders interferers live r mates besides spare
+pub record Lent (n width span depth : ℕ) (needs adds dels adders interferers labels live t r mates besides spare words : List ℕ) : Type 0 where
+  pub mating : Mating n width span needs adds dels adders interferers live r mates besides spare
   pub labels-long : length labels ≡ rowLength
   pub t-long : length t ≡ tableLength
   pub deep : depth ≤ maxDepth

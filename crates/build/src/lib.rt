@@ -74,7 +74,8 @@ fn build_in(
     );
     start_labels(file, c, &mut *labels);
     let n = c.props;
-    let width = width_for(c);
+    let width = width_for(n);
+    let span = width_for(c.effects);
     start(&mut *words, &mut *t, &*labels, &*spare, n, width);
     let done = steps_until(
         &mut *words,
@@ -85,8 +86,9 @@ fn build_in(
         &adders[..],
         &interferers[..],
         States::first(c.states).0,
-        many_pairs(&interferers[..], width),
+        many_pairs(&interferers[..], span),
         width,
+        span,
         depth,
         labels,
         live,

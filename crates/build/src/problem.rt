@@ -15,7 +15,7 @@ ghost use Rattle.rules.specs.Lists.{listOver};
 ghost use Rattle.rules.specs.Domain as D;
 ghost use Rattle.words.specs.Rows.{rowLength, InParts};
 ghost use Rattle.graph.specs.Format.{actionsOf};
-ghost use Rattle.graph.specs.File.{Ranged, Taken};
+ghost use Rattle.graph.specs.File.{Taken};
 ghost use Rattle.build.specs.Rooms.{Empty, Read};
 
 // Pairs for each effect from which on rows are less work.
@@ -82,22 +82,19 @@ fn count_interferers(interferers: &[u64]) -> usize
 }
 
 // Whether so many pairs of effects do not interfere that whole rows are less work than pair after pair: measured, nine for each effect of a wide problem.
-pub fn many_pairs(interferers: &[u64], width: usize) -> bool
-    requires { ⌜ (length (now interferers) ≤ rowLength) × (width ≤ rowLength) ⌝ }
+pub fn many_pairs(interferers: &[u64], span: usize) -> bool
+    requires { ⌜ (length (now interferers) ≤ rowLength) × (span ≤ rowLength) ⌝ }
 {
     let a = interferers.len();
-    ROW * count_interferers(interferers) + PAIRS * width * a < ROW * a * a
+    ROW * count_interferers(interferers) + PAIRS * span * a < ROW * a * a
 }
 
-// How many words of a table's rows are in use.
-pub fn width_for(c: Counts) -> usize
-    requires { ⌜ Ranged c ⌝ }
-    ensures { λ r. ⌜ InParts r × (c .props ≤ r) × (c .effects ≤ r) ⌝ }
+// How many words of a table's rows are in use where a row has n.
+pub fn width_for(n: usize) -> usize
+    requires { ⌜ n ≤ rowLength ⌝ }
+    ensures { λ r. ⌜ InParts r × (n ≤ r) ⌝ }
 {
-    if PART < c.props {
-        return ROW;
-    }
-    if PART < c.effects {
+    if PART < n {
         return ROW;
     }
     PART

@@ -22,6 +22,7 @@ pub fn steps_until(
     all: u64,
     many: bool,
     width: usize,
+    span: usize,
     depth: usize,
     labels: &mut [u64],
     live: &mut [u64],
@@ -31,7 +32,7 @@ pub fn steps_until(
     besides: &mut [u64],
     spare: &mut [u64],
 ) -> usize
-    requires { ⌜ Lent n width depth (now needs) (now adds) (now dels) (now adders) (now interferers) (now labels) (now live) (now t) (now r) (now mates) (now besides) (now spare) (now words) ⌝ }
+    requires { ⌜ Lent n width span depth (now needs) (now adds) (now dels) (now adders) (now interferers) (now labels) (now live) (now t) (now r) (now mates) (now besides) (now spare) (now words) ⌝ }
     ensures { λ done. ⌜ (done ≤ depth) × (done < depth → 0 < done) × ((A : Actions) → Told A n (now (needs .entry)) (now (adds .entry)) (now (adders .entry)) (now (interferers .entry)) → Deletes A (now (dels .entry)) → Tells A all (now (labels .entry)) (now (t .entry)) → Ended (domain A) all (layerBy (domain A .props) (cell (now (t .entry)))) depth (now (words .entry)) done (now (words .exit))) ⌝ }
 {
     let s = Shape {
@@ -54,6 +55,7 @@ pub fn steps_until(
             all,
             many,
             width,
+            span,
             &mut *labels,
             &mut *live,
             &mut *t,

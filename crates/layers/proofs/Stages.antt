@@ -31,11 +31,11 @@ use Rattle.rules.proofs.Togethers.{vertex-label, label-at, free-own, free-turn,
 use Rattle.rules.proofs.Steps as S
 use Rattle.rules.proofs.Steps.{Sets}
 use Rattle.words.specs.Memory.{putAt}
-use Rattle.words.specs.Rows.{rowLength, cell}
+use Rattle.words.specs.Rows.{rowLength, cell, bothWays, changesOf}
 use Rattle.words.proofs.Writes.{put-word, put-length, put-within}
 use lib.Dec.{eqb}
 use borrow.Author.Tests.{eqb-true}
-use Rattle.together.specs.Cells.{Width, needsWith, labelFor, rowFor, withProp, withEffect, independentOf, withIndependent, rowIn, mateOf, besideFor}
+use Rattle.together.specs.Cells.{Width, Span, labelFor, rowFor, withProp, withEffect, independentOf, withIndependent, rowIn, mateOf, besideFor}
 use Rattle.layers.specs.Write.{apart, Diagonal, effectRow, actionWords}
 use Rattle.layers.proofs.Puts.{put-behind}
 use Rattle.together.proofs.Rows.{parts-le}
@@ -56,18 +56,12 @@ module _ (A : Actions) (all : ℕ) (sets : Sets rowLength A) (labels t : List �
   label-is i h = vertex-label (domain A) all (cell t) (is .consistent) (effect-below A h)
       ∙ ap (vertexLabel (A .props) all (layerBy (A .props) (cell t))) (needs-effect A h)
 
-  with-is : (i q : ℕ) → q < A .props → needsWith all labels t (condition A i) q ≡ S.needsWith rowLength all A sets (is .consistent) i q
-  unfolding needsWith
-  with-is i q h = ap (λ (x : ℕ). meetOf rowLength (condition A i) (λ p. cell t p q) (common x all)) (is .diagonal q h)
-
-  label-code : (i : ℕ) → i < A .effects → labelFor all labels t (condition A i)
+  label-code : (i : ℕ) → i < A .effects → labelFor all t (condition A i)
       ≡ vertexLabel (domain A .props) all (layerBy (domain A .props) (cell t)) (condition A i)
   unfolding labelFor
-  label-code i h =
-      meet-only (condition A i) all (λ q l m. with-is i q (bit-below (sets .needs i h) m))
-      ∙ S.admitted rowLength all A sets (is .consistent) h
+  label-code i h = S.admitted rowLength all A sets (is .consistent) h
 
-  pub label-told : (i : ℕ) → i < A .effects → labelFor all labels t (condition A i) ≡ labelIn (overOf A all t) i
+  pub label-told : (i : ℕ) → i < A .effects → labelFor all t (condition A i) ≡ labelIn (overOf A all t) i
   label-told i h = label-code i h ∙ sym (label-is i h)
 
   -- an effect with a proposition, whatever it deletes
@@ -76,7 +70,8 @@ module _ (A : Actions) (all : ℕ) (sets : Sets rowLength A) (labels t : List �
 
   row-told : (live r : List ℕ) → Admitted A all labels t live r → (i q : ℕ) → i < A .effects → q < A .props → cell r i q ≡ rowWith i q
   unfolding rowFor
-  row-told live r adm i q h k = adm .row i q h k ∙ ap₂ common (with-is i q k) (label-code i h)
+  row-told live r adm i q h k = adm .row i q h k
+      ∙ ap₂ (λ (x y : ℕ). meetOf rowLength (condition A i) (λ p. cell t p q) (common x y)) (is .diagonal q k) (label-code i h)
 
   -- and with its persistence
   pub kept-told : (dels live r : List ℕ) → Admitted A all labels t live r → Deletes A dels → (i q : ℕ) → i < A .effects → q < A .props
@@ -194,11 +189,10 @@ module _ (A : Actions) (all : ℕ) (sets : Sets rowLength A) (labels t : List �
 
   -- ---- the next table
 
-  module _ (n : ℕ) (needs adds adders interferers : List ℕ) (told : Told A n needs adds adders interferers) (spare turned besides t' : List ℕ)
+  module _ (n : ℕ) (needs adds adders interferers : List ℕ) (told : Told A n needs adds adders interferers) (spare besides t' : List ℕ)
       (halves : (p q : ℕ) → p < A .props → q < A .props → cell spare p q ≡ union (cell t p q) (joinOf rowLength (getD adders p 0) (λ i. cell besides i q)))
-      (turns : (p q : ℕ) → p < A .props → q < A .props → cell turned q p ≡ cell spare p q)
       (with-adders : (i p : ℕ) → i < A .effects → p < A .props → cell besides i p ≡ beside (domain A) (overOf A all t) i p)
-      (joined : (p q : ℕ) → p < A .props → q < A .props → cell t' p q ≡ union (cell spare p q) (cell turned p q)) where
+      (joined : (p q : ℕ) → p < A .props → q < A .props → cell t' p q ≡ bothWays spare p q) where
     half-told : (p q : ℕ) → p < A .props → q < A .props
         → cell spare p q ≡ union (cell t p q) (joinOf rowLength (startLabel (A .effects) (A .add) p) (λ i. beside (domain A) (overOf A all t) i q))
     half-told p q h k =
@@ -208,8 +202,9 @@ module _ (A : Actions) (all : ℕ) (sets : Sets rowLength A) (labels t : List �
         ∙ ap (λ (x : ℕ). joinOf rowLength x (λ i. beside (domain A) (overOf A all t) i q)) (told .by p h))
 
     pub cell-told : (p q : ℕ) → p < A .props → q < A .props → cell t' p q ≡ nextTogether (domain A) (overOf A all t) p q
+    unfolding bothWays
     cell-told p q h k =
-        joined p q h k ∙ ap₂ union (half-told p q h k) (turns q p k h ∙ half-told q p k h)
+        joined p q h k ∙ ap₂ union (half-told p q h k) (half-told q p k h)
         ∙ S.next-cells rowLength all A sets (is .consistent) h k
 
     inside : (s v : ℕ) → v < domain A .vertices → So (bit s (labelIn (overOf A all t) v)) → So (bit s all)
@@ -231,10 +226,13 @@ module _ (A : Actions) (all : ℕ) (sets : Sets rowLength A) (labels t : List �
     }
 
 -- a table that did not change
-pub unchanged : (n : ℕ) (f g : ℕ → ℕ) → joinOver n (λ i. bitXor (f i) (g i)) ≡ 0 → (i : ℕ) → i < n → f i ≡ g i
-unchanged n f g e i h = same-words (f i) (g i) (ext-all (λ s. test-eq
+none-joined : (n : ℕ) (f : ℕ → ℕ) → joinOver n f ≡ 0 → (i : ℕ) → i < n → f i ≡ 0
+none-joined n f e i h = ext-all (λ s. test-eq
     (λ b. absurd (no-bit-zero s (ap (bit s) (sym e) ∙ (bit-joinOver s _ (λ i l. refl) ∙ any-of _ h b))))
-    (λ b. absurd (no-bit-zero s b))))
+    (λ b. absurd (no-bit-zero s b)))
+
+pub unchanged : (n : ℕ) (f g : ℕ → ℕ) → joinOver n (λ i. bitXor (f i) (g i)) ≡ 0 → (i : ℕ) → i < n → f i ≡ g i
+unchanged n f g e i h = same-words (f i) (g i) (none-joined n (λ i. bitXor (f i) (g i)) e i h)
   where
     same-words : (a b : ℕ) → bitXor a b ≡ 0 → a ≡ b
     same-words a b z = omega (arith, xor-add-and a b, and-le-l a b, and-le-r a b)
@@ -348,15 +346,15 @@ module _ (A : Actions) (all n width : ℕ) (needs adds dels adders interferers l
         ∙ beside-told A all sets labels t is n needs adds dels adders interferers live r told del adm i p h k;
   }
 
-  pub rows-made : (turned mates cut spare besides : List ℕ) → length adders ≡ n → length dels ≡ length needs
+  pub rows-made : (span : ℕ) (turned mates cut spare besides : List ℕ) → Span span needs → length adders ≡ n → length dels ≡ length needs
       → ((i j : ℕ) → i < length needs → j < n → cell turned j i ≡ cell r i j)
-      → ((i j : ℕ) → i < length needs → j < width → cell mates i j ≡ withEffect needs interferers live turned i j)
+      → ((i j : ℕ) → i < length needs → j < span → cell mates i j ≡ withEffect needs interferers live turned i j)
       → ((i q : ℕ) → i < length dels → cell cut q i ≡ choose (bit q (getD dels i 0)) 0 (cell turned q i))
-      → ((p k : ℕ) → p < length adders → k < width → cell spare p k ≡ union (cell cut p k) (joinOf rowLength (getD adders p 0) (λ i. cell mates i k)))
+      → ((p k : ℕ) → p < length adders → k < span → cell spare p k ≡ union (cell cut p k) (joinOf rowLength (getD adders p 0) (λ i. cell mates i k)))
       → ((i j : ℕ) → i < n → j < length needs → cell besides j i ≡ cell spare i j) → Mated A all t mates besides
-  rows-made turned mates cut spare besides long dels-long turns pair cuts joined back = record {
+  rows-made span turned mates cut spare besides spans long dels-long turns pair cuts joined back = record {
     pair = paired;
-    with-adders = λ i p h k. back p i (prop p k) (act i h) ∙ joined p i (omega (arith, prop p k)) (omega (arith, act i h, wide .effects))
+    with-adders = λ i p h k. back p i (prop p k) (act i h) ∙ joined p i (omega (arith, prop p k)) (omega (arith, act i h, spans .effects))
         ∙ rows-told A all sets labels t is n needs adds dels adders interferers live r told del adm cut mates gone paired i p h k;
   }
     where
@@ -365,22 +363,20 @@ module _ (A : Actions) (all n width : ℕ) (needs adds dels adders interferers l
           cuts j p (omega (arith, act j h, dels-long)) ∙ ap (λ (x : ℕ). choose (bit p (getD dels j 0)) 0 x) (turns j p (act j h) (prop p k))
 
       paired : (i j : ℕ) → i < A .effects → j < A .effects → cell mates i j ≡ freeIn (domain A .vertices) (overOf A all t) i j
-      paired i j h k = pair i j (act i h) (omega (arith, act j k, wide .effects))
+      paired i j h k = pair i j (act i h) (omega (arith, act j k, spans .effects))
           ∙ pair-told A all sets labels t is n needs adds dels adders interferers live r told del adm turned (λ j q g l. turns j q (act j g) (prop q l)) i j h k
 
-pub next-made : (A : Actions) (all n width fresh : ℕ) (needs adds adders interferers mates labels t besides spare turned t' labels' : List ℕ)
-    → Told A n needs adds adders interferers → Width n width needs → Nexting n width adders besides t spare turned labels → Tells A all labels t → Mated A all t mates besides
-    → (spare' turned' : List ℕ)
+pub next-made : (A : Actions) (all n width fresh : ℕ) (needs adds adders interferers mates labels t besides spare t' labels' : List ℕ)
+    → Told A n needs adds adders interferers → Width n width needs → Nexting n width adders besides t spare labels → Tells A all labels t → Mated A all t mates besides
+    → (spare' : List ℕ)
     → ((p k : ℕ) → p < length adders → k < width → cell spare' p k ≡ union (cell t p k) (joinOf rowLength (getD adders p 0) (λ i. cell besides i k)))
-    → ((i j : ℕ) → i < n → j < n → cell turned' j i ≡ cell spare' i j)
-    → t' ≡ putAt 0 (listOver (n * rowLength) (λ i. union (getD spare' i 0) (getD turned' i 0))) t
-    → fresh ≡ joinOver (n * rowLength) (λ i. bitXor (union (getD spare' i 0) (getD turned' i 0)) (getD t i 0))
+    → ((p q : ℕ) → p < n → q < n → cell t' p q ≡ bothWays spare' p q) → fresh ≡ joinOver n (changesOf n spare' t)
     → labels' ≡ putAt 0 (listOver n (λ p. cell t' p p)) labels → Next A all t labels' t' (eqb fresh 0)
-next-made A all n width fresh needs adds adders interferers mates labels t besides spare turned t' labels' told wide ready is mat spare' turned' halves turns e ef el =
-    next-told A all (sets-of A n width needs adds adders interferers told wide) labels t is n needs adds adders interferers told spare' turned' besides t'
-    (λ p q h k. halves p q (lt p h) (ltw q k)) (λ p q h k. turns p q (ltn p h) (ltn q k)) (mat .with-adders) (λ p q h k. put p q (ltn p h) (ltn q k)) labels' (eqb fresh 0)
+next-made A all n width fresh needs adds adders interferers mates labels t besides spare t' labels' told wide ready is mat spare' halves joined ef el =
+    next-told A all (sets-of A n width needs adds adders interferers told wide) labels t is n needs adds adders interferers told spare' besides t'
+    (λ p q h k. halves p q (lt p h) (ltw q k)) (mat .with-adders) (λ p q h k. joined p q (ltn p h) (ltn q k)) labels' (eqb fresh 0)
     (λ p h. diagonal-told n labels labels' t' el (omega (arith, ready .labels-long, few)) p (ltn p h))
-    (λ b p q h k. put p q (ltn p h) (ltn q k) ∙ still b p q (ltn p h) (ltn q k))
+    (λ b p q h k. joined p q (ltn p h) (ltn q k) ∙ still b p q (ltn p h) (ltn q k))
   where
     few : n ≤ rowLength
     few = omega (arith, ready .props, parts-le (ready .parts))
@@ -394,17 +390,9 @@ next-made A all n width fresh needs adds adders interferers mates labels t besid
     ltw : (p : ℕ) → p < A .props → p < width
     ltw p h = omega (arith, ltn p h, ready .props)
 
-    at-lt : (p q : ℕ) → p < n → q < n → p * rowLength + q < n * rowLength
-    at-lt p q h k = omega (arith, few)
-
-    put : (p q : ℕ) → p < n → q < n → cell t' p q ≡ union (cell spare' p q) (cell turned' p q)
-    put p q h k = unfold cell in
-        ap (λ (l : List ℕ). getD l (p * rowLength + q) 0) e
-        ∙ front-word (n * rowLength) (p * rowLength + q) _ t (omega (arith, ready .t-long, few)) (at-lt p q h k)
-
-    still : eqb fresh 0 ≡ true → (p q : ℕ) → p < n → q < n → union (cell spare' p q) (cell turned' p q) ≡ cell t p q
-    still b p q h k = unfold cell in
-        unchanged (n * rowLength) (λ i. union (getD spare' i 0) (getD turned' i 0)) (λ i. getD t i 0) (sym ef ∙ eqb-true fresh 0 b) (p * rowLength + q) (at-lt p q h k)
+    still : eqb fresh 0 ≡ true → (p q : ℕ) → p < n → q < n → bothWays spare' p q ≡ cell t p q
+    still b p q h k = unfold changesOf in
+        unchanged n (bothWays spare' p) (cell t p) (none-joined n (changesOf n spare' t) (sym ef ∙ eqb-true fresh 0 b) p h) q k
 
 -- ---- the whole step
 
@@ -418,11 +406,11 @@ length-actions' D all l = length-layerOf (D .vertices) _ _
 
 pub admit-made : (A : Actions) (all n width : ℕ) (needs adds adders interferers labels t live live' r' : List ℕ)
     → Told A n needs adds adders interferers → Width n width needs → Tells A all labels t → length live ≡ rowLength
-    → live' ≡ putAt 0 (listOver (length needs) (λ i. labelFor all labels t (getD needs i 0))) live
+    → live' ≡ putAt 0 (listOver (length needs) (λ i. labelFor all t (getD needs i 0))) live
     → ((i q : ℕ) → i < length needs → q < width → cell r' i q ≡ rowFor all labels t (getD needs i 0) q) → Admitted A all labels t live' r'
 admit-made A all n width needs adds adders interferers labels t live live' r' told wide is long e cells = record {
   label = λ i h. ap (λ (l : List ℕ). getD l i 0) e ∙ front-word (length needs) i _ live (omega (arith, wide .effects, parts-le (wide .parts))) (act i h)
-      ∙ ap (labelFor all labels t) (told .need i h) ∙ label-told A all ready labels t is i h;
+      ∙ ap (labelFor all t) (told .need i h) ∙ label-told A all ready labels t is i h;
   row = λ i q h k. cells i q (act i h) (omega (arith, subst (λ (x : ℕ). q < x) (told .props) k, wide .props))
       ∙ ap (λ (x : ℕ). rowFor all labels t x q) (told .need i h);
 }
@@ -433,10 +421,10 @@ admit-made A all n width needs adds adders interferers labels t live live' r' to
     ready : Sets rowLength A
     ready = sets-of A n width needs adds adders interferers told wide
 
-pub step-made : (A : Actions) (all n width at : ℕ) (still : Bool)
+pub step-made : (A : Actions) (all n width span at : ℕ) (still : Bool)
     (needs adds dels adders interferers labels live t r mates besides spare w live' r' mates' besides' cut w₁ labels' t' p : List ℕ)
-    → Ready n width at needs adds dels adders interferers labels live t r mates besides spare w → Told A n needs adds adders interferers → Deletes A dels → Tells A all labels t
-    → live' ≡ putAt 0 (listOver (length needs) (λ i. labelFor all labels t (getD needs i 0))) live
+    → Ready n width span at needs adds dels adders interferers labels live t r mates besides spare w → Told A n needs adds adders interferers → Deletes A dels → Tells A all labels t
+    → live' ≡ putAt 0 (listOver (length needs) (λ i. labelFor all t (getD needs i 0))) live
     → ((i q : ℕ) → i < length needs → q < width → cell r' i q ≡ rowFor all labels t (getD needs i 0) q)
     → ((A : Actions) (all : ℕ) (labels t : List ℕ) → Told A n needs adds adders interferers → Deletes A dels → Tells A all labels t
     → Admitted A all labels t live' r' → Mated A all t mates' besides')
@@ -446,7 +434,7 @@ pub step-made : (A : Actions) (all n width at : ℕ) (still : Bool)
     → Mated A all t mates besides' → Next A all t labels' t' still)
     → p ≡ putAt 0 (layerBy n (cell t')) (take (length w₁ - at) (drop at w₁))
     → Stepped A all t labels' t' w (putMid at (length w₁ - at) w₁ p) still
-step-made A all n width at still needs adds dels adders interferers labels live t r mates besides spare w
+step-made A all n width span at still needs adds dels adders interferers labels live t r mates besides spare w
     live' r' mates' besides' cut w₁ labels' t' p ready told del is el cells mate cuts e₁ next ep =
     record { next = nx; is = unfold stepWords in back }
   where

@@ -11,7 +11,7 @@ use Rattle.rules.specs.Shared.{startLabel, actionLayer, nextLayer}
 use Rattle.rules.specs.Together.{layerBy, Consistent, beside}
 use Rattle.words.specs.Memory.{putAt}
 use Rattle.words.specs.Rows.{rowLength, tableLength, cell, InParts, Inside}
-use Rattle.together.specs.Cells.{Width, rowFor}
+use Rattle.together.specs.Cells.{Width, Span, rowFor}
 
 -- the action layer over the proposition layer l, and the next proposition layer behind it
 unfoldable pub stepWords : Domain → ℕ → List ℕ → List ℕ
@@ -54,8 +54,9 @@ pub record Mated (A : Actions) (all : ℕ) (t mates besides : List ℕ) : Type 0
   pub with-adders : (i p : ℕ) → i < A .effects → p < A .props → cell besides i p ≡ beside (domain A) (overOf A all t) i p
 
 -- what the code asks that finds them
-pub record Mating (n width : ℕ) (needs adds dels adders interferers live r mates besides spare : List ℕ) : Type 0 where
+pub record Mating (n width span : ℕ) (needs adds dels adders interferers live r mates besides spare : List ℕ) : Type 0 where
   pub wide : Width n width needs
+  pub spans : Span span needs
   pub adds-long : length adds ≡ length needs
   pub dels-long : length dels ≡ length needs
   pub adders-long : length adders ≡ n
@@ -75,7 +76,7 @@ pub record Next (A : Actions) (all : ℕ) (t labels' t' : List ℕ) (still : Boo
   pub rests : still ≡ true → layerBy (domain A .props) (cell t') ≡ layerBy (domain A .props) (cell t)
 
 -- what the code asks that makes it
-pub record Nexting (n width : ℕ) (adders besides t spare turned labels : List ℕ) : Type 0 where
+pub record Nexting (n width : ℕ) (adders besides t spare labels : List ℕ) : Type 0 where
   pub parts : InParts width
   pub props : n ≤ width
   pub adders-long : length adders ≡ n
@@ -83,12 +84,11 @@ pub record Nexting (n width : ℕ) (adders besides t spare turned labels : List 
   pub besides-long : length besides ≡ tableLength
   pub t-long : length t ≡ tableLength
   pub spare-long : length spare ≡ tableLength
-  pub turned-long : length turned ≡ tableLength
   pub labels-long : length labels ≡ rowLength
 
 -- what it asks of a whole step: `at` is where the proposition layer goes behind the action layer
-pub record Ready (n width at : ℕ) (needs adds dels adders interferers labels live t r mates besides spare words : List ℕ) : Type 0 where
-  pub mating : Mating n width needs adds dels adders interferers live r mates besides spare
+pub record Ready (n width span at : ℕ) (needs adds dels adders interferers labels live t r mates besides spare words : List ℕ) : Type 0 where
+  pub mating : Mating n width span needs adds dels adders interferers live r mates besides spare
   pub labels-long : length labels ≡ rowLength
   pub t-long : length t ≡ tableLength
   pub place : at ≡ size (length needs + n)

@@ -8,7 +8,7 @@ use together::few::few;
 use together::pairs::join_rows;
 use together::pairs::pairs;
 use words::tables::ROW;
-use words::tables::join_tables;
+use words::tables::join_turned;
 use words::tables::turn;
 ghost use mathlib.Core.Path.{_≡_};
 ghost use mathlib.Core.List.{List};
@@ -38,8 +38,9 @@ fn mate(
     besides: &mut [u64],
     spare: &mut [u64],
     width: usize,
+    span: usize,
 )
-    requires { ⌜ Mating n width (now needs) (now adds) (now dels) (now adders) (now interferers) (now live) (now r) (now mates) (now besides) (now spare) ⌝ }
+    requires { ⌜ Mating n width span (now needs) (now adds) (now dels) (now adders) (now interferers) (now live) (now r) (now mates) (now besides) (now spare) ⌝ }
     ensures { λ _. ⌜ ((A : Actions) (all : ℕ) (labels t : List ℕ) → Told A n (now (needs .entry)) (now (adds .entry)) (now (adders .entry)) (now (interferers .entry)) → Deletes A (now (dels .entry)) → Tells A all labels t → Admitted A all labels t (now (live .entry)) (now (r .entry)) → Mated A all t (now (mates .exit)) (now (besides .exit))) ⌝ }
 {
     if !many {
@@ -57,9 +58,9 @@ fn mate(
         );
     }
     turn(&mut *besides, r, needs.len(), n);
-    pairs(needs, interferers, live, &*besides, &mut *mates, n, width);
+    pairs(needs, interferers, live, &*besides, &mut *mates, span);
     cut_columns(&mut *besides, dels);
-    join_rows(&mut *spare, &*besides, &*mates, adders, width);
+    join_rows(&mut *spare, &*besides, &*mates, adders, span);
     turn(besides, &*spare, n, needs.len());
 }
 
@@ -81,16 +82,14 @@ fn next(
     besides: &[u64],
     t: &mut [u64],
     spare: &mut [u64],
-    turned: &mut [u64],
     labels: &mut [u64],
     width: usize,
 ) -> bool
-    requires { ⌜ Nexting n width (now adders) (now besides) (now t) (now spare) (now turned) (now labels) ⌝ }
+    requires { ⌜ Nexting n width (now adders) (now besides) (now t) (now spare) (now labels) ⌝ }
     ensures { λ still. ⌜ Diagonal n (now (labels .exit)) (now (t .exit)) × ((A : Actions) (all : ℕ) (needs adds interferers mates : List ℕ) → Told A n needs adds (now (adders .entry)) interferers → Width n width needs → Tells A all (now (labels .entry)) (now (t .entry)) → Mated A all (now (t .entry)) mates (now (besides .entry)) → Next A all (now (t .entry)) (now (labels .exit)) (now (t .exit)) still) ⌝ }
 {
     join_rows(&mut *spare, &*t, besides, adders, width);
-    turn(&mut *turned, &*spare, n, n);
-    let fresh = join_tables(&mut *t, &*spare, &*turned, n * ROW);
+    let fresh = join_turned(&mut *t, &*spare, n);
     diagonal(&*t, labels, n);
     fresh == 0
 }
@@ -108,6 +107,7 @@ pub fn step(
     all: u64,
     many: bool,
     width: usize,
+    span: usize,
     labels: &mut [u64],
     live: &mut [u64],
     t: &mut [u64],
@@ -116,7 +116,7 @@ pub fn step(
     besides: &mut [u64],
     spare: &mut [u64],
 ) -> bool
-    requires { ⌜ Ready n width at (now needs) (now adds) (now dels) (now adders) (now interferers) (now labels) (now live) (now t) (now r) (now mates) (now besides) (now spare) (now words) ⌝ }
+    requires { ⌜ Ready n width span at (now needs) (now adds) (now dels) (now adders) (now interferers) (now labels) (now live) (now t) (now r) (now mates) (now besides) (now spare) (now words) ⌝ }
     ensures { λ still. ⌜ ((A : Actions) → Told A n (now (needs .entry)) (now (adds .entry)) (now (adders .entry)) (now (interferers .entry)) → Deletes A (now (dels .entry)) → Tells A all (now (labels .entry)) (now (t .entry)) → Stepped A all (now (t .entry)) (now (labels .exit)) (now (t .exit)) (now (words .entry)) (now (words .exit)) still) ⌝ }
 {
     admit(needs, all, &*labels, &*t, &mut *r, &mut *live, n, width);
@@ -134,6 +134,7 @@ pub fn step(
         &mut *besides,
         &mut *spare,
         width,
+        span,
     );
     cut_rows(&mut *r, dels);
     put_actions(
@@ -146,7 +147,7 @@ pub fn step(
         &*mates,
         &*r,
     );
-    let still = next(n, adders, &*besides, &mut *t, spare, r, &mut *labels, width);
+    let still = next(n, adders, &*besides, &mut *t, spare, &mut *labels, width);
     put_props(&mut words[at..], n, &*labels, &*t);
     still
 }

@@ -9,15 +9,15 @@ use native.Mathlib.Decide.{decLe}
 use native.Mathlib.Omega.{arith}
 use mathlib.Core.List.{List}
 use Rattle.rules.specs.Test.{_and_, _or_, fails, same, choose}
-use Rattle.rules.specs.Word.{bit, common, union}
+use Rattle.rules.specs.Word.{bit, common, union, without, first}
 use Rattle.rules.specs.Over.{keep, joinOver, joinOf, meetOf, anyBelow}
 use Rattle.rules.specs.Domain.{Actions, condition, persistence, siblings, interfereOf, domain}
 use Rattle.rules.specs.Layer.{paired, freeIn}
 use Rattle.rules.specs.Shared.{startLabel, vertexLabel, actionLayer}
 use Rattle.rules.specs.Together.{layerBy, Consistent, beside, nextTogether}
 use Rattle.rules.proofs.Tests.{choose-held, choose-failed, and-of, and-left, and-right, or-left, or-right, or-at, fails-of, fails-at, holds-or, test-eq}
-use Rattle.rules.proofs.Tests.{same-of, same-at}
-use Rattle.rules.proofs.Words.{bit-common, bit-union, bit-below, no-bit-zero, single-has, single-only, ext-all}
+use Rattle.rules.proofs.Tests.{same-of, same-at, is-fails, below-not}
+use Rattle.rules.proofs.Words.{bit-common, bit-union, bit-without, bit-first, bit-below, no-bit-zero, single-has, single-only, ext-all}
 use Rattle.rules.proofs.Members.{bit-joinOf, meetOf-at, meetOf-of, meet-only, bit-startLabel, startLabel-lt}
 use Rattle.rules.proofs.Overs.{any-of, any-at, bit-keep, bit-joinOver}
 use Rattle.rules.proofs.Layers.{paired-of, ordered}
@@ -51,42 +51,54 @@ module _ (m all : ℕ) (A : Actions) (sets : Sets m A) {t : ℕ → ℕ → ℕ}
   abbrev label : ℕ → ℕ
   label i = vertexLabel (domain A .props) all (layerBy (domain A .props) t) (condition A i)
 
-  -- of the needs of i with q
-  abbrev pub needsWith : ℕ → ℕ → ℕ
-  needsWith i q = meetOf m (condition A i) (λ p. t p q) (common (t q q) all)
-
-  -- of i itself with q, whatever i deletes
+  -- of i with q, whatever i deletes
   abbrev pub rowWith : ℕ → ℕ → ℕ
-  rowWith i q = common (needsWith i q) (label i)
+  rowWith i q = meetOf m (condition A i) (λ p. t p q) (common (t q q) (label i))
 
   member-lt : {i p : ℕ} → i < A .effects → So (bit p (condition A i)) → p < A .props
   unfolding domain
   member-lt {i} h b = bit-below (sets .needs i h) b
 
-  with-at : (s : ℕ) {i : ℕ} (q : ℕ) → i < A .effects → So (bit s (needsWith i q))
-      → So (bit s all) × So (bit s (t q q)) × ((p : ℕ) → So (bit p (condition A i)) → So (bit s (t p q)))
+  with-at : (s : ℕ) {i : ℕ} (q : ℕ) → i < A .effects → So (bit s (rowWith i q))
+      → So (bit s (label i)) × So (bit s (t q q)) × ((p : ℕ) → So (bit p (condition A i)) → So (bit s (t p q)))
   unfolding domain
   with-at s {i} q h b =
-      let (u, each) = meetOf-at s (condition A i) (common (t q q) all) (λ p. t p q) b in
-      let c = sym (bit-common s (t q q) all) ∙ u in
+      let (u, each) = meetOf-at s (condition A i) (common (t q q) (label i)) (λ p. t p q) b in
+      let c = sym (bit-common s (t q q) (label i)) ∙ u in
       (and-right _ c, and-left _ c, λ p n. each p (omega (arith, member-lt h n, sets .props)) n)
 
-  with-of : (s i q : ℕ) → So (bit s all) → So (bit s (t q q)) → ((p : ℕ) → p < m → So (bit p (condition A i)) → So (bit s (t p q))) → So (bit s (needsWith i q))
+  with-of : (s i q : ℕ) → So (bit s (label i)) → So (bit s (t q q)) → ((p : ℕ) → p < m → So (bit p (condition A i)) → So (bit s (t p q))) → So (bit s (rowWith i q))
   unfolding domain
-  with-of s i q a b each = meetOf-of s (condition A i) (common (t q q) all) (λ p. t p q) (bit-common s (t q q) all ∙ and-of b a) each
+  with-of s i q l b each = meetOf-of s (condition A i) (common (t q q) (label i)) (λ p. t p q) (bit-common s (t q q) (label i) ∙ and-of b l) each
 
-  -- the label of an effect
-  pub admitted : {i : ℕ} → i < A .effects → meetOf m (condition A i) (needsWith i) all ≡ label i
+  -- the label of an effect: each need with those from it on
+  pub admitted : {i : ℕ} → i < A .effects → meetOf m (condition A i) (λ p. meetOf m (without (condition A i) (first p)) (t p) all) all ≡ label i
   unfolding domain
-  admitted {i} h = ext-all (λ s. test-eq (λ b. let (a, each) = meetOf-at s (condition A i) all (needsWith i) b in
+  admitted {i} h = ext-all (λ s. test-eq
+      (λ b. let (a, each) = meetOf-at s need all with-rest b in
       label-of (domain A .props) all t is (record {
         inside = a;
-        both = λ p q hp hq np nq. let (_, _, f) = with-at s q h (each q (omega (arith, sets .props)) nq) in f p np;
+        both = λ p q hp hq np nq. by-cases (decLe p q)
+            (λ l. rising s p q hq nq l (each p (omega (arith, sets .props)) np))
+            (λ l. ap (bit s) (is .turn p q hp hq) ∙ rising s q p hp np (omega arith) (each q (omega (arith, sets .props)) nq));
       }))
       (λ b. let l = label-at (domain A .props) all t is b in
-      meetOf-of s (condition A i) all (needsWith i) (l .inside) (λ q k nq.
-      let hq : q < A .props = member-lt h nq in
-      with-of s i q (l .inside) (l .both q q hq hq nq nq) (λ p j np. l .both p q (member-lt h np) hq np nq))))
+      meetOf-of s need all with-rest (l .inside) (λ p _ np. meetOf-of s (rest p) all (t p) (l .inside) (λ q _ nq.
+      let n = and-left _ (sym (bit-without q need (first p)) ∙ nq) in
+      l .both p q (member-lt h np) (member-lt h n) np n))))
+    where
+      need : ℕ
+      need = condition A i
+
+      rest : ℕ → ℕ
+      rest p = without need (first p)
+
+      with-rest : ℕ → ℕ
+      with-rest p = meetOf m (rest p) (t p) all
+
+      rising : (s p q : ℕ) → q < A .props → So (bit q need) → p ≤ q → So (bit s (with-rest p)) → So (bit s (t p q))
+      rising s p q h n l b = let (_, each) = meetOf-at s (rest p) all (t p) b in
+          each q (omega (arith, sets .props)) (bit-without q need (first p) ∙ and-of n (ap fails (bit-first q p) ∙ is-fails (below-not l)))
 
   -- ---- vertices of the layer
 
@@ -160,15 +172,12 @@ module _ (m all : ℕ) (A : Actions) (sets : Sets m A) {t : ℕ → ℕ → ℕ}
   with-prop {i} {q} h k = ⊎-elim
       (λ d. choose-held _ d ∙ ext-all (λ s. test-eq (λ b. absurd (no-bit-zero s b)) (λ b. absurd (deletes-not q h (prop-at h k b .apart) d))))
       (λ d. choose-failed _ _ d ∙ ext-all (λ s. test-eq (λ b.
-      let u = sym (bit-common s (needsWith i q) (label i)) ∙ b in
-      let (_, e, each) = with-at s q h (and-left _ u) in
-      prop-of h k (label-at (domain A .props) all t is (and-right _ u)) e (fails-at d) (λ p hp np. each p np))
+      let (l, e, each) = with-at s q h b in
+      prop-of h k (label-at (domain A .props) all t is l) e (fails-at d) (λ p hp np. each p np))
       (λ b.
       let g = prop-at h k b in
-      let l = has h (g .left) in
-      bit-common s (needsWith i q) (label i) ∙ and-of (with-of s i q (l .inside) (prop-has k (g .right)) (λ p j np.
-      g .across p q (member-lt h np) k (ap (bit p) (needs-effect A h) ∙ np) (single-has q (needs-persistence A q))))
-      (label-of (domain A .props) all t is l))))
+      with-of s i q (label-of (domain A .props) all t is (has h (g .left))) (prop-has k (g .right)) (λ p j np.
+      g .across p q (member-lt h np) k (ap (bit p) (needs-effect A h) ∙ np) (single-has q (needs-persistence A q))))))
       (holds-or (bit q (A .del i)))
 
   -- two effects, by what the one has with the needs of the other
@@ -193,8 +202,7 @@ module _ (m all : ℕ) (A : Actions) (sets : Sets m A) {t : ℕ → ℕ → ℕ}
             apart = fails-of (interfere-apart A i j (λ x. fails-at d (e ∙ x)));
             across = λ p q hp hq np nq.
                 let n : So (bit p (condition A i)) = ap (bit p) (sym (needs-effect A h)) ∙ np in
-                let row = sym (bit-common s (needsWith j p) (label j)) ∙ each p (omega (arith, sets .props)) n in
-                let (_, _, all-needs) = with-at s p k (and-left _ row) in
+                let (_, _, all-needs) = with-at s p k (each p (omega (arith, sets .props)) n) in
                 ap (bit s) (is .turn p q hp hq) ∙ all-needs q (ap (bit q) (sym (needs-effect A k)) ∙ nq);
           })
 
@@ -207,9 +215,9 @@ module _ (m all : ℕ) (A : Actions) (sets : Sets m A) {t : ℕ → ℕ → ℕ}
           (bit-common s (label j) (label i) ∙ and-of r (label-of (domain A .props) all t is l))
           (λ p _ np.
           let hp : p < A .props = member-lt h np in
-          bit-common s (needsWith j p) (label j) ∙ and-of (with-of s j p (l .inside) (l .both p p hp hp np np) (λ q _ nq.
+          with-of s j p r (l .both p p hp hp np np) (λ q _ nq.
           let hq : q < A .props = member-lt k nq in
-          ap (bit s) (is .turn q p hq hp) ∙ g .across p q hp hq (ap (bit p) (needs-effect A h) ∙ np) (ap (bit q) (needs-effect A k) ∙ nq))) r)
+          ap (bit s) (is .turn q p hq hp) ∙ g .across p q hp hq (ap (bit p) (needs-effect A h) ∙ np) (ap (bit q) (needs-effect A k) ∙ nq)))
 
   -- of effects of different actions, by the persistences of those needs: where the other deletes one, the two interfere
   pub with-other : {i j : ℕ} {interfere : Bool} → i < A .effects → j < A .effects → (i ≡ j → ⊥) → (So (siblings A i j) → ⊥) → interfere ≡ interfereOf A i j

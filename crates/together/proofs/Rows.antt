@@ -8,20 +8,23 @@ use native.Mathlib.Omega.{arith}
 use native.Mathlib.Nat.{lt-of-lt-of-le}
 use borrow.Rule.Slice.PartMut.{putMid}
 use lib.Bits.{or-zero-r}
+use lib.Count.{trailingZeros}
 use lib.ListN.{length, getD, take, drop, set, length-drop}
 use lib.Pow.{pow-mono}
 use lib.Seq.{getD-take, getD-drop, drop-drop, length-take-le, getD-set-same, getD-set-other}
 use Rattle.rules.specs.Test.{same, choose}
-use Rattle.rules.specs.Word.{bit, common, union}
+use Rattle.rules.specs.Word.{bit, common, union, without, single, first}
 use Rattle.rules.specs.Over.{joinOf, meetOf}
 use Rattle.rules.specs.Lists.{listOver}
 use Rattle.rules.proofs.Layers.{length-listOver}
 use Rattle.rules.proofs.Tests.{choose-held, choose-failed, holds-or, same-of, same-at, fails-at}
-use Rattle.rules.proofs.Words.{bit-below}
 use Rattle.words.specs.Memory.{putAt}
+use Rattle.words.specs.Width.{wordWidth}
 use Rattle.words.specs.Rows.{rowLength, tableLength, cell, InParts, Inside}
+use Rattle.words.proofs.Lowest.{Upper, upper-none, upper-more, upper-is}
+use Rattle.words.proofs.MemberLoops.{Shares, shares-none, shares-more, meet-from, lowest-lt}
 use Rattle.words.proofs.Cells.{Rows, rows-more, row-length, cell-put, cell-stays}
-use Rattle.together.specs.Cells.{RowPut, Row, rowIn, needsWith, labelFor, rowFor, withEffect}
+use Rattle.together.specs.Cells.{RowPut, rowIn, withEffect}
 use Rattle.rules.proofs.Members.{join-empty, meet-only}
 
 -- a part of a row or all of it is within the row
@@ -116,25 +119,35 @@ module _ (table : List ℕ) (i : ℕ) (f : ℕ → ℕ) {p : List ℕ} (whole : 
   pub lent-long : length (putMid (i * rowLength) (i * rowLength + rowLength - i * rowLength) table p) ≡ tableLength
   lent-long = ap length lent-put ∙ row-length i rowLength f table whole h (omega arith)
 
--- ---- a row of an effect with the propositions: met, and cut to the label that it gives
+-- ---- the label of an effect, while some needs are left
 
-module _ (all : ℕ) {i width need : ℕ} {r labels t r₁ : List ℕ} (asks : Row i width need r labels t)
-    (met : r₁ ≡ putAt (i * rowLength) (listOver width (needsWith all labels t need)) r) (long₁ : length r₁ ≡ tableLength) where
-  first-put : RowPut (needsWith all labels t need) width i r r₁
-  first-put = row-put (asks .r-long) (asks .inside) (parts-le (asks .parts)) met
+pub record Labels (all : ℕ) (t : List ℕ) (need left label : ℕ) : Type 0 where
+  pub shares : Shares (λ p. meetOf rowLength (without need (first p)) (cell t p) all) all rowLength need left label
+  pub upper : Upper need left
 
-  pub admit-label : {l : ℕ} (row : List ℕ) → row ≡ rowIn r₁ i → l ≡ meetOf (length row) need (λ q. getD row q 0) all → l ≡ labelFor all labels t need
-  unfolding labelFor
-  admit-label {l} row e d =
-      let long : length row ≡ rowLength = ap length e ∙ row-long r₁ i long₁ (asks .inside) in
-      d ∙ ap (λ (n : ℕ). meetOf n need (λ q. getD row q 0) all) long
-      ∙ meet-only need all (λ q h m.
-      ap (λ (x : List ℕ). getD x q 0) e ∙ row-word r₁ i q h ∙ first-put .is q (bit-below (asks .needs) m))
+pub labels-none : {all : ℕ} {t : List ℕ} {need : ℕ} → need < 2 ^ rowLength → Labels all t need need all
+labels-none h = record { shares = shares-none h; upper = upper-none }
 
-  pub admit-put : {l : ℕ} {r₂ : List ℕ} → l ≡ labelFor all labels t need → r₂ ≡ putAt (i * rowLength) (listOver width (λ k. common (cell r₁ i k) l)) r₁
-      → RowPut (rowFor all labels t need) width i r r₂
-  unfolding rowFor
-  admit-put e cut = row-again _ first-put (omega arith) (row-put long₁ (asks .inside) (parts-le (asks .parts)) cut) (λ k h q. ap₂ common q e)
+module _ {all : ℕ} {t : List ℕ} {need left label p : ℕ} (m : Labels all t need left label) (some : 0 < left) (low : p ≡ trailingZeros wordWidth left) where
+  -- the lowest of them is the number of a row
+  pub labels-row : p < rowLength
+  labels-row = subst (λ (x : ℕ). x < rowLength) (sym low) (lowest-lt rowLength left (omega arith) (m .shares .inside) some)
+
+  -- and that row is lent
+  pub labels-more : {left' r : ℕ} → length t ≡ tableLength → left' ≡ without left (single (trailingZeros wordWidth left)) → (row : List ℕ) → row ≡ rowIn t p
+      → r ≡ meetOf (length row) left (λ q. getD row q 0) label → Labels all t need left' r
+  labels-more long e row u met =
+      let few : rowLength ≤ wordWidth = omega arith in
+      let inside : left < 2 ^ wordWidth = lt-of-lt-of-le (m .shares .inside) (pow-mono few) in
+      record {
+        shares = shares-more (m .shares) few some
+            (ap₂ (λ (x y : ℕ). meetOf rowLength x (cell t y) all) (upper-is wordWidth (m .upper) inside some) low)
+            (met ∙ ap (λ (n : ℕ). meetOf n left (λ q. getD row q 0) label) (ap length u ∙ row-long t p long labels-row)
+            ∙ meet-only left label (λ q h _. ap (λ (l : List ℕ). getD l q 0) u ∙ row-word t p q h)
+            ∙ meet-from rowLength left all label (cell t p) (m .shares .part))
+            e;
+        upper = upper-more wordWidth (m .upper) inside e;
+      }
 
 -- ---- a row of an effect with the effects: met, emptied where they interfere, and with itself
 

@@ -9,12 +9,17 @@ use Rattle.rules.specs.Over.{keep, joinOf, meetOf}
 use Rattle.rules.specs.Lists.{listOver}
 use Rattle.words.specs.Rows.{rowLength, tableLength, cell, InParts, Inside}
 
--- how many words of a row are in use for n propositions and the effects with these needs: a part of it or all
+-- how many words of a row are in use where it has one for each of n propositions, a part of it or all; there is a row for each effect with these needs
 pub record Width (n width : ℕ) (needs : List ℕ) : Type 0 where
   pub parts : InParts width
   pub props : n ≤ width
-  pub effects : length needs ≤ width
+  pub effects : length needs ≤ rowLength
   pub inside : Inside n needs
+
+-- and where it has one for each effect
+pub record Span (span : ℕ) (needs : List ℕ) : Type 0 where
+  pub parts : InParts span
+  pub effects : length needs ≤ span
 
 -- what the code asks that writes row i, of an effect with these needs
 pub record Row (i width need : ℕ) (r labels t : List ℕ) : Type 0 where
@@ -38,17 +43,13 @@ pub record RowPut (f : ℕ → ℕ) (width row : ℕ) (old new : List ℕ) : Typ
   pub is : (k : ℕ) → k < width → cell new row k ≡ f k
   pub stays : (i k : ℕ) → k < rowLength → (i ≡ row → ⊥) → cell new i k ≡ cell old i k
 
--- the states in which q is together with each need: t is the table of the propositions, `labels` its labels
-unfoldable pub needsWith : ℕ → List ℕ → List ℕ → ℕ → ℕ → ℕ
-needsWith all labels t need q = meetOf rowLength need (λ p. cell t p q) (common (getD labels q 0) all)
+-- the label of an effect, the states in which each need is together with all from it on: t is the table of the propositions
+unfoldable pub labelFor : ℕ → List ℕ → ℕ → ℕ
+labelFor all t need = meetOf rowLength need (λ p. meetOf rowLength (without need (first p)) (cell t p) all) all
 
--- the label of an effect
-unfoldable pub labelFor : ℕ → List ℕ → List ℕ → ℕ → ℕ
-labelFor all labels t need = meetOf rowLength need (needsWith all labels t need) all
-
--- an effect with a proposition, whatever it deletes: two effects of one action go by these rows
+-- an effect with a proposition, whatever it deletes, by the labels of the propositions: two effects of one action go by these rows
 unfoldable pub rowFor : ℕ → List ℕ → List ℕ → ℕ → ℕ → ℕ
-rowFor all labels t need q = common (needsWith all labels t need q) (labelFor all labels t need)
+rowFor all labels t need q = meetOf rowLength need (λ p. cell t p q) (common (getD labels q 0) (labelFor all t need))
 
 -- and none where it deletes it: row i of r is that of effect i
 unfoldable pub withProp : List ℕ → List ℕ → ℕ → ℕ → ℕ
@@ -74,8 +75,9 @@ unfoldable pub withIndependent : List ℕ → List ℕ → List ℕ → ℕ → 
 withIndependent needs live row i j = meetOf rowLength (getD needs j 0) (λ q. getD row q 0) (common (getD live i 0) (getD live j 0))
 
 -- what the code asks that pairs the effects by rows
-pub record Pairing (n width : ℕ) (needs interferers live turned mates : List ℕ) : Type 0 where
-  pub wide : Width n width needs
+pub record Pairing (span : ℕ) (needs interferers live turned mates : List ℕ) : Type 0 where
+  pub spans : Span span needs
+  pub needs-inside : Inside rowLength needs
   pub interferers-long : length interferers ≡ length needs
   pub interferers-inside : Inside rowLength interferers
   pub live-long : length live ≡ rowLength

@@ -1,6 +1,7 @@
 // The labels of the effects, and what each is together with among the propositions, whatever it deletes.
+use words::members::lowest;
 use words::members::meet_at;
-use words::parts::cut_row;
+use words::members::others;
 use words::parts::meet_row;
 use words::sets::wide;
 use words::tables::ROW;
@@ -9,10 +10,26 @@ ghost use Prim.Native.Nat.{ℕ, _<_};
 ghost use lib.ListN.{length, getD};
 ghost use Rattle.rules.specs.Lists.{listOver};
 ghost use Rattle.words.specs.Memory.{putAt};
-ghost use Rattle.words.specs.Rows.{cell};
+ghost use Rattle.words.specs.Rows.{Source, cell};
 ghost use Rattle.together.specs.Cells.{Row, RowPut, Admitting, labelFor, rowFor};
 
-// Row i: the effect with each proposition. Its label: the states in which all its needs are together.
+// The states in which all needs are together: of each need, with those from it on.
+fn label_of(need: u64, all: u64, t: &[u64]) -> u64
+    requires { ⌜ Source (now t) need ⌝ }
+    ensures { λ l. ⌜ l ≡ labelFor all (now (t .entry)) need ⌝ }
+{
+    let mut left = need;
+    let mut label = all;
+    while 0 < left {
+        let at = lowest(left) * ROW;
+        let end = at + ROW;
+        label = meet_at(&t[at..end], left, label);
+        left = others(left);
+    }
+    label
+}
+
+// Row i: the effect with each proposition, in the states of its label.
 fn admit_row(
     r: &mut [u64],
     i: usize,
@@ -23,13 +40,10 @@ fn admit_row(
     width: usize,
 ) -> u64
     requires { ⌜ Row i width need (now r) (now labels) (now t) ⌝ }
-    ensures { λ l. ⌜ (l ≡ labelFor all (now (labels .entry)) (now (t .entry)) need) × RowPut (rowFor all (now (labels .entry)) (now (t .entry)) need) width i (now (r .entry)) (now (r .exit)) ⌝ }
+    ensures { λ l. ⌜ (l ≡ labelFor all (now (t .entry)) need) × RowPut (rowFor all (now (labels .entry)) (now (t .entry)) need) width i (now (r .entry)) (now (r .exit)) ⌝ }
 {
-    meet_row(&mut *r, i, labels, all, t, width, need);
-    let at = i * ROW;
-    let end = at + ROW;
-    let label = meet_at(&r[at..end], need, all);
-    cut_row(&mut *r, i, label, width);
+    let label = label_of(need, all, t);
+    meet_row(&mut *r, i, labels, label, t, width, need);
     label
 }
 
@@ -45,7 +59,7 @@ pub fn admit(
     width: usize,
 )
     requires { ⌜ Admitting n width (now needs) (now labels) (now t) (now r) (now live) ⌝ }
-    ensures { λ _. ⌜ (now (live .exit) ≡ putAt 0 (listOver (length (now (needs .entry))) (λ i. labelFor all (now (labels .entry)) (now (t .entry)) (getD (now (needs .entry)) i 0))) (now (live .entry)))
+    ensures { λ _. ⌜ (now (live .exit) ≡ putAt 0 (listOver (length (now (needs .entry))) (λ i. labelFor all (now (t .entry)) (getD (now (needs .entry)) i 0))) (now (live .entry)))
         × ((i q : ℕ) → i < length (now (needs .entry)) → q < width → cell (now (r .exit)) i q ≡ rowFor all (now (labels .entry)) (now (t .entry)) (getD (now (needs .entry)) i 0) q) ⌝ }
 {
     for i in 0..needs.len() {

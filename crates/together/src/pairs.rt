@@ -19,14 +19,13 @@ pub fn pairs(
     live: &[u64],
     turned: &[u64],
     mates: &mut [u64],
-    n: usize,
-    width: usize,
+    span: usize,
 )
-    requires { ⌜ Pairing n width (now needs) (now interferers) (now live) (now turned) (now mates) ⌝ }
-    ensures { λ _. ⌜ ((i j : ℕ) → i < length (now (needs .entry)) → j < width → cell (now (mates .exit)) i j ≡ withEffect (now (needs .entry)) (now (interferers .entry)) (now (live .entry)) (now (turned .entry)) i j) ⌝ }
+    requires { ⌜ Pairing span (now needs) (now interferers) (now live) (now turned) (now mates) ⌝ }
+    ensures { λ _. ⌜ ((i j : ℕ) → i < length (now (needs .entry)) → j < span → cell (now (mates .exit)) i j ≡ withEffect (now (needs .entry)) (now (interferers .entry)) (now (live .entry)) (now (turned .entry)) i j) ⌝ }
 {
     for i in 0..needs.len() {
-        meet_row(&mut *mates, i, live, live[i], turned, width, wide(needs[i]));
+        meet_row(&mut *mates, i, live, live[i], turned, span, wide(needs[i]));
         clear_cells(&mut *mates, i, interferers[i]);
         mates[i * ROW + i] = live[i];
     }

@@ -59,14 +59,6 @@ module _ (row m : ℕ) (f : ℕ → ℕ) (w : List ℕ) (whole : length w ≡ ta
 -- ---- a row of one part or two, that is put by parts
 
 module _ (row : ℕ) {w w₁ : List ℕ} (t : Target w row) where
-  -- its second part, while the first is put
-  pub part-stays : (f : ℕ → ℕ) → w₁ ≡ putAt (row * rowLength + 0) (listOver partLength f) w → (k : ℕ) → cell w₁ row (partLength + k) ≡ cell w row (partLength + k)
-  unfolding cell
-  part-stays f e k =
-      let l : length (listOver partLength f) ≡ partLength = length-listOver partLength f in
-      ap (λ (x : List ℕ). getD x (row * rowLength + (partLength + k)) 0) e
-      ∙ put-above (row * rowLength + 0) (listOver partLength f) w (omega arith) (row * rowLength + (partLength + k)) (omega arith)
-
   module _ (g : ℕ → ℕ) (e : w₁ ≡ putAt (row * rowLength + 0) (listOver partLength (λ k. g (0 + k))) w) where
     first-part : w₁ ≡ putAt (row * rowLength) (listOver partLength g) w
     first-part = e ∙ ap₂ (λ (x : ℕ) (l : List ℕ). putAt x l w) (add-zero (row * rowLength)) (listOver-eq (λ k h. ap g (zero-add k)))

@@ -3,6 +3,7 @@
 use Prim.Native.Nat.{ℕ, _-_, _^_, _≤_, _<_}
 use mathlib.Core.Path.{_≡_, refl, sym, ap, ap₂, subst, _∙_}
 use mathlib.Core.Bool.{Bool, true, false, So}
+use mathlib.Core.Logic.{⊎-elim}
 use mathlib.Core.List.{List}
 use native.Mathlib.Omega.{arith}
 use native.Mathlib.Nat.{lt-of-lt-of-le}
@@ -10,14 +11,14 @@ use lib.Bits.{bitAnd, and-le-r, or-zero-r}
 use lib.Count.{trailingZeros}
 use lib.ListN.{length, getD}
 use lib.Pow.{pow-mono}
-use Rattle.rules.specs.Test.{_and_, _or_}
+use Rattle.rules.specs.Test.{_and_, _or_, same, choose}
 use Rattle.rules.specs.Word.{bit, common, union, without, single}
 use Rattle.rules.specs.Over.{joinOf, meetOf}
 use Rattle.rules.specs.Lists.{listOver}
 use Rattle.words.specs.Width.{wordWidth}
-use Rattle.rules.proofs.Words.{bit-union, bit-common, bit-below, ext-all, lowest-has, without-lowest, without-lt}
-use Rattle.rules.proofs.Tests.{test-eq, and-assoc, and-of, and-left, and-right}
-use Rattle.rules.proofs.Members.{join-empty, join-pick, meetOf-at, meet-empty, meet-pick}
+use Rattle.rules.proofs.Words.{bit-union, bit-common, bit-below, no-bit-zero, ext-all, lowest-has, without-lowest, without-lt}
+use Rattle.rules.proofs.Tests.{test-eq, and-assoc, and-of, and-left, and-right, choose-failed, holds-or, same-at}
+use Rattle.rules.proofs.Members.{join-empty, join-pick, meetOf-at, meetOf-of, meet-empty, meet-pick}
 use Rattle.rules.proofs.Layers.{length-listOver, getD-listOver, listOver-eq}
 use Rattle.words.proofs.Writes.{list-all}
 
@@ -112,6 +113,23 @@ shares-done {f} {w} {n} {set₀} {left} {met} m h =
     let e : left ≡ 0 = omega arith in
     ext-all (λ s. test-eq (λ t. bit-common s met w ∙ and-of t (m .part s t)) (λ t. and-left _ (sym (bit-common s met w) ∙ t)))
     ∙ ap (common met) (sym (meet-empty n f)) ∙ ap (λ (x : ℕ). common met (meetOf n x f w)) (sym e) ∙ m .is
+
+-- met from less than w
+pub meet-from : (n set w met : ℕ) (f : ℕ → ℕ) → ((s : ℕ) → So (bit s met) → So (bit s w)) → meetOf n set f met ≡ common met (meetOf n set f w)
+meet-from n set w met f part = ext-all (λ s. test-eq
+    (λ t. let (u, each) = meetOf-at s set met f t in bit-common s met (meetOf n set f w) ∙ and-of u (meetOf-of s set w f (part s u) each))
+    (λ t. let u = sym (bit-common s met (meetOf n set f w)) ∙ t in
+    let (_, each) = meetOf-at s set w f (and-right _ u) in meetOf-of s set met f (and-left _ u) each))
+
+-- and from nothing: the members do not count
+pub meet-nothing : (n set w own : ℕ) {rows : ℕ} (f : ℕ → ℕ) → rows ≡ choose (same own 0) 0 set → meetOf n rows f (common w own) ≡ meetOf n set f (common w own)
+meet-nothing n set w own {rows} f e = ⊎-elim
+    (λ t. ext-all (λ s. test-eq (λ b. absurd (none s rows (same-at t) b)) (λ b. absurd (none s set (same-at t) b))))
+    (λ t. ap (λ (x : ℕ). meetOf n x f (common w own)) (e ∙ choose-failed _ _ t))
+    (holds-or (same own 0))
+  where
+    none : (s x : ℕ) → own ≡ 0 → So (bit s (meetOf n x f (common w own))) → ⊥
+    none s x z b = no-bit-zero s (ap (bit s) (sym z) ∙ and-right _ (sym (bit-common s w own) ∙ meetOf-at s x (common w own) f b .0))
 
 -- ---- a loop over the members, word by word of a row: P k left says what word k is while these are left
 

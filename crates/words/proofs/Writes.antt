@@ -187,11 +187,11 @@ list-whole {f} {n} {i} {w₀} s h e = list-done s h ∙ put-whole (listOver n f)
 pub list-front : {f : ℕ → ℕ} {base n i : ℕ} {w₀ w : List ℕ} (b : ℕ) → Lists f base n w₀ i w → b ≤ base → take b w ≡ take b w₀
 list-front {f} {base} {n} {i} {w₀} b s h = ap (take b) (s .is) ∙ put-front base (listOver i f) w₀ (omega (arith, length-listOver i f, s .within, s .room)) b h
 
--- a loop that writes from the front on has not yet changed what lies ahead
-pub list-ahead : {f : ℕ → ℕ} {n i : ℕ} {w₀ w : List ℕ} → Lists f 0 n w₀ i w → getD w i 0 ≡ getD w₀ i 0
-list-ahead {f} {n} {i} {w₀} s =
-    ap (λ (l : List ℕ). getD l i 0) (s .is)
-    ∙ put-above 0 (listOver i f) w₀ (omega (arith, length-listOver i f, s .within, s .room)) i (omega (arith, length-listOver i f))
+-- what lies ahead of such a loop is not changed yet
+pub list-ahead : {f : ℕ → ℕ} {base n i at : ℕ} {w₀ w : List ℕ} → Lists f base n w₀ i w → at ≡ base + i → getD w at 0 ≡ getD w₀ at 0
+list-ahead {f} {base} {n} {i} {at} {w₀} s e =
+    ap (λ (l : List ℕ). getD l at 0) (s .is)
+    ∙ put-above base (listOver i f) w₀ (omega (arith, length-listOver i f, s .within, s .room)) at (omega (arith, length-listOver i f))
 
 -- ---- a loop that writes lists g 0, g 1 .. one behind the other from `base` on: t of n are written, up to `at`
 

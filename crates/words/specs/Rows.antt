@@ -3,7 +3,10 @@ use Prim.Native.Nat.{ℕ, _+_, _*_, _<_, _^_}
 use mathlib.Core.Path.{_≡_}
 use mathlib.Core.Logic.{_⊎_}
 use mathlib.Core.List.{List}
+use lib.Bits.{bitXor}
 use lib.ListN.{length, getD}
+use Rattle.rules.specs.Word.{union}
+use Rattle.rules.specs.Over.{joinOver}
 use Rattle.rules.specs.Lists.{listOver}
 use Rattle.rules.specs.Shared.{startLabel}
 
@@ -21,6 +24,14 @@ tableLength = 1024
 -- word j of row i
 unfoldable pub cell : List ℕ → ℕ → ℕ → ℕ
 cell table i j = getD table (i * rowLength + j) 0
+
+-- a word of a table, joined with the one in its place when the table is turned round
+unfoldable pub bothWays : List ℕ → ℕ → ℕ → ℕ
+bothWays table p q = union (cell table p q) (cell table q p)
+
+-- what that changes in n words of row p of another table
+unfoldable pub changesOf : ℕ → List ℕ → List ℕ → ℕ → ℕ
+changesOf n table old p = joinOver n (λ q. bitXor (bothWays table p q) (cell old p q))
 
 -- a row of a table, to be written
 pub record Target (table : List ℕ) (row : ℕ) : Type 0 where

@@ -5,6 +5,7 @@ use crate::tables::ROW;
 ghost use mathlib.Core.Path.{_≡_};
 ghost use Prim.Native.Nat.{_+_, _*_, _≤_, _<_};
 ghost use lib.ListN.{length, getD};
+ghost use Rattle.rules.specs.Test.{same, choose};
 ghost use Rattle.rules.specs.Word.{common, union};
 ghost use Rattle.rules.specs.Over.{joinOf, meetOf};
 ghost use Rattle.rules.specs.Lists.{listOver};
@@ -107,14 +108,14 @@ fn join_cols(dest: &mut [u64], row: usize, from: &[u64], table: &[u64], col: usi
     put_part(dest, row * ROW + col, &part[..]);
 }
 
-// Part `col` of row `row`, cut to `own`.
-fn cut_cols(dest: &mut [u64], row: usize, own: u64, col: usize)
-    requires { ⌜ Target (now dest) row × (col + partLength ≤ rowLength) ⌝ }
-    ensures { λ r. ⌜ now (dest .exit) ≡ putAt (row * rowLength + col) (listOver partLength (λ k. common (cell (now (dest .entry)) row (col + k)) own)) (now (dest .entry)) ⌝ }
+// The rows that can change words cut to `own`: none where that is empty.
+fn rows_for(own: u64, named: u64) -> u64
+    ensures { λ r. ⌜ (r ≡ choose (same own 0) 0 named) × (r ≤ named) ⌝ }
 {
-    let mut part = [0u64; PART];
-    take_part(&mut part[..], dest, row * ROW + col, own);
-    put_part(dest, row * ROW + col, &part[..]);
+    if own == 0 {
+        return 0;
+    }
+    named
 }
 
 // Row `row` of a table: the start row cut to `own`, met with the named rows of another. `width` is PART or ROW.
@@ -130,9 +131,10 @@ pub fn meet_row(
     requires { ⌜ Target (now dest) row × (length (now start) ≡ rowLength) × Source (now table) named × InParts width ⌝ }
     ensures { λ r. ⌜ now (dest .exit) ≡ putAt (row * rowLength) (listOver width (λ k. meetOf rowLength named (λ i. cell (now (table .entry)) i k) (common (getD (now (start .entry)) k 0) own))) (now (dest .entry)) ⌝ }
 {
-    meet_cols(&mut *dest, row, start, own, table, 0, named);
+    let rows = rows_for(own, named);
+    meet_cols(&mut *dest, row, start, own, table, 0, rows);
     if PART < width {
-        meet_cols(dest, row, start, own, table, PART, named);
+        meet_cols(dest, row, start, own, table, PART, rows);
     }
 }
 
@@ -144,16 +146,5 @@ pub fn join_row(dest: &mut [u64], row: usize, from: &[u64], table: &[u64], width
     join_cols(&mut *dest, row, from, table, 0, named);
     if PART < width {
         join_cols(dest, row, from, table, PART, named);
-    }
-}
-
-// A row cut to a word.
-pub fn cut_row(dest: &mut [u64], row: usize, own: u64, width: usize)
-    requires { ⌜ Target (now dest) row × InParts width ⌝ }
-    ensures { λ r. ⌜ now (dest .exit) ≡ putAt (row * rowLength) (listOver width (λ k. common (cell (now (dest .entry)) row k) own)) (now (dest .entry)) ⌝ }
-{
-    cut_cols(&mut *dest, row, own, 0);
-    if PART < width {
-        cut_cols(dest, row, own, PART);
     }
 }

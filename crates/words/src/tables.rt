@@ -3,14 +3,13 @@ use crate::members::lowest;
 use crate::members::others;
 ghost use mathlib.Core.Path.{_≡_};
 ghost use Prim.Native.Nat.{ℕ, _+_, _*_, _≤_, _<_, _^_};
-ghost use lib.Bits.{bitXor};
 ghost use lib.ListN.{length, getD};
 ghost use Rattle.rules.specs.Test.{_and_, same, choose};
-ghost use Rattle.rules.specs.Word.{bit, common, union, without};
+ghost use Rattle.rules.specs.Word.{bit, common, without};
 ghost use Rattle.rules.specs.Over.{joinOver};
 ghost use Rattle.rules.specs.Lists.{listOver};
 ghost use Rattle.words.specs.Memory.{putAt};
-ghost use Rattle.words.specs.Rows.{rowLength, tableLength, cell};
+ghost use Rattle.words.specs.Rows.{rowLength, tableLength, cell, bothWays, changesOf};
 
 // From one row of a table to the next.
 pub const ROW: usize = 32;
@@ -81,16 +80,28 @@ pub fn turn(to: &mut [u64], from: &[u64], m: usize, n: usize)
     }
 }
 
-// A table becomes the union of two others, over its first n words; what changed.
-pub fn join_tables(table: &mut [u64], one: &[u64], other: &[u64], n: usize) -> u64
-    requires { ⌜ (n ≤ length (now table)) × (n ≤ length (now one)) × (n ≤ length (now other)) ⌝ }
-    ensures { λ r. ⌜ (now (table .exit) ≡ putAt 0 (listOver n (λ i. union (getD (now (one .entry)) i 0) (getD (now (other .entry)) i 0))) (now (table .entry))) × (r ≡ joinOver n (λ i. bitXor (union (getD (now (one .entry)) i 0) (getD (now (other .entry)) i 0)) (getD (now (table .entry)) i 0))) ⌝ }
+// Row p of a table becomes row p of another joined with its column p; what changed.
+fn join_turned_row(table: &mut [u64], one: &[u64], p: usize, n: usize) -> u64
+    requires { ⌜ (length (now table) ≡ tableLength) × (length (now one) ≡ tableLength) × (p < rowLength) × (n ≤ rowLength) ⌝ }
+    ensures { λ r. ⌜ (now (table .exit) ≡ putAt (p * rowLength) (listOver n (bothWays (now (one .entry)) p)) (now (table .entry))) × (r ≡ changesOf n (now (one .entry)) (now (table .entry)) p) ⌝ }
 {
     let mut fresh = 0;
-    for i in 0..n {
-        let word = one[i] | other[i];
-        fresh = fresh | (word ^ table[i]);
-        table[i] = word;
+    for q in 0..n {
+        let word = one[p * ROW + q] | one[q * ROW + p];
+        fresh = fresh | (word ^ table[p * ROW + q]);
+        table[p * ROW + q] = word;
+    }
+    fresh
+}
+
+// A table becomes another joined with the same turned round, over n rows and columns; what changed.
+pub fn join_turned(table: &mut [u64], one: &[u64], n: usize) -> u64
+    requires { ⌜ (length (now table) ≡ tableLength) × (length (now one) ≡ tableLength) × (n ≤ rowLength) ⌝ }
+    ensures { λ r. ⌜ ((p q : ℕ) → p < n → q < n → cell (now (table .exit)) p q ≡ bothWays (now (one .entry)) p q) × (r ≡ joinOver n (changesOf n (now (one .entry)) (now (table .entry)))) ⌝ }
+{
+    let mut fresh = 0;
+    for p in 0..n {
+        fresh = fresh | join_turned_row(&mut *table, one, p, n);
     }
     fresh
 }

@@ -13,7 +13,7 @@ use Rattle.together.proofs.Rows.{parts-le}
 use Rattle.graph.specs.Format.{startOf}
 use Rattle.graph.specs.Checks.{Small}
 use Rattle.graph.proofs.Ladder.{small-of}
-use Rattle.build.proofs.Listings.{wide-for, adders-inside, interferers-inside, adds-same, dels-same, adders-count, interferers-same, steps-fit}
+use Rattle.build.proofs.Listings.{wide-for, spans-for, adders-inside, interferers-inside, adds-same, dels-same, adders-count, interferers-same, steps-fit}
 use Rattle.build.proofs.Whole.{graph-made}
 use Rattle.build.proofs.build_in.Statement.{statement}
 use Rattle.build.proofs.build_in.Tie as tie
@@ -25,10 +25,10 @@ entry c = c .before .before .before .before .before .before .before .before .bef
 abbrev problem : tie.After-start-labels → tie.After-read-problem
 problem c = c .before .before .before .before .before .before .before .before .before .before .before .before .before .before
 
-abbrev labels : tie.After-width-for → tie.After-start-labels
-labels c = c .before .before .before
+abbrev labels : tie.After-width-for2 → tie.After-start-labels
+labels c = c .before .before .before .before
 
-abbrev wide : tie.After-start → tie.After-width-for
+abbrev wide : tie.After-start → tie.After-width-for2
 wide c = c .before .before .before .before .before
 
 abbrev begun : tie.After-steps-until → tie.After-start
@@ -58,14 +58,17 @@ start-labels-requires : tie.Need-start-labels-requires
 start-labels-requires c κs = search needs
 
 width-for-requires : tie.Need-width-for-requires
-width-for-requires c κs = entry (problem (c .before .before)) .pre .0 .0 .ranged
+width-for-requires c κs = omega (arith, entry (problem (c .before .before)) .pre .0 .0 .ranged .props)
+
+width-for-requires-2 : tie.Need-width-for-requires-2
+width-for-requires-2 c κs = omega (arith, entry (problem (c .before .before .before)) .pre .0 .0 .ranged .effects)
 
 start-requires : tie.Need-start-requires
 start-requires c κs =
     let at-width = c .before .before .before .before in
     let read = problem (labels at-width) in
     let rooms = entry read .pre .1 in
-    let w = at-width .width-for .ensures in
+    let w = at-width .before .width-for .ensures in
     (record { parts = w .0; props = w .1; labels-long = labels-long (labels at-width); t-long = rooms .t-long; spare-long = rooms .spare-long }, fits read)
 
 first-requires : tie.Need-first-requires
@@ -76,15 +79,15 @@ many-pairs-requires c κs =
     let at-width = wide (c .before .before .before .before .before .before .before .before .before .before .before) in
     let read = problem (labels at-width) in
     let start = entry read in
-    let w = at-width .width-for .ensures in (
+    let is = read .read-problem .ensures in
+    let s = at-width .width-for2 .ensures in (
       omega (
         arith,
-        interferers-same (start .args .file .now) (start .args .c) _ _ _ _ _ _ (start .pre .0 .0) (read .read-problem .ensures),
-        w .2,
-        parts-le (w .0),
-        wide-for (start .args .file .now) (start .args .c) _ _ _ _ _ _ (start .pre .0 .0) (read .read-problem .ensures) _ (w .0) (w .1) (w .2) .effects,
+        interferers-same (start .args .file .now) (start .args .c) _ _ _ _ _ _ (start .pre .0 .0) is,
+        spans-for (start .args .file .now) (start .args .c) _ _ _ _ _ _ (start .pre .0 .0) is _ (s .0) (s .1) .effects,
+        parts-le (s .0),
       ),
-      parts-le (w .0),
+      parts-le (s .0),
     )
 
 steps-until-requires : tie.Need-steps-until-requires
@@ -95,10 +98,12 @@ steps-until-requires c κs =
     let start = entry read in
     let rooms = start .pre .1 in
     let is = read .read-problem .ensures in
-    let w = at-width .width-for .ensures in
+    let w = at-width .before .width-for .ensures in
+    let s = at-width .width-for2 .ensures in
     record {
       mating = record {
-        wide = wide-for (start .args .file .now) (start .args .c) _ _ _ _ _ _ (start .pre .0 .0) is _ (w .0) (w .1) (w .2);
+        wide = wide-for (start .args .file .now) (start .args .c) _ _ _ _ _ _ (start .pre .0 .0) is _ (w .0) (w .1);
+        spans = spans-for (start .args .file .now) (start .args .c) _ _ _ _ _ _ (start .pre .0 .0) is _ (s .0) (s .1);
         adds-long = adds-same (start .args .file .now) (start .args .c) _ _ _ _ _ _ (start .pre .0 .0) is;
         dels-long = dels-same (start .args .file .now) (start .args .c) _ _ _ _ _ _ (start .pre .0 .0) is;
         adders-long = adders-count (start .args .file .now) (start .args .c) _ _ _ _ _ _ (start .pre .0 .0) is;
@@ -161,13 +166,13 @@ same-length-7 c = problem (labels (wide (begun (made c)))) .read-problem .kept .
 
 same-length-8 : tie.Need-same-length-8
 same-length-8 c = let steps = made c in
-    steps .steps-until .kept .1 .1 .1 .1 .1 .1 .1 .1 .1 .1 .1 .0 ∙ labels (wide (begun steps)) .start-labels .kept .1 .1 .0
+    steps .steps-until .kept .1 .1 .1 .1 .1 .1 .1 .1 .1 .1 .1 .1 .0 ∙ labels (wide (begun steps)) .start-labels .kept .1 .1 .0
 
 same-length-9 : tie.Need-same-length-9
 same-length-9 c = search needs
 
 same-length-10 : tie.Need-same-length-10
-same-length-10 c = let steps = made c in steps .steps-until .kept .1 .1 .1 .1 .1 .1 .1 .1 .1 .1 .1 .1 .1 .0 ∙ begun steps .start .kept .1 .0
+same-length-10 c = let steps = made c in steps .steps-until .kept .1 .1 .1 .1 .1 .1 .1 .1 .1 .1 .1 .1 .1 .1 .0 ∙ begun steps .start .kept .1 .0
 
 same-length-11 : tie.Need-same-length-11
 same-length-11 c = search needs
@@ -200,6 +205,7 @@ build-in-spec =
     read-problem-requires
     start-labels-requires
     width-for-requires
+    width-for-requires-2
     start-requires
     first-requires
     many-pairs-requires

@@ -20,10 +20,10 @@ mul-result-2 : tie.Need-mul-result-2
 mul-result-2 c = search needs
 
 mul-result-3 : tie.Need-mul-result-3
-mul-result-3 c = omega (arith, few-product {a = 9 * c .before .before .args .width} {b = length (c .before .before .args .interferers .now)} (omega arith) (omega arith))
+mul-result-3 c = omega (arith, few-product {a = 9 * c .before .before .args .span} {b = length (c .before .before .args .interferers .now)} (omega arith) (omega arith))
 
 add-result : tie.Need-add-result
-add-result c = omega (arith, c .count-interferers .ensures, few-product {a = 9 * c .before .before .args .width} {b = length (c .before .before .args .interferers .now)} (omega arith) (omega arith))
+add-result c = omega (arith, c .count-interferers .ensures, few-product {a = 9 * c .before .before .args .span} {b = length (c .before .before .args .interferers .now)} (omega arith) (omega arith))
 
 mul-result-4 : tie.Need-mul-result-4
 mul-result-4 c = search needs

@@ -1,4 +1,4 @@
--- A part where both fit it, else the whole row.
+-- A part where they fit it, else the whole row.
 use mathlib.Core.Path.{refl}
 use mathlib.Core.Logic.{inl, inr}
 use native.Mathlib.Omega.{arith}
@@ -6,13 +6,10 @@ use Rattle.build.proofs.problem.width_for.Statement.{statement}
 use Rattle.build.proofs.problem.width_for.Tie as tie
 
 returns : tie.Need-returns
-returns c = (inr refl, omega arith, omega arith)
+returns c = (inr refl, omega arith)
 
 returns-2 : tie.Need-returns-2
-returns-2 c = (inr refl, omega arith, omega arith)
-
-returns-3 : tie.Need-returns-3
-returns-3 c = (inl refl, omega arith, omega arith)
+returns-2 c = (inl refl, omega arith)
 
 pub width-for-spec : {M : Type 1} → statement M
-width-for-spec = tie.close (tie.spec returns returns-2 returns-3)
+width-for-spec = tie.close (tie.spec returns returns-2)

@@ -13,11 +13,11 @@ use Rattle.build.proofs.steps.steps_until.Statement.{statement}
 use Rattle.build.proofs.steps.steps_until.Tie as tie
 
 abbrev Inv-loop : tie.InvT-loop
-Inv-loop words₀ n needs adds dels adders interferers all many width depth labels₀ live₀ t₀ r₀ mates₀ besides₀ spare₀ act apart at₀ k₀ words labels live t r mates besides spare at k =
-    Stepping n width depth all needs adds dels adders interferers labels₀ t₀ words₀ k at words labels live t r mates besides spare
+Inv-loop words₀ n needs adds dels adders interferers all many width span depth labels₀ live₀ t₀ r₀ mates₀ besides₀ spare₀ act apart at₀ k₀ words labels live t r mates besides spare at k =
+    Stepping n width span depth all needs adds dels adders interferers labels₀ t₀ words₀ k at words labels live t r mates besides spare
 
 abbrev μ-loop : tie.MeasureT-loop
-μ-loop words₀ n needs adds dels adders interferers all many width depth labels₀ live₀ t₀ r₀ mates₀ besides₀ spare₀ act apart at₀ k₀ words labels live t r mates besides spare at k =
+μ-loop words₀ n needs adds dels adders interferers all many width span depth labels₀ live₀ t₀ r₀ mates₀ besides₀ spare₀ act apart at₀ k₀ words labels live t r mates besides spare at k =
     depth - k
 
 -- places, each from a later one
@@ -45,8 +45,8 @@ to-step-of-Else1 c = c .before .before .before .before .before .before .before .
 abbrev to-step-of-Then1 : tie.Then1 Inv-loop μ-loop → tie.After-step Inv-loop μ-loop
 to-step-of-Then1 c = c .before .before .before .before .before .before .before .before .before .before .before .before .before .before .before .before .before
 
-add-t26 : tie.Need-add-t26 Inv-loop μ-loop
-add-t26 c = let start = to-start c in
+add-t27 : tie.Need-add-t27 Inv-loop μ-loop
+add-t27 c = let start = to-start c in
     let w = start .pre .mating .wide in
     omega (arith, w .props, w .effects, parts-le (w .parts))
 
@@ -73,7 +73,7 @@ layer-size-requires-2 c κs = let start = to-start (to-slice-known8 (to-layer-si
 
 loop-holds : tie.Need-loop-holds Inv-loop μ-loop
 loop-holds c = let a = (to-start (to-slice-known8 (to-layer-size (c .before)))) .args in
-    stepping-none (a .n) (a .width) (a .depth) (a .all) _ (a .needs .now) (a .adds .now) (a .dels .now) (a .adders .now) (a .interferers .now) (a .labels .now) (a .t .now) (a .words .now)
+    stepping-none (a .n) (a .width) (a .span) (a .depth) (a .all) _ (a .needs .now) (a .adds .now) (a .dels .now) (a .adders .now) (a .interferers .now) (a .labels .now) (a .t .now) (a .words .now)
     (a .live .now) (a .r .now) (a .mates .now) (a .besides .now) (a .spare .now) ((to-start (to-slice-known8 (to-layer-size (c .before)))) .pre) (c .layer-size2 .ensures .0)
 
 mul-step : tie.Need-mul-step Inv-loop μ-loop
@@ -99,31 +99,31 @@ same-length c = let at-loop = to-loop (to-turn (to-step-of-Then1 c)) in
     same-len-mid (at-loop .loop .at) (length (at-loop .loop .words) - at-loop .loop .at) (at-loop .loop .words) ((to-step-of-Then1 c) .step .last .0) ((to-step-of-Then1 c) .step .kept .0) ∙ at-loop .loop .inv .long
 
 same-length-2 : tie.Need-same-length-2 Inv-loop μ-loop
-same-length-2 c = (to-step-of-Then1 c) .step .kept .1 .1 .1 .1 .1 .1 .1 .1 .1 .1 .1 .0 ∙ (to-loop (to-turn (to-step-of-Then1 c))) .loop .inv .lent .labels-long ∙ sym ((to-start (to-slice-known8 (to-layer-size (to-stride (to-loop (to-turn (to-step-of-Then1 c))))))) .pre .labels-long)
+same-length-2 c = (to-step-of-Then1 c) .step .kept .1 .1 .1 .1 .1 .1 .1 .1 .1 .1 .1 .1 .0 ∙ (to-loop (to-turn (to-step-of-Then1 c))) .loop .inv .lent .labels-long ∙ sym ((to-start (to-slice-known8 (to-layer-size (to-stride (to-loop (to-turn (to-step-of-Then1 c))))))) .pre .labels-long)
 
 same-length-3 : tie.Need-same-length-3 Inv-loop μ-loop
-same-length-3 c = (to-step-of-Then1 c) .step .kept .1 .1 .1 .1 .1 .1 .1 .1 .1 .1 .1 .1 .0 ∙ (to-loop (to-turn (to-step-of-Then1 c))) .loop .inv .lent .mating .live-long ∙ sym ((to-start (to-slice-known8 (to-layer-size (to-stride (to-loop (to-turn (to-step-of-Then1 c))))))) .pre .mating .live-long)
+same-length-3 c = (to-step-of-Then1 c) .step .kept .1 .1 .1 .1 .1 .1 .1 .1 .1 .1 .1 .1 .1 .0 ∙ (to-loop (to-turn (to-step-of-Then1 c))) .loop .inv .lent .mating .live-long ∙ sym ((to-start (to-slice-known8 (to-layer-size (to-stride (to-loop (to-turn (to-step-of-Then1 c))))))) .pre .mating .live-long)
 
 same-length-4 : tie.Need-same-length-4 Inv-loop μ-loop
-same-length-4 c = (to-step-of-Then1 c) .step .kept .1 .1 .1 .1 .1 .1 .1 .1 .1 .1 .1 .1 .1 .0 ∙ (to-loop (to-turn (to-step-of-Then1 c))) .loop .inv .lent .t-long ∙ sym ((to-start (to-slice-known8 (to-layer-size (to-stride (to-loop (to-turn (to-step-of-Then1 c))))))) .pre .t-long)
+same-length-4 c = (to-step-of-Then1 c) .step .kept .1 .1 .1 .1 .1 .1 .1 .1 .1 .1 .1 .1 .1 .1 .0 ∙ (to-loop (to-turn (to-step-of-Then1 c))) .loop .inv .lent .t-long ∙ sym ((to-start (to-slice-known8 (to-layer-size (to-stride (to-loop (to-turn (to-step-of-Then1 c))))))) .pre .t-long)
 
 same-length-5 : tie.Need-same-length-5 Inv-loop μ-loop
-same-length-5 c = (to-step-of-Then1 c) .step .kept .1 .1 .1 .1 .1 .1 .1 .1 .1 .1 .1 .1 .1 .1 .0 ∙ (to-loop (to-turn (to-step-of-Then1 c))) .loop .inv .lent .mating .r-long ∙ sym ((to-start (to-slice-known8 (to-layer-size (to-stride (to-loop (to-turn (to-step-of-Then1 c))))))) .pre .mating .r-long)
+same-length-5 c = (to-step-of-Then1 c) .step .kept .1 .1 .1 .1 .1 .1 .1 .1 .1 .1 .1 .1 .1 .1 .1 .0 ∙ (to-loop (to-turn (to-step-of-Then1 c))) .loop .inv .lent .mating .r-long ∙ sym ((to-start (to-slice-known8 (to-layer-size (to-stride (to-loop (to-turn (to-step-of-Then1 c))))))) .pre .mating .r-long)
 
 same-length-6 : tie.Need-same-length-6 Inv-loop μ-loop
-same-length-6 c = (to-step-of-Then1 c) .step .kept .1 .1 .1 .1 .1 .1 .1 .1 .1 .1 .1 .1 .1 .1 .1 .0 ∙ (to-loop (to-turn (to-step-of-Then1 c))) .loop .inv .lent .mating .mates-long ∙ sym ((to-start (to-slice-known8 (to-layer-size (to-stride (to-loop (to-turn (to-step-of-Then1 c))))))) .pre .mating .mates-long)
+same-length-6 c = (to-step-of-Then1 c) .step .kept .1 .1 .1 .1 .1 .1 .1 .1 .1 .1 .1 .1 .1 .1 .1 .1 .0 ∙ (to-loop (to-turn (to-step-of-Then1 c))) .loop .inv .lent .mating .mates-long ∙ sym ((to-start (to-slice-known8 (to-layer-size (to-stride (to-loop (to-turn (to-step-of-Then1 c))))))) .pre .mating .mates-long)
 
 same-length-7 : tie.Need-same-length-7 Inv-loop μ-loop
-same-length-7 c = (to-step-of-Then1 c) .step .kept .1 .1 .1 .1 .1 .1 .1 .1 .1 .1 .1 .1 .1 .1 .1 .1 .0 ∙ (to-loop (to-turn (to-step-of-Then1 c))) .loop .inv .lent .mating .besides-long ∙ sym ((to-start (to-slice-known8 (to-layer-size (to-stride (to-loop (to-turn (to-step-of-Then1 c))))))) .pre .mating .besides-long)
+same-length-7 c = (to-step-of-Then1 c) .step .kept .1 .1 .1 .1 .1 .1 .1 .1 .1 .1 .1 .1 .1 .1 .1 .1 .1 .0 ∙ (to-loop (to-turn (to-step-of-Then1 c))) .loop .inv .lent .mating .besides-long ∙ sym ((to-start (to-slice-known8 (to-layer-size (to-stride (to-loop (to-turn (to-step-of-Then1 c))))))) .pre .mating .besides-long)
 
 same-length-8 : tie.Need-same-length-8 Inv-loop μ-loop
-same-length-8 c = (to-step-of-Then1 c) .step .kept .1 .1 .1 .1 .1 .1 .1 .1 .1 .1 .1 .1 .1 .1 .1 .1 .1 .0 ∙ (to-loop (to-turn (to-step-of-Then1 c))) .loop .inv .lent .mating .spare-long ∙ sym ((to-start (to-slice-known8 (to-layer-size (to-stride (to-loop (to-turn (to-step-of-Then1 c))))))) .pre .mating .spare-long)
+same-length-8 c = (to-step-of-Then1 c) .step .kept .1 .1 .1 .1 .1 .1 .1 .1 .1 .1 .1 .1 .1 .1 .1 .1 .1 .1 .0 ∙ (to-loop (to-turn (to-step-of-Then1 c))) .loop .inv .lent .mating .spare-long ∙ sym ((to-start (to-slice-known8 (to-layer-size (to-stride (to-loop (to-turn (to-step-of-Then1 c))))))) .pre .mating .spare-long)
 
 returns : tie.Need-returns Inv-loop μ-loop
 returns c = let did = (to-step-of-Then1 c) .step in (
   omega (arith, (to-turn (to-step-of-Then1 c)) .loop-test .taken),
   λ h. omega arith,
-  stepping-rest ((to-loop (to-turn (to-step-of-Then1 c))) .loop .inv) ((to-turn (to-step-of-Then1 c)) .loop-test .taken) (did .last .1 .1 .1 .1 .1 .1 .1 .1 .1 .1 .1 .0) (did .last .1 .1 .1 .1 .1 .1 .1 .1 .1 .1 .1 .1 .0) (did .last .1 .1 .1 .1 .1 .1 .1 .1 .1 .1 .1 .1 .1 .0) (did .last .1 .1 .1 .1 .1 .1 .1 .1 .1 .1 .1 .1 .1 .1 .0) (did .last .1 .1 .1 .1 .1 .1 .1 .1 .1 .1 .1 .1 .1 .1 .1 .0) (did .last .1 .1 .1 .1 .1 .1 .1 .1 .1 .1 .1 .1 .1 .1 .1 .1 .0) (did .last .1 .1 .1 .1 .1 .1 .1 .1 .1 .1 .1 .1 .1 .1 .1 .1 .1 .0)
+  stepping-rest ((to-loop (to-turn (to-step-of-Then1 c))) .loop .inv) ((to-turn (to-step-of-Then1 c)) .loop-test .taken) (did .last .1 .1 .1 .1 .1 .1 .1 .1 .1 .1 .1 .1 .0) (did .last .1 .1 .1 .1 .1 .1 .1 .1 .1 .1 .1 .1 .1 .0) (did .last .1 .1 .1 .1 .1 .1 .1 .1 .1 .1 .1 .1 .1 .1 .0) (did .last .1 .1 .1 .1 .1 .1 .1 .1 .1 .1 .1 .1 .1 .1 .1 .0) (did .last .1 .1 .1 .1 .1 .1 .1 .1 .1 .1 .1 .1 .1 .1 .1 .1 .0) (did .last .1 .1 .1 .1 .1 .1 .1 .1 .1 .1 .1 .1 .1 .1 .1 .1 .1 .0) (did .last .1 .1 .1 .1 .1 .1 .1 .1 .1 .1 .1 .1 .1 .1 .1 .1 .1 .1 .0)
       (did .last .0) _ (did .ensures) (c .if1 .taken),
 )
 
@@ -139,9 +139,9 @@ loop-less c = omega (arith, (to-turn (to-step-of-Else1 c)) .loop-test .taken)
 
 loop-again : tie.Need-loop-again Inv-loop μ-loop
 loop-again c = let did = (to-step-of-Else1 c) .step in
-    stepping-more ((to-loop (to-turn (to-step-of-Else1 c))) .loop .inv) ((to-turn (to-step-of-Else1 c)) .loop-test .taken) (did .last .1 .1 .1 .1 .1 .1 .1 .1 .1 .1 .1 .0) (did .last .1 .1 .1 .1 .1 .1 .1 .1 .1 .1 .1 .1 .0) (did .last .1 .1 .1 .1 .1 .1 .1 .1 .1 .1 .1 .1 .1 .0) (did .last .1 .1 .1 .1 .1 .1 .1 .1 .1 .1 .1 .1 .1 .1 .0) (did .last .1 .1 .1 .1 .1 .1 .1 .1 .1 .1 .1 .1 .1 .1 .1 .0) (did .last .1 .1 .1 .1 .1 .1 .1 .1 .1 .1 .1 .1 .1 .1 .1 .1 .0) (did .last .1 .1 .1 .1 .1 .1 .1 .1 .1 .1 .1 .1 .1 .1 .1 .1 .1 .0)
-    (did .last .0) _ (did .ensures) _ (omega (arith, far-is (to-stride (to-loop (to-turn (to-step-of-Else1 c)))))) (did .kept .0) (did .kept .1 .1 .1 .1 .1 .1 .1 .1 .1 .1 .1 .0) (did .kept .1 .1 .1 .1 .1 .1 .1 .1 .1 .1 .1 .1 .0) (did .kept .1 .1 .1 .1 .1 .1 .1 .1 .1 .1 .1 .1 .1 .0) (did .kept .1 .1 .1 .1 .1 .1 .1 .1 .1 .1 .1 .1 .1 .1 .0)
-    (did .kept .1 .1 .1 .1 .1 .1 .1 .1 .1 .1 .1 .1 .1 .1 .1 .0) (did .kept .1 .1 .1 .1 .1 .1 .1 .1 .1 .1 .1 .1 .1 .1 .1 .1 .0) (did .kept .1 .1 .1 .1 .1 .1 .1 .1 .1 .1 .1 .1 .1 .1 .1 .1 .1 .0)
+    stepping-more ((to-loop (to-turn (to-step-of-Else1 c))) .loop .inv) ((to-turn (to-step-of-Else1 c)) .loop-test .taken) (did .last .1 .1 .1 .1 .1 .1 .1 .1 .1 .1 .1 .1 .0) (did .last .1 .1 .1 .1 .1 .1 .1 .1 .1 .1 .1 .1 .1 .0) (did .last .1 .1 .1 .1 .1 .1 .1 .1 .1 .1 .1 .1 .1 .1 .0) (did .last .1 .1 .1 .1 .1 .1 .1 .1 .1 .1 .1 .1 .1 .1 .1 .0) (did .last .1 .1 .1 .1 .1 .1 .1 .1 .1 .1 .1 .1 .1 .1 .1 .1 .0) (did .last .1 .1 .1 .1 .1 .1 .1 .1 .1 .1 .1 .1 .1 .1 .1 .1 .1 .0) (did .last .1 .1 .1 .1 .1 .1 .1 .1 .1 .1 .1 .1 .1 .1 .1 .1 .1 .1 .0)
+    (did .last .0) _ (did .ensures) _ (omega (arith, far-is (to-stride (to-loop (to-turn (to-step-of-Else1 c)))))) (did .kept .0) (did .kept .1 .1 .1 .1 .1 .1 .1 .1 .1 .1 .1 .1 .0) (did .kept .1 .1 .1 .1 .1 .1 .1 .1 .1 .1 .1 .1 .1 .0) (did .kept .1 .1 .1 .1 .1 .1 .1 .1 .1 .1 .1 .1 .1 .1 .0) (did .kept .1 .1 .1 .1 .1 .1 .1 .1 .1 .1 .1 .1 .1 .1 .1 .0)
+    (did .kept .1 .1 .1 .1 .1 .1 .1 .1 .1 .1 .1 .1 .1 .1 .1 .1 .0) (did .kept .1 .1 .1 .1 .1 .1 .1 .1 .1 .1 .1 .1 .1 .1 .1 .1 .1 .0) (did .kept .1 .1 .1 .1 .1 .1 .1 .1 .1 .1 .1 .1 .1 .1 .1 .1 .1 .1 .0)
 
 same-length-9 : tie.Need-same-length-9 Inv-loop μ-loop
 same-length-9 c = c .before .loop .inv .long
@@ -176,7 +176,7 @@ steps-until-spec =
     (tie.spec
     Inv-loop
     μ-loop
-    add-t26
+    add-t27
     layer-size-requires
     stride-requires
     layer-size-requires-2

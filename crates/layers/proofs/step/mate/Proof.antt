@@ -1,7 +1,9 @@
 -- One by one, or by rows: turned, paired, cut, joined over the adders, and turned back.
+use mathlib.Core.Path.{refl}
 use native.Mathlib.Omega.{arith}
 use borrow.Author.Needs.{needs}
-use Rattle.together.proofs.Rows.{parts-le}
+use Rattle.words.specs.Rows.{rowLength}
+use Rattle.together.proofs.Rows.{parts-le, inside-lt}
 use Rattle.layers.proofs.Stages.{few-made, rows-made}
 use Rattle.layers.proofs.step.mate.Statement.{statement}
 use Rattle.layers.proofs.step.mate.Tie as tie
@@ -46,7 +48,8 @@ turn-requires c κs = let start = to-start c in
 pairs-requires : tie.Need-pairs-requires
 pairs-requires c κs = let start = to-start (to-turn-arg (c .before .before .before .before)) in
     record {
-      wide = start .pre .wide;
+      spans = start .pre .spans;
+      needs-inside = λ v h. inside-lt {n = start .args .n} rowLength (start .args .needs .now) v (start .pre .wide .inside) (omega (arith, start .pre .wide .props, parts-le (start .pre .wide .parts))) h refl;
       interferers-long = start .pre .interferers-long;
       interferers-inside = start .pre .interferers-inside;
       live-long = start .pre .live-long;
@@ -75,7 +78,7 @@ join-rows-requires c κs =
       table-long = omega (arith, start .pre .mates-long, to-pairs at-cut .pairs .kept .1 .1 .1 .1 .0);
       few = omega (arith, start .pre .adders-long, wide .props, parts-le (wide .parts));
       rows = start .pre .adders-inside;
-      parts = wide .parts;
+      parts = start .pre .spans .parts;
     }
 
 turn-requires-2 : tie.Need-turn-requires-2
@@ -110,7 +113,7 @@ returns-2 c = λ A all labels t told del is adm.
     let start = to-start (to-turn-arg at-turn) in
     let a = start .args in
     rows-made A all (a .n) (a .width) (a .needs .now) (a .adds .now) (a .dels .now) (a .adders .now) (a .interferers .now) (a .live .now) (a .r .now)
-    labels t told (start .pre .wide) del is adm _ _ _ _ _ (start .pre .adders-long) (start .pre .dels-long)
+    labels t told (start .pre .wide) del is adm (a .span) _ _ _ _ _ (start .pre .spans) (start .pre .adders-long) (start .pre .dels-long)
     (at-turn .turn .ensures) (at-pairs .pairs .ensures) (at-cut .cut-columns .ensures) (at-join .join-rows .ensures)
     (c .before .before .turn2 .ensures)
 

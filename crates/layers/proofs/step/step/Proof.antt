@@ -27,13 +27,13 @@ abbrev to-cut-rows : tie.After-put-actions → tie.After-cut-rows
 to-cut-rows c = c .before .before .before .before .before .before .before .before .before
 
 abbrev to-put-actions : tie.After-next → tie.After-put-actions
-to-put-actions c = c .before .before .before .before .before .before .before .before
+to-put-actions c = c .before .before .before .before .before .before .before
 
-abbrev before-put-props : tie.After-slice-known19 → tie.After-next
-before-put-props c = c .before .before .before .before .before .before .before .before
+abbrev before-put-props : tie.After-slice-known18 → tie.After-next
+before-put-props c = c .before .before .before .before .before .before
 
-abbrev behind-put-props : tie.After-slice-known20 → tie.After-next
-behind-put-props c = c .before .before .before .before .before .before .before .before .before .before .before .before .before .before
+abbrev behind-put-props : tie.After-slice-known19 → tie.After-next
+behind-put-props c = c .before .before .before .before .before .before .before .before .before .before .before .before
 
 abbrev entry : tie.After-put-actions → tie.Start
 entry c = to-start (to-admit (to-mate (to-cut-rows c)))
@@ -57,6 +57,7 @@ mate-requires c κs =
     let m = to-start at-admit .pre .mating in
     record {
       wide = m .wide;
+      spans = m .spans;
       adds-long = m .adds-long;
       dels-long = m .dels-long;
       adders-long = m .adders-long;
@@ -98,7 +99,7 @@ put-actions-requires c κs =
 
 next-requires : tie.Need-next-requires
 next-requires c κs =
-    let at-cut = to-cut-rows (c .before .before .before .before .before .before .before) in
+    let at-cut = to-cut-rows (c .before .before .before .before .before .before) in
     let at-mate = to-mate at-cut in
     let start = to-start (to-admit at-mate) in
     let m = start .pre .mating in
@@ -110,7 +111,6 @@ next-requires c κs =
       besides-long = at-mate .mate .kept .1 .1 .1 .1 .1 .1 .1 .1 .1 .1 .0 ∙ m .besides-long;
       t-long = start .pre .t-long;
       spare-long = at-mate .mate .kept .1 .1 .1 .1 .1 .1 .1 .1 .1 .1 .1 .0 ∙ m .spare-long;
-      turned-long = cut-long at-cut;
       labels-long = start .pre .labels-long;
     }
 
@@ -132,14 +132,14 @@ part-put-props-end c = search needs
 
 put-props-requires : tie.Need-put-props-requires
 put-props-requires c κs =
-    let at-next = c .before .before .before .before .before .before .before .before .before .before .before in
+    let at-next = c .before .before .before .before .before .before .before .before .before in
     let at-put = to-put-actions at-next in
     let start = entry at-put in
     let m = start .pre .mating in
     let few = parts-le (m .wide .parts) in (
       record {
         props = omega (arith, m .wide .props, few);
-        labels-long = at-next .next .kept .1 .1 .1 .1 .1 .1 .0 ∙ start .pre .labels-long;
+        labels-long = at-next .next .kept .1 .1 .1 .1 .1 .0 ∙ start .pre .labels-long;
         t-long = at-next .next .kept .1 .1 .1 .0 ∙ start .pre .t-long;
       },
       omega (arith, room at-put, tail-length (start .args .at) (at-put .put-actions .last .0) (omega (arith, room at-put))),
@@ -155,7 +155,7 @@ same-length c =
     same-len-mid at (length w - at) w (did .last .0) (did .kept .0) ∙ at-put .put-actions .kept .0
 
 same-length-2 : tie.Need-same-length-2
-same-length-2 c = behind-put-props c .next .kept .1 .1 .1 .1 .1 .1 .0
+same-length-2 c = behind-put-props c .next .kept .1 .1 .1 .1 .1 .0
 
 same-length-3 : tie.Need-same-length-3
 same-length-3 c = to-admit (to-mate (to-cut-rows (to-put-actions (behind-put-props c)))) .admit .kept .1 .1 .1 .1 .1 .0
@@ -165,9 +165,8 @@ same-length-4 c = behind-put-props c .next .kept .1 .1 .1 .0
 
 same-length-5 : tie.Need-same-length-5
 same-length-5 c =
-    let at-next = behind-put-props c in
-    let at-cut = to-cut-rows (to-put-actions at-next) in
-    at-next .next .kept .1 .1 .1 .1 .1 .0 ∙ at-cut .cut-rows .kept .0 ∙ to-admit (to-mate at-cut) .admit .kept .1 .1 .1 .1 .0
+    let at-cut = to-cut-rows (to-put-actions (behind-put-props c)) in
+    at-cut .cut-rows .kept .0 ∙ to-admit (to-mate at-cut) .admit .kept .1 .1 .1 .1 .0
 
 same-length-6 : tie.Need-same-length-6
 same-length-6 c = to-mate (to-cut-rows (to-put-actions (behind-put-props c))) .mate .kept .1 .1 .1 .1 .1 .1 .1 .1 .1 .0
@@ -189,7 +188,7 @@ returns c = λ A told del is.
     let at-admit = to-admit at-mate in
     let start = to-start at-admit in
     let a = start .args in
-    step-made A (a .all) (a .n) (a .width) (a .at) _ (a .needs .now) (a .adds .now) (a .dels .now) (a .adders .now) (a .interferers .now) (a .labels .now)
+    step-made A (a .all) (a .n) (a .width) (a .span) (a .at) _ (a .needs .now) (a .adds .now) (a .dels .now) (a .adders .now) (a .interferers .now) (a .labels .now)
     (a .live .now) (a .t .now) (a .r .now) (a .mates .now) (a .besides .now) (a .spare .now) (a .words .now) _ _ _ _ _ _ _ _ _ (start .pre) told del is
     (at-admit .admit .ensures .0) (at-admit .admit .ensures .1) (at-mate .mate .ensures) (at-cut .cut-rows .ensures) (at-put .put-actions .ensures)
     (at-next .next .ensures .1) (c .before .before .put-props .ensures)

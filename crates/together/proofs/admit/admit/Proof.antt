@@ -13,7 +13,7 @@ use Rattle.together.proofs.admit.admit.Tie as tie
 
 abbrev Inv-loop : tie.InvT-loop
 Inv-loop needs all labels t r₀ live₀ n width i₀ i-end r live i =
-    Lists (λ i. labelFor all labels t (getD needs i 0)) 0 (length needs) live₀ i live × Rows (λ i. rowFor all labels t (getD needs i 0)) width i r
+    Lists (λ i. labelFor all t (getD needs i 0)) 0 (length needs) live₀ i live × Rows (λ i. rowFor all labels t (getD needs i 0)) width i r
 
 abbrev μ-loop : tie.MeasureT-loop
 μ-loop needs all labels t r₀ live₀ n width i₀ i-end r live i = length needs - i
@@ -67,7 +67,7 @@ loop-again c =
     let start = at-loop .before .before .before .before .before .before in
     let a = start .args in (
       list-more (at-loop .loop .inv .0) (at-wide .before .before .before .loop-test .taken) (sym (zero-add _))
-          (at-admit-row .admit-row .ensures .0 ∙ ap (labelFor (a .all) (a .labels .now) (a .t .now)) (at-wide .wide .ensures)),
+          (at-admit-row .admit-row .ensures .0 ∙ ap (labelFor (a .all) (a .t .now)) (at-wide .wide .ensures)),
       rows-row (at-loop .loop .inv .1) (start .pre .wide .parts) (omega (arith, at-admit-row .admit-row .kept .0, at-loop .loop .inv .1 .long)) (at-admit-row .admit-row .ensures .1)
           (λ k h. ap (λ (x : ℕ). rowFor (a .all) (a .labels .now) (a .t .now) x k) (at-wide .wide .ensures)),
     )

@@ -1,73 +1,44 @@
--- The row is met and cut.
-use mathlib.Core.Path.{sym, ap, subst, _∙_}
-use Prim.Native.Nat.{ℕ, _<_, _^_}
-use native.Mathlib.Omega.{arith}
-use lib.ListN.{length}
+-- The row is met from the label on.
+use mathlib.Core.Path.{ap, _∙_}
+use Prim.Native.Nat.{ℕ, _*_}
+use lib.ListN.{getD}
 use borrow.Author.Needs.{needs}
-use Rattle.together.specs.Cells.{needsWith}
-use Rattle.together.proofs.Rows.{parts-lt, lent, row-long, admit-label, admit-put}
+use Rattle.rules.specs.Word.{common}
+use Rattle.rules.specs.Over.{meetOf}
+use Rattle.rules.specs.Lists.{listOver}
+use Rattle.words.specs.Memory.{putAt}
+use Rattle.words.specs.Rows.{rowLength, cell}
+use Rattle.together.specs.Cells.{rowFor}
+use Rattle.together.proofs.Rows.{parts-le, parts-lt, row-put}
 use Rattle.together.proofs.admit.admit_row.Statement.{statement}
 use Rattle.together.proofs.admit.admit_row.Tie as tie
 
+label-of-requires : tie.Need-label-of-requires
+label-of-requires c κs =
+    let pre = c .before .before .before .pre in
+    record { whole = pre .t-long; inside = parts-lt (pre .parts) (pre .needs) }
+
 meet-row-requires : tie.Need-meet-row-requires
 meet-row-requires c κs =
-    let start = c .before .before .before .before in
-    (record { whole = start .pre .r-long; inside = start .pre .inside }, start .pre .labels-long, record { whole = start .pre .t-long; inside = parts-lt (start .pre .parts) (start .pre .needs) }, start .pre .parts)
-
-mul-at : tie.Need-mul-at
-mul-at c = search needs
-
-add-end : tie.Need-add-end
-add-end c = search needs
-
-mul-meet-at : tie.Need-mul-meet-at
-mul-meet-at c = search needs
-
-sub-meet-at : tie.Need-sub-meet-at
-sub-meet-at c = search needs
-
-part-meet-at-start : tie.Need-part-meet-at-start
-part-meet-at-start c = search needs
-
-part-meet-at-end : tie.Need-part-meet-at-end
-part-meet-at-end c = search needs
-
-meet-at-requires : tie.Need-meet-at-requires
-meet-at-requires c κs =
-    let at-meet-row = c .before .before .before .before in
-    let start = at-meet-row .before .before .before .before .before in
-    let long = ap length (lent (at-meet-row .meet-row .last .0) (start .args .i)) ∙ row-long (at-meet-row .meet-row .last .0) (start .args .i) (omega arith) (start .pre .inside) in
-    (omega (arith, long), subst (λ (n : ℕ). start .args .need < 2 ^ n) (sym long) (parts-lt (start .pre .parts) (start .pre .needs)))
-
-cut-row-requires : tie.Need-cut-row-requires
-cut-row-requires c κs = search needs
+    let pre = c .before .before .before .before .before .pre in
+    (record { whole = pre .r-long; inside = pre .inside }, pre .labels-long, record { whole = pre .t-long; inside = parts-lt (pre .parts) (pre .needs) }, pre .parts)
 
 same-length : tie.Need-same-length
 same-length c = search needs
 
 returns : tie.Need-returns
-unfolding needsWith
+unfolding rowFor
 returns c =
-    let at-cut-row = c .before .before in
-    let at-meet-at = at-cut-row .before .before in
-    let at-meet-row = at-meet-at .before .before .before .before .before in
-    let start = at-meet-row .before .before .before .before .before in
+    let at-meet-row = c .before .before in
+    let at-label-of = at-meet-row .before .before in
+    let start = at-label-of .before .before .before .before in
     let a = start .args in
-    let label = admit-label (a .all) (start .pre) (at-meet-row .meet-row .ensures) (omega arith) _ (lent (at-meet-row .meet-row .last .0) (a .i)) (at-meet-at .meet-at .ensures) in
-    (label, admit-put (a .all) (start .pre) (at-meet-row .meet-row .ensures) (omega arith) label (at-cut-row .cut-row .ensures))
+    let label = at-label-of .label-of .ensures in (
+      label,
+      row-put (start .pre .r-long) (start .pre .inside) (parts-le (start .pre .parts)) (at-meet-row .meet-row .ensures ∙ ap
+          (λ (l : ℕ). putAt (a .i * rowLength)
+          (listOver (a .width) (λ q. meetOf rowLength (a .need) (λ p. cell (a .t .now) p q) (common (getD (a .labels .now) q 0) l))) (a .r .now)) label),
+    )
 
 pub admit-row-spec : {M : Type 1} → statement M
-admit-row-spec =
-    tie.close
-    (tie.spec
-    meet-row-requires
-    mul-at
-    add-end
-    mul-meet-at
-    sub-meet-at
-    part-meet-at-start
-    part-meet-at-end
-    meet-at-requires
-    cut-row-requires
-    same-length
-    returns)
+admit-row-spec = tie.close (tie.spec label-of-requires meet-row-requires same-length returns)

@@ -11,13 +11,13 @@ use Rattle.together.proofs.pairs.pairs.Statement.{statement}
 use Rattle.together.proofs.pairs.pairs.Tie as tie
 
 abbrev Inv-loop : tie.InvT-loop
-Inv-loop needs interferers live turned mates₀ n width i₀ i-end mates i = (width ≤ rowLength) × Rows (withEffect needs interferers live turned) width i mates
+Inv-loop needs interferers live turned mates₀ span i₀ i-end mates i = (span ≤ rowLength) × Rows (withEffect needs interferers live turned) span i mates
 
 abbrev μ-loop : tie.MeasureT-loop
-μ-loop needs interferers live turned mates₀ n width i₀ i-end mates i = length needs - i
+μ-loop needs interferers live turned mates₀ span i₀ i-end mates i = length needs - i
 
 loop-holds : tie.Need-loop-holds Inv-loop μ-loop
-loop-holds c = (parts-le (c .before .before .before .before .before .pre .wide .parts), rows-none (omega arith))
+loop-holds c = (parts-le (c .before .before .before .before .before .pre .spans .parts), rows-none (omega arith))
 
 mul-meet-row : tie.Need-mul-meet-row Inv-loop μ-loop
 mul-meet-row c = omega arith
@@ -40,8 +40,8 @@ meet-row-requires c κs =
     let start = at-loop .before .before .before .before .before .before in (
       record { whole = at-loop .loop .inv .1 .long; inside = omega arith },
       start .pre .live-long,
-      record { whole = start .pre .turned-long; inside = inside-lt rowLength (start .args .needs .now) (at-loop .loop .i) (start .pre .wide .inside) (omega arith) (omega arith) (c .wide .ensures) },
-      start .pre .wide .parts,
+      record { whole = start .pre .turned-long; inside = inside-lt {n = rowLength} rowLength (start .args .needs .now) (at-loop .loop .i) (start .pre .needs-inside) (omega arith) (omega arith) (c .wide .ensures) },
+      start .pre .spans .parts,
     )
 
 mul-clear-cells : tie.Need-mul-clear-cells Inv-loop μ-loop
@@ -88,8 +88,8 @@ loop-again c =
     let start = at-loop .before .before .before .before .before .before in
     let a = start .args in (
       at-loop .loop .inv .0,
-      rows-row (at-loop .loop .inv .1) (start .pre .wide .parts) (length-set (at-clear-cells .clear-cells .last .0) _ _ ∙ omega arith)
-          (pairs-put (a .needs .now) (a .interferers .now) (a .live .now) (a .turned .now) (start .pre .wide .parts) (omega arith) (at-loop .loop .inv .1 .long) (omega arith) (omega arith)
+      rows-row (at-loop .loop .inv .1) (start .pre .spans .parts) (length-set (at-clear-cells .clear-cells .last .0) _ _ ∙ omega arith)
+          (pairs-put (a .needs .now) (a .interferers .now) (a .live .now) (a .turned .now) (start .pre .spans .parts) (omega arith) (at-loop .loop .inv .1 .long) (omega arith) (omega arith)
           (at-meet-row .before .wide .ensures) (at-meet-row .meet-row .ensures) (at-clear-cells .clear-cells .ensures)) (λ k h. refl),
     )
 

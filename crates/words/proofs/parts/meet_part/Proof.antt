@@ -51,7 +51,7 @@ loop-again c =
     let at-loop = c .before .before .before in
     let a = at-loop .before .args in
     list-more (at-loop .loop .inv) (omega arith) (sym (zero-add _))
-    (ap (λ (x : ℕ). common x (getD (a .table .now) (a .at + at-loop .loop .k) 0)) (list-ahead (at-loop .loop .inv)))
+    (ap (λ (x : ℕ). common x (getD (a .table .now) (a .at + at-loop .loop .k) 0)) (list-ahead (at-loop .loop .inv) (sym (zero-add _))))
 
 same-length : tie.Need-same-length Inv-loop μ-loop
 same-length c = c .before .loop .inv .long

@@ -1,21 +1,20 @@
 -- The loop joins one word after the other; what lies ahead is not changed yet.
-use mathlib.Core.Path.{refl, sym, ap}
-use Prim.Native.Nat.{_-_}
-use native.Mathlib.Nat.{zero-add}
+use mathlib.Core.Path.{refl, ap}
+use Prim.Native.Nat.{_*_, _-_}
 use native.Mathlib.Omega.{arith}
 use lib.Bits.{bitXor}
-use lib.ListN.{getD}
-use Rattle.rules.specs.Word.{union}
+use Rattle.words.specs.Rows.{rowLength, cell, bothWays, changesOf}
 use Rattle.words.proofs.Folds.{Joins, join-none, join-more, join-done}
 use Rattle.words.proofs.Writes.{Lists, list-none, list-more, list-done, list-ahead}
-use Rattle.words.proofs.tables.join_tables.Statement.{statement}
-use Rattle.words.proofs.tables.join_tables.Tie as tie
+use Rattle.words.proofs.tables.join_turned_row.Statement.{statement}
+use Rattle.words.proofs.tables.join_turned_row.Tie as tie
 
 abbrev Inv-loop : tie.InvT-loop
-Inv-loop table₀ one other n fresh₀ i₀ table fresh i = Lists (λ i. union (getD one i 0) (getD other i 0)) 0 n table₀ i table × Joins (λ i. bitXor (union (getD one i 0) (getD other i 0)) (getD table₀ i 0)) n i fresh
+Inv-loop table₀ one p n fresh₀ q₀ table fresh q =
+    Lists (bothWays one p) (p * rowLength) n table₀ q table × Joins (λ q. bitXor (bothWays one p q) (cell table₀ p q)) n q fresh
 
 abbrev μ-loop : tie.MeasureT-loop
-μ-loop table₀ one other n fresh₀ i₀ table fresh i = n - i
+μ-loop table₀ one p n fresh₀ q₀ table fresh q = n - q
 
 loop-holds : tie.Need-loop-holds Inv-loop μ-loop
 loop-holds c = (list-none (omega arith), join-none)
@@ -23,11 +22,23 @@ loop-holds c = (list-none (omega arith), join-none)
 mul-word : tie.Need-mul-word Inv-loop μ-loop
 mul-word c = omega arith
 
-shared-slice-read-word : tie.Need-shared-slice-read-word Inv-loop μ-loop
-shared-slice-read-word c = omega arith
+add-word : tie.Need-add-word Inv-loop μ-loop
+add-word c = omega arith
 
 mul-word-2 : tie.Need-mul-word-2 Inv-loop μ-loop
 mul-word-2 c = omega arith
+
+shared-slice-read-word : tie.Need-shared-slice-read-word Inv-loop μ-loop
+shared-slice-read-word c = omega arith
+
+mul-word-3 : tie.Need-mul-word-3 Inv-loop μ-loop
+mul-word-3 c = omega arith
+
+add-word-2 : tie.Need-add-word-2 Inv-loop μ-loop
+add-word-2 c = omega arith
+
+mul-word-4 : tie.Need-mul-word-4 Inv-loop μ-loop
+mul-word-4 c = omega arith
 
 shared-slice-read-word-2 : tie.Need-shared-slice-read-word-2 Inv-loop μ-loop
 shared-slice-read-word-2 c = omega arith
@@ -35,52 +46,73 @@ shared-slice-read-word-2 c = omega arith
 mul-fresh : tie.Need-mul-fresh Inv-loop μ-loop
 mul-fresh c = omega arith
 
+add-fresh : tie.Need-add-fresh Inv-loop μ-loop
+add-fresh c = omega arith
+
+mul-fresh-2 : tie.Need-mul-fresh-2 Inv-loop μ-loop
+mul-fresh-2 c = omega arith
+
 slice-read-fresh : tie.Need-slice-read-fresh Inv-loop μ-loop
 slice-read-fresh c = omega arith
 
 mul-table : tie.Need-mul-table Inv-loop μ-loop
 mul-table c = omega arith
 
+add-table : tie.Need-add-table Inv-loop μ-loop
+add-table c = omega arith
+
+mul-table-2 : tie.Need-mul-table-2 Inv-loop μ-loop
+mul-table-2 c = omega arith
+
 slice-write-table : tie.Need-slice-write-table Inv-loop μ-loop
 slice-write-table c = omega arith
 
-add-i : tie.Need-add-i Inv-loop μ-loop
-add-i c = omega arith
+add-q : tie.Need-add-q Inv-loop μ-loop
+add-q c = omega arith
 
 loop-less : tie.Need-loop-less Inv-loop μ-loop
 loop-less c = omega arith
 
 loop-again : tie.Need-loop-again Inv-loop μ-loop
+unfolding bothWays cell
 loop-again c =
     let at-loop = c .before .before .before .before in
-    let i = at-loop .loop .i in
     let a = at-loop .before .args in (
-      list-more (at-loop .loop .inv .0) (omega arith) (sym (zero-add _)) refl,
-      join-more (at-loop .loop .inv .1) (omega arith) refl (ap (bitXor (union (getD (a .one .now) i 0) (getD (a .other .now) i 0))) (list-ahead (at-loop .loop .inv .0))),
+      list-more (at-loop .loop .inv .0) (omega arith) refl refl,
+      join-more (at-loop .loop .inv .1) (omega arith) refl (ap (bitXor (bothWays (a .one .now) (a .p) (at-loop .loop .q))) (list-ahead (at-loop .loop .inv .0) refl)),
     )
 
 same-length : tie.Need-same-length Inv-loop μ-loop
 same-length c = c .before .loop .inv .0 .long
 
 returns : tie.Need-returns Inv-loop μ-loop
+unfolding changesOf
 returns c = (list-done (c .before .loop .inv .0) (omega arith), join-done (c .before .loop .inv .1) (omega arith))
 
-pub join-tables-spec : {M : Type 1} → statement M
-join-tables-spec =
+pub join-turned-row-spec : {M : Type 1} → statement M
+join-turned-row-spec =
     tie.close
     (tie.spec
     Inv-loop
     μ-loop
     loop-holds
     mul-word
-    shared-slice-read-word
+    add-word
     mul-word-2
+    shared-slice-read-word
+    mul-word-3
+    add-word-2
+    mul-word-4
     shared-slice-read-word-2
     mul-fresh
+    add-fresh
+    mul-fresh-2
     slice-read-fresh
     mul-table
+    add-table
+    mul-table-2
     slice-write-table
-    add-i
+    add-q
     loop-less
     loop-again
     same-length
