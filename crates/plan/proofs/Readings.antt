@@ -5,10 +5,11 @@ use mathlib.Core.Bool.{Bool}
 use mathlib.Core.List.{List, []}
 use mathlib.Core.Logic.{⊎-elim}
 use Prim.Native.Nat.{ℕ, _+_, _-_, _*_, _^_, _≤_, _<_}
-use native.Mathlib.Nat.{le-refl, zero-add}
+use native.Mathlib.Nat.{le-refl, zero-add, lt-of-lt-of-le}
 use native.Mathlib.Numerals.{add-one}
 use native.Mathlib.Omega.{arith}
 use lib.ListN.{length, getD, set}
+use lib.Pow.{pow-mono}
 use Rattle.rules.specs.Test.{below, choose}
 use Rattle.rules.specs.Word.{bit, union, single}
 use Rattle.rules.specs.Over.{keep, joinOver}
@@ -18,13 +19,16 @@ use Rattle.rules.specs.Shared.{startLabel}
 use Rattle.rules.specs.Domain.{domain, shapeOf, condition, needsOf, addsOf}
 use Rattle.rules.specs.Plan.{descend}
 use Rattle.rules.specs.declared.Shape.{Shape}
-use Rattle.rules.proofs.Tests.{holds-or, choose-held, choose-failed, below-at}
-use Rattle.rules.proofs.Words.{ext}
+use Rattle.rules.proofs.Tests.{holds-or, choose-held, choose-failed, below-at, below-fails}
+use Rattle.rules.proofs.Words.{ext, bit-zero, bit-above}
 use Rattle.rules.proofs.Members.{bit-startLabel, startLabel-lt}
 use Rattle.rules.proofs.Domains.{condition-lt}
 use Rattle.rules.proofs.Layers.{length-listOver, getD-listOver, listOver-eq}
 use Rattle.rules.proofs.SamePlans.{SameNeeds, descend-same, goals-inside}
-use Rattle.words.proofs.Writes.{Lists, list-none, list-more, list-whole}
+use Rattle.words.specs.Width.{propWidth}
+use Rattle.words.specs.Memory.{putAt}
+use Rattle.words.specs.Rows.{columnsOf}
+use Rattle.words.proofs.Writes.{Lists, list-none, list-more, list-whole, put-length, put-word, put-above}
 use Rattle.graph.specs.Format.{actionsOf}
 use Rattle.graph.specs.File.{Taken}
 use Rattle.graph.specs.declared.format.Counts.{Counts}
@@ -76,6 +80,39 @@ module _ {file : List ℕ} {c : Counts} {needs₀ owners₀ : List ℕ} where
         list-whole (r .owned) h m,
         r .adding ∙ ap (λ (k : ℕ). listOver (c .props) (startLabel k (actionsOf file c .add))) e,
       )
+
+-- ---- what the effects add, read into a square of empty words, and its columns
+
+module _ (n e : ℕ) (f : ℕ → ℕ) (row empty adds : List ℕ) (row-is : row ≡ listOver n (λ p. 0)) (few : e ≤ propWidth)
+    (none : empty ≡ listOver propWidth (λ q. 0)) (is : adds ≡ putAt 0 (listOver e f) empty) where
+  room : 0 + length (listOver e f) ≤ length empty
+  room = omega (arith, length-listOver e f, ap length none, length-listOver propWidth (λ q. 0))
+
+  long : length adds ≡ propWidth
+  long = ap length is ∙ put-length 0 (listOver e f) empty room ∙ ap length none ∙ length-listOver propWidth (λ q. 0)
+
+  front : (i : ℕ) → i < e → getD adds i 0 ≡ f i
+  front i h =
+      ap₂ (λ (l : List ℕ) (x : ℕ). getD l x 0) is (sym (zero-add i)) ∙ put-word 0 (listOver e f) empty room i (omega (arith, length-listOver e f))
+      ∙ getD-listOver f h
+
+  behind : (i : ℕ) → i < propWidth → e ≤ i → getD adds i 0 ≡ 0
+  behind i h l =
+      ap (λ (l : List ℕ). getD l i 0) is ∙ put-above 0 (listOver e f) empty room i (omega (arith, length-listOver e f))
+      ∙ ap (λ (l : List ℕ). getD l i 0) none ∙ getD-listOver (λ q. 0) h
+
+  pub square-adders : columnsOf (length row) adds ≡ listOver n (startLabel e f)
+  unfolding columnsOf
+  square-adders =
+      ap (λ (m : ℕ). listOver m (startLabel (length adds) (λ i. getD adds i 0))) (ap length row-is ∙ length-listOver n (λ p. 0))
+      ∙ listOver-eq (λ p h.
+      ap (λ (m : ℕ). startLabel m (λ i. getD adds i 0) p) long
+      ∙ ext {n = propWidth} (startLabel-lt propWidth (λ i. getD adds i 0) p) (lt-of-lt-of-le (startLabel-lt e f p) (pow-mono few)) (λ i l.
+      bit-startLabel (λ i. getD adds i 0) p l
+      ∙ ⊎-elim
+      (λ t. ap (bit p) (front i (below-at t)) ∙ sym (bit-startLabel f p (below-at t)))
+      (λ t. ap (bit p) (behind i l (below-fails t)) ∙ bit-zero p ∙ sym (bit-above (startLabel-lt e f p) (below-fails t)))
+      (holds-or (below i e))))
 
 -- ---- what the lists tell once all effects are read
 

@@ -26,6 +26,7 @@ use words::members::single;
 use words::sets::PROP_WIDTH;
 use words::sets::Props;
 use words::sets::States;
+use words::turned::columns_of_square;
 ghost use mathlib.Core.Path.{_≡_};
 ghost use mathlib.Core.List.{[]};
 ghost use Prim.Native.Nat.{ℕ, _≤_, _<_, _^_};
@@ -36,6 +37,7 @@ ghost use Rattle.rules.specs.Lists.{listOver};
 ghost use Rattle.rules.specs.Domain as D;
 ghost use Rattle.rules.specs.Shared.{startLabel};
 ghost use Rattle.rules.specs.Plan as P;
+ghost use Rattle.words.specs.Memory.{putAt};
 ghost use Rattle.graph.specs.Verdict.{laid};
 ghost use Rattle.graph.specs.Format.{actionsOf, shapeIn};
 ghost use Rattle.graph.specs.File.{Taken};
@@ -49,8 +51,37 @@ pub enum PlanAnswer {
     Refused(Refusal),
 }
 
-// Of each effect what it needs and its action, and of each proposition the effects that add it.
-fn read_effects(file: &[u8], c: Counts, needs: &mut [u32], owners: &mut [u8], adders: &mut [u64])
+// Up to so many effects, or where the first two add up to so many propositions taken together, adders are found member by member: measured.
+const FEW_EFFECTS: usize = 20;
+
+const FEW_ADDED: u32 = 10;
+
+// Whether to go member by member is less work than to turn a square of bits: the first two effects speak for all.
+fn few_adds(file: &[u8], c: Counts) -> bool
+    requires { ⌜ Taken (now file) c ⌝ }
+{
+    if c.effects <= FEW_EFFECTS {
+        return true;
+    }
+    u32::count_ones(added(file, c, 0)) + u32::count_ones(added(file, c, 1)) <= FEW_ADDED
+}
+
+// Of each effect what it needs, its action and what it adds.
+fn read_sets(file: &[u8], c: Counts, needs: &mut [u32], owners: &mut [u8], adds: &mut [u32])
+    requires { ⌜ Taken (now file) c × (length (now needs) ≡ c .effects) × (length (now owners) ≡ c .effects) × (c .effects ≤ length (now adds)) ⌝ }
+    ensures { λ r. ⌜ (now (needs .exit) ≡ listOver (c .effects) (D.condition (actionsOf (now (file .entry)) c)))
+        × (now (owners .exit) ≡ listOver (c .effects) (actionsOf (now (file .entry)) c .owner))
+        × (now (adds .exit) ≡ putAt 0 (listOver (c .effects) (actionsOf (now (file .entry)) c .add)) (now (adds .entry))) ⌝ }
+{
+    for e in 0..needs.len() {
+        needs[e] = condition(file, c, e);
+        owners[e] = owner(file, c, e) as u8;
+        adds[e] = added(file, c, e);
+    }
+}
+
+// Of each effect what it needs and its action, and of each proposition the effects that add it, found member by member.
+fn read_members(file: &[u8], c: Counts, needs: &mut [u32], owners: &mut [u8], adders: &mut [u64])
     requires { ⌜ Taken (now file) c × (length (now needs) ≡ c .effects) × (length (now owners) ≡ c .effects) × (now adders ≡ listOver (c .props) (λ p. 0)) ⌝ }
     ensures { λ r. ⌜ (now (needs .exit) ≡ listOver (c .effects) (D.condition (actionsOf (now (file .entry)) c)))
         × (now (owners .exit) ≡ listOver (c .effects) (actionsOf (now (file .entry)) c .owner))
@@ -62,6 +93,22 @@ fn read_effects(file: &[u8], c: Counts, needs: &mut [u32], owners: &mut [u8], ad
         owners[e] = o as u8;
         spread(&mut *adders, Props(added(file, c, e)), single(e));
     }
+}
+
+// The same, by what is less work: the adders are also the columns of a square.
+fn read_effects(file: &[u8], c: Counts, needs: &mut [u32], owners: &mut [u8], adders: &mut [u64])
+    requires { ⌜ Taken (now file) c × (length (now needs) ≡ c .effects) × (length (now owners) ≡ c .effects) × (now adders ≡ listOver (c .props) (λ p. 0)) ⌝ }
+    ensures { λ r. ⌜ (now (needs .exit) ≡ listOver (c .effects) (D.condition (actionsOf (now (file .entry)) c)))
+        × (now (owners .exit) ≡ listOver (c .effects) (actionsOf (now (file .entry)) c .owner))
+        × (now (adders .exit) ≡ listOver (c .props) (startLabel (c .effects) (actionsOf (now (file .entry)) c .add))) ⌝ }
+{
+    if few_adds(file, c) {
+        read_members(file, c, needs, owners, adders);
+        return;
+    }
+    let mut adds = [0u32; PROP_WIDTH];
+    read_sets(file, c, needs, owners, &mut adds[..]);
+    columns_of_square(adders, &mut adds[..]);
 }
 
 // The plan of a level, made in the lent memory and copied once it is whole: cause 14, or the words.

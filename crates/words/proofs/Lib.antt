@@ -6,4 +6,5 @@ pub mod MemberLoops
 pub mod Lowest
 pub mod Cells
 pub mod Spreads
+pub mod Squares
 pub mod Zeros

@@ -2,3 +2,4 @@
 pub mod Width
 pub mod Memory
 pub mod Rows
+pub mod Squares

@@ -4,3 +4,4 @@ pub mod members;
 pub mod parts;
 pub mod sets;
 pub mod tables;
+pub mod turned;

@@ -1,115 +1,89 @@
--- The loop reads one effect after the other: what it needs and its action are stored, and it is joined to the adders of what it adds.
-use Prim.Native.Nat.{_-_}
-use mathlib.Core.Path.{_≡_, sym, ap, _∙_}
+-- Where the effects add much, what was read into the square, and its columns.
+use Prim.Native.Nat.{ℕ}
+use mathlib.Core.Path.{ap, _∙_}
+use native.Mathlib.Nat.{le-refl}
 use native.Mathlib.Omega.{arith}
-use lib.ListN.{length}
-use Rattle.rules.specs.Shared.{startLabel}
+use lib.ListN.{length, replicate}
 use Rattle.rules.proofs.Layers.{length-listOver}
+use Rattle.words.specs.Width.{propWidth}
+use Rattle.words.proofs.Zeros.{zeros}
 use Rattle.graph.specs.Format.{actionsOf}
-use Rattle.plan.proofs.Readings.{Reading, reading-none, reading-more, reading-done}
+use Rattle.plan.proofs.Readings.{square-adders}
+use borrow.Author.Needs.{needs}
 use Rattle.plan.proofs.read_effects.Statement.{statement}
 use Rattle.plan.proofs.read_effects.Tie as tie
-use Rattle.plan.proofs.read_effects.Reads as reads
-use Rattle.plan.proofs.read_effects.Lts as lts
-use Rattle.graph.proofs.read.added.Reads as added-reads
-use Rattle.graph.proofs.read.condition.Reads as condition-reads
-use Rattle.graph.proofs.read.owner.Reads as owner-reads
-use Rattle.words.proofs.columns.spread.Reads as spread-reads
-use Rattle.words.proofs.members.single.Reads as single-reads
 
-abbrev Inv-loop : tie.InvT-loop
-Inv-loop file c needs₀ owners₀ adders₀ e₀ e-end needs owners adders e = (length needs₀ ≡ c .effects) × Reading file c needs₀ owners₀ needs owners adders e
+few-adds-requires : tie.Need-few-adds-requires
+few-adds-requires c κs = search needs
 
-abbrev μ-loop : tie.MeasureT-loop
-μ-loop file c needs₀ owners₀ adders₀ e₀ e-end needs owners adders e = length needs₀ - e
+read-members-requires : tie.Need-read-members-requires
+read-members-requires c κs = search needs
 
-loop-holds : tie.Need-loop-holds Inv-loop μ-loop
-loop-holds c = let start = c .before .before .before .before in (start .pre .1, reading-none (start .pre .0) (start .pre .1) (start .pre .2) (start .pre .3))
+same-length : tie.Need-same-length
+same-length c = search needs
 
-condition-requires : tie.Need-condition-requires Inv-loop μ-loop
-condition-requires c κs = (c .before .loop .inv .1 .taken, omega arith)
+same-length-2 : tie.Need-same-length-2
+same-length-2 c = search needs
 
-mul-needs : tie.Need-mul-needs Inv-loop μ-loop
-mul-needs c = omega arith
+same-length-3 : tie.Need-same-length-3
+same-length-3 c = search needs
 
-slice-write-needs : tie.Need-slice-write-needs Inv-loop μ-loop
-slice-write-needs c = omega (arith, c .before .before .loop .inv .1 .needed .long)
+returns : tie.Need-returns
+returns c = search needs
 
-owner-requires : tie.Need-owner-requires Inv-loop μ-loop
-owner-requires c κs = (c .before .before .loop .inv .1 .taken, omega arith)
+slice-aggregate-read-sets : tie.Need-slice-aggregate-read-sets
+slice-aggregate-read-sets c = search needs
 
-cast-owners : tie.Need-cast-owners Inv-loop μ-loop
-cast-owners c =
-    let r = c .before .before .before .loop .inv .1 .taken .ranged in
-    omega (arith, c .owner .ensures .1, r .actions, r .effects)
+read-sets-requires : tie.Need-read-sets-requires
+read-sets-requires c κs = search needs
 
-slice-write-owners : tie.Need-slice-write-owners Inv-loop μ-loop
-slice-write-owners c = omega (arith, c .before .before .before .loop .inv .1 .owned .long, c .before .before .before .before .before .before .before .before .pre .2)
+slice-aggregate-columns-of-square : tie.Need-slice-aggregate-columns-of-square
+slice-aggregate-columns-of-square c = search needs
 
-added-requires : tie.Need-added-requires Inv-loop μ-loop
-added-requires c κs = (c .before .before .before .before .loop .inv .1 .taken, omega arith)
+columns-of-square-requires : tie.Need-columns-of-square-requires
+columns-of-square-requires c κs =
+    let at-read = c .before .before .before .before .before .before .before in
+    let start = at-read .before .before .before .before .before .before .before .before .before .before in
+    (omega (arith, ap length (start .pre .3), length-listOver (start .args .c .props) (λ p. 0), start .pre .0 .ranged .props), search needs)
 
-single-requires : tie.Need-single-requires Inv-loop μ-loop
-single-requires c κs = omega (arith, c .before .before .before .before .before .loop .inv .1 .taken .ranged .effects)
+same-length-4 : tie.Need-same-length-4
+same-length-4 c = search needs
 
-spread-requires : tie.Need-spread-requires Inv-loop μ-loop
-spread-requires c κs =
-    let at-loop = c .before .before .before .before .before .before in
-    let start = c .before .before .before .before .before .before .before .before .before .before .before in
-    let r = at-loop .loop .inv .1 in
-    omega (
-      arith,
-      ap length (r .adding),
-      length-listOver (start .args .c .props) (startLabel (at-loop .loop .e) (actionsOf (start .args .file .now) (start .args .c) .add)),
-      r .taken .ranged .props,
+same-length-5 : tie.Need-same-length-5
+same-length-5 c = search needs
+
+same-length-6 : tie.Need-same-length-6
+same-length-6 c = search needs
+
+returns-2 : tie.Need-returns-2
+returns-2 c =
+    let at-columns = c .before .before .before in
+    let at-read = at-columns .before .before .before .before .before .before .before .before in
+    let start = at-read .before .before .before .before .before .before .before .before .before .before in
+    let a = start .args in
+    let did = at-read .read-sets .ensures in (
+      did .0,
+      did .1,
+      at-columns .columns-of-square .ensures
+          ∙ square-adders (a .c .props) (a .c .effects) (actionsOf (a .file .now) (a .c) .add) (a .adders .now) (replicate {A = ℕ} propWidth 0) _
+          (start .pre .3) (start .pre .0 .ranged .effects) (zeros propWidth propWidth (le-refl propWidth)) (did .2),
     )
-
-add-e : tie.Need-add-e Inv-loop μ-loop
-add-e c = omega arith
-
-loop-less : tie.Need-loop-less Inv-loop μ-loop
-loop-less c = omega arith
-
-loop-again : tie.Need-loop-again Inv-loop μ-loop
-loop-again c =
-    let l = c .before .before .before .before .before .before .before .before .before .loop in (
-      l .inv .0,
-      reading-more (l .inv .1) (omega arith) (c .before .before .before .before .before .before .before .condition .ensures) (c .before .before .before .before .before .before .owner .ensures .0) (c .before .before .before .before .added .ensures)
-          (c .before .before .before .single .ensures) (c .before .before .spread .ensures),
-    )
-
-same-length : tie.Need-same-length Inv-loop μ-loop
-same-length c = c .before .loop .inv .1 .needed .long
-
-same-length-2 : tie.Need-same-length-2 Inv-loop μ-loop
-same-length-2 c = c .before .loop .inv .1 .owned .long
-
-same-length-3 : tie.Need-same-length-3 Inv-loop μ-loop
-same-length-3 c = ap length (c .before .loop .inv .1 .adding) ∙ length-listOver _ _ ∙ sym (ap length (c .before .before .before .before .before .before .pre .3) ∙ length-listOver _ _)
-
-returns : tie.Need-returns Inv-loop μ-loop
-returns c = reading-done (c .before .loop .inv .1) (omega arith) (c .before .loop .inv .0) (c .before .before .before .before .before .before .pre .2)
 
 pub read-effects-spec : {M : Type 1} → statement M
 read-effects-spec =
     tie.close
     (tie.spec
-    Inv-loop
-    μ-loop
-    loop-holds
-    condition-requires
-    mul-needs
-    slice-write-needs
-    owner-requires
-    cast-owners
-    slice-write-owners
-    added-requires
-    single-requires
-    spread-requires
-    add-e
-    loop-less
-    loop-again
+    few-adds-requires
+    read-members-requires
     same-length
     same-length-2
     same-length-3
-    returns)
+    returns
+    slice-aggregate-read-sets
+    read-sets-requires
+    slice-aggregate-columns-of-square
+    columns-of-square-requires
+    same-length-4
+    same-length-5
+    same-length-6
+    returns-2)
