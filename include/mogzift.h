@@ -36,7 +36,8 @@
  * behind that stays. No call writes what it takes by a pointer to const.
  *
  * WHAT A CALL NEEDS
- * No heap, no file, no other library than the C library's memcpy and memset. Of the stack, whatever the problem:
+ * No heap, no file, no other library than the C library's memcpy, memmove and memset. Of the
+ * stack, whatever the problem:
  *   mogzift_levels_text    109 KiB (64 KiB of graph words, and a build)
  *   mogzift_build          44 KiB
  *   mogzift_page, _plan    under 5 KiB
