@@ -28,6 +28,10 @@ pub record Lent (n width span depth : ℕ) (needs adds dels adders interferers l
   pub deep : depth ≤ maxDepth
   pub fits : size n + depth * (size (length needs + n) + size n) ≤ length words
 
+-- how many words are copied at once, from where as many lie between
+abbrev pub blockLength : ℕ
+blockLength = 1024
+
 -- what it asks that copies the last of `done` steps up to the depth
 pub record Left (S : Shape) (done depth : ℕ) (words : List ℕ) : Type 0 where
   pub small : Small S

@@ -8,7 +8,7 @@ ghost use lib.ListN.{length, getD};
 ghost use Rattle.rules.specs.Lists.{listOver};
 ghost use Rattle.rules.specs.Layer as L;
 ghost use Rattle.words.specs.Memory.{putAt};
-ghost use Rattle.build.specs.Steps.{Left};
+ghost use Rattle.build.specs.Steps.{Left, blockLength};
 
 // So many words on, a load need not wait for the store that it copies; a block has as many.
 const APART: usize = 1024;
@@ -43,7 +43,7 @@ fn put_block(words: &mut [u64], at: usize, block: &[u64], count: usize)
 
 // Words copied from `stride` words before, all read before one is written: the compiler makes one move of it, and the block is never made.
 fn move_block(words: &mut [u64], at: usize, stride: usize, count: usize)
-    requires { ⌜ (count ≤ 1024) × (0 < count → stride ≤ at) × (at + count ≤ length (now words)) ⌝ }
+    requires { ⌜ (count ≤ blockLength) × (0 < count → stride ≤ at) × (at + count ≤ length (now words)) ⌝ }
     ensures { λ r. ⌜ now (words .exit) ≡ putAt at (listOver count (λ i. getD (now (words .entry)) (at + i - stride) 0)) (now (words .entry)) ⌝ }
 {
     let mut block = [0u64; APART];
@@ -53,7 +53,7 @@ fn move_block(words: &mut [u64], at: usize, stride: usize, count: usize)
 
 // As `copy_on`, in blocks: no block reaches into the words that it is copied from.
 fn copy_far(words: &mut [u64], to: usize, stride: usize, count: usize)
-    requires { ⌜ (1024 ≤ stride) × (0 < count → stride ≤ to) × (to + count ≤ length (now words)) ⌝ }
+    requires { ⌜ (blockLength ≤ stride) × (0 < count → stride ≤ to) × (to + count ≤ length (now words)) ⌝ }
     ensures { λ r. ⌜ now (words .exit) ≡ putAt to (listOver count (λ i. getD (now (words .entry)) (to - stride + i % stride) 0)) (now (words .entry)) ⌝ }
 {
     let mut done = 0;

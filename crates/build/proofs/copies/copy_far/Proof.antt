@@ -3,6 +3,7 @@ use Prim.Native.Nat.{_+_, _-_, _%_}
 use native.Mathlib.Omega.{arith}
 use lib.ListN.{getD}
 use Rattle.words.proofs.Writes.{Lists, list-none, list-done}
+use Rattle.build.specs.Steps.{blockLength}
 use Rattle.build.proofs.Repeats.{repeat-block}
 use Rattle.build.proofs.copies.copy_far.Statement.{statement}
 use Rattle.build.proofs.copies.copy_far.Tie as tie
@@ -36,7 +37,7 @@ loop-less c = omega arith
 loop-again : tie.Need-loop-again Inv-loop μ-loop
 loop-again c =
     let start = c .before .before .before .before .before .before .before in
-    repeat-block ((c .before .before .before .before .before) .loop .inv) 1024 (omega arith) (omega arith) (λ _. start .pre .1 (omega arith)) (c .before .before .move-block .ensures)
+    repeat-block ((c .before .before .before .before .before) .loop .inv) blockLength (omega arith) (omega arith) (λ _. start .pre .1 (omega arith)) (c .before .before .move-block .ensures)
 
 add-move-block-2 : tie.Need-add-move-block-2 Inv-loop μ-loop
 add-move-block-2 c = omega (arith, c .before .before .loop .inv .within)
