@@ -35,7 +35,7 @@ KEYS = {
 }
 CALL = ['kind', 'file', 'depth', 'set', 'goal', 'words', 'graph', 'base', 'mask', 'edits', 'list', 'out', 'fill',
         'answer', 'first', 'second', 'digest']
-ANSWERS = ['refused # #', 'built #', 'rest #', 'none', 'level #', 'never', 'not by depth', 'extracted #',
+ANSWERS = ['refused # #', 'built # looked #', 'rest #', 'none', 'level #', 'never', 'not by depth', 'extracted #',
            'plan # count #', 'ran #', 'paged #']
 
 # The memory that the program has (the same names in crates/vectors/src/calls.rt).

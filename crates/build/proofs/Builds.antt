@@ -4,23 +4,30 @@ use Prim.Native.Nat.{ℕ, zero, suc, _+_, _-_, _*_, _≤_, _<_}
 use mathlib.Core.Path.{_≡_, refl, sym, ap, ap₂, subst, _∙_}
 use mathlib.Core.Bool.{Bool, true}
 use mathlib.Core.List.{List, _++_, append-assoc, append-nil}
-use native.Mathlib.Nat.{le-refl, suc-mul, mul-le-mul-right, zero-mul, add-zero}
+use native.Mathlib.Nat.{le-refl, le-trans, suc-mul, mul-le-mul, mul-le-mul-right, zero-mul, add-zero}
 use native.Mathlib.Numerals.{add-one}
 use native.Mathlib.Omega.{arith}
 use borrow.Rule.Slice.PartMut.{putMid, same-len-mid}
 use lib.ListN.{length, getD, take, drop, length-append}
 use Rattle.rules.specs.Word.{first}
+use Rattle.rules.specs.Over.{joinOf}
 use Rattle.rules.specs.Lists.{runOver}
 use Rattle.rules.specs.Domain.{Domain, Actions, domain}
 use Rattle.rules.specs.Layer.{size, layerOf}
 use Rattle.rules.specs.Shared.{startLabel, startLayer, actionLayer, nextLayer, propFrom, propLayer, vertexLayer, graphWords}
 use Rattle.rules.specs.Together.{layerBy}
+use Rattle.rules.specs.Scan.{sumOver, stepLooks, looksFrom}
 use Rattle.rules.proofs.Layers.{length-layerOf, layer-eq}
+use Rattle.rules.proofs.Scans.{looks-left}
 use Rattle.words.specs.Memory.{putAt}
-use Rattle.words.specs.Rows.{cell}
+use Rattle.words.specs.Rows.{rowLength, cell}
 use Rattle.words.proofs.Writes.{Runs, run-more, run-done, put-put, put-within, put-none, tail-length}
 use Rattle.layers.specs.Step.{Told, Deletes, Tells, Ready, Stepped, stepWords}
+use Rattle.layers.proofs.Stages.{sets-of}
+use Rattle.scans.specs.Pairs.{Alike, tableLooks, Tables, mostLooks}
+use Rattle.graph.specs.Limits.{maxDepth}
 use Rattle.build.specs.Steps.{Ended, Lent}
+use Rattle.build.proofs.Looks.{looks-told, alike-told}
 
 pub length-actions : (D : Domain) (all : ℕ) (l : List ℕ) → length (actionLayer D all l) ≡ size (D .vertices)
 unfolding actionLayer
@@ -53,27 +60,30 @@ graph-steps D n start (suc k) =
 
 -- ---- the loop over the steps
 
--- k steps of `depth` over the layer l are written, up to `at`, and the table tells the layer that they reach
-pub record Going (A : Actions) (all : ℕ) (l : List ℕ) (depth : ℕ) (w₀ : List ℕ) (k at : ℕ) (w labels t : List ℕ) : Type 0 where
+-- k steps of `depth` over the layer l are written, up to `at`, they look so many times, and the table tells the layer that they reach
+pub record Going (A : Actions) (all : ℕ) (l : List ℕ) (depth : ℕ) (w₀ : List ℕ) (k at looked : ℕ) (w labels t : List ℕ) : Type 0 where
   pub runs : Runs (λ k. stepWords (domain A) all (propFrom (domain A) all l k)) (size (domain A .props)) depth w₀ k at w
   pub tells : Tells A all labels t
   pub layer : layerBy (domain A .props) (cell t) ≡ propFrom (domain A) all l k
+  pub looks : looked ≡ looksFrom (domain A) all l k
 
 pub going-none : (A : Actions) (all depth : ℕ) (w labels t : List ℕ) → size (domain A .props) ≤ length w → Tells A all labels t
-    → Going A all (layerBy (domain A .props) (cell t)) depth w 0 (size (domain A .props)) w labels t
-unfolding propFrom runOver
+    → Going A all (layerBy (domain A .props) (cell t)) depth w 0 (size (domain A .props)) 0 w labels t
+unfolding propFrom runOver looksFrom sumOver
 going-none A all depth w labels t room is = record {
   runs = record { within = omega arith; here = add-zero (size (domain A .props)); inside = room; long = refl; is = sym (put-none (size (domain A .props)) w) };
   tells = is;
   layer = refl;
+  looks = refl;
 }
 
-module _ {A : Actions} {all : ℕ} {l : List ℕ} {depth : ℕ} {w₀ : List ℕ} {k at : ℕ} {w labels t : List ℕ} (s : Going A all l depth w₀ k at w labels t) where
+module _ {A : Actions} {all : ℕ} {l : List ℕ} {depth : ℕ} {w₀ : List ℕ} {k at looked : ℕ} {w labels t : List ℕ} (s : Going A all l depth w₀ k at looked w labels t) where
   abbrev D : Domain
   D = domain A
 
-  module _ (labels' t' p : List ℕ) (still : Bool) (h : k < depth) (room : at + (size (D .vertices) + size (D .props)) ≤ length w₀)
-      (did : Stepped A all t labels' t' (take (length w - at) (drop at w)) p still) where
+  module _ (labels' t' live r mates besides p : List ℕ) (still : Bool) (looks : ℕ) (h : k < depth) (room : at + (size (D .vertices) + size (D .props)) ≤ length w₀)
+      (did : Stepped A all t labels' t' live r mates besides (take (length w - at) (drop at w)) p still)
+      (seen : looks ≡ stepLooks D all (layerBy (D .props) (cell t))) where
     put : putMid at (length w - at) w p ≡ putAt at (stepWords D all (propFrom D all l k)) w
     put =
         put-within at 0 (stepWords D all (propFrom D all l k)) w p (omega (arith, step-length D all (propFrom D all l k), s .runs .long))
@@ -83,26 +93,40 @@ module _ {A : Actions} {all : ℕ} {l : List ℕ} {depth : ℕ} {w₀ : List ℕ
     reached : layerBy (D .props) (cell t') ≡ propFrom D all l (suc k)
     reached = unfold propFrom in did .next .layer ∙ ap (λ (x : List ℕ). nextLayer D (actionLayer D all x)) (s .layer)
 
-    pub going-more : Going A all l depth w₀ (k + 1) (at + (size (D .vertices) + size (D .props))) (putMid at (length w - at) w p) labels' t'
+    all-looks : looked + looks ≡ looksFrom D all l (k + 1)
+    all-looks = unfold looksFrom sumOver in
+        ap₂ _+_ (s .looks) (seen ∙ ap (stepLooks D all) (s .layer)) ∙ ap (looksFrom D all l) (sym (add-one k))
+
+    pub going-more : Going A all l depth w₀ (k + 1) (at + (size (D .vertices) + size (D .props))) (looked + looks) (putMid at (length w - at) w p) labels' t'
     going-more = record {
       runs = run-more (size (D .vertices) + size (D .props)) (s .runs) h room (step-length D all (propFrom D all l k)) put;
       tells = did .next .tells;
       layer = reached ∙ ap (propFrom D all l) (sym (add-one k));
+      looks = all-looks;
     }
 
-    pub ended-rest : still ≡ true → Ended D all l depth w₀ (k + 1) (putMid at (length w - at) w p)
+    -- nothing changed: the layer that is reached is the one before
+    same : still ≡ true → propFrom D all l k ≡ propFrom D all l (suc k)
+    same e = sym (s .layer) ∙ sym (did .next .rests e) ∙ reached
+
+    pub ended-rest : still ≡ true → Ended D all l depth w₀ (k + 1) (looked + looks + (depth - (k + 1)) * looks) (putMid at (length w - at) w p)
     ended-rest e = record {
       within = omega arith;
       is = going-more .runs .is;
       rests = λ g. (
         omega arith,
-        (let q : k + 1 - 1 ≡ k = omega arith in ap (propFrom D all l) q)
-            ∙ sym (s .layer) ∙ sym (did .next .rests e) ∙ reached ∙ ap (propFrom D all l) (sym (add-one k)),
+        (let q : k + 1 - 1 ≡ k = omega arith in ap (propFrom D all l) q) ∙ same e ∙ ap (propFrom D all l) (sym (add-one k)),
       );
+      looks = sym (looks-left D all l k (same e) depth (k + 1) (looked + looks) looks refl (omega arith) all-looks (seen ∙ ap (stepLooks D all) (s .layer)));
     }
 
-  pub ended-all : depth ≤ k → Ended D all l depth w₀ depth w
-  ended-all h = record { within = le-refl depth; is = run-done (s .runs) h; rests = λ g. absurd (omega arith) }
+  pub ended-all : depth ≤ k → Ended D all l depth w₀ depth looked w
+  ended-all h = record {
+    within = le-refl depth;
+    is = run-done (s .runs) h;
+    rests = λ g. absurd (omega arith);
+    looks = let e : k ≡ depth = omega (arith, s .runs .within) in s .looks ∙ ap (looksFrom D all l) e;
+  }
 
 -- layer 0 at the front, and all steps behind it: the graph's words
 pub layers-put : (D : Domain) (n : ℕ) (start : ℕ → ℕ) (depth all : ℕ) (l w₀ w₁ w₂ : List ℕ) → size (D .props) ≤ length w₀ → all ≡ first n
@@ -122,13 +146,18 @@ layers-put D n start depth all l w₀ w₁ w₂ room q el e₁ e₂ =
 
 -- ---- the same, whatever actions the lists tell
 
-pub record Stepping (n width span depth all : ℕ) (needs adds dels adders interferers labels₀ t₀ w₀ : List ℕ) (k at : ℕ) (w labels live t r mates besides spare : List ℕ) : Type 0 where
+-- the looks of a step are no more
+abbrev pub mostOfStep : ℕ
+mostOfStep = rowLength * (rowLength * mostLooks)
+
+pub record Stepping (n width span depth all : ℕ) (needs adds dels adders interferers labels₀ t₀ w₀ : List ℕ) (k at looked : ℕ) (w labels live t r mates besides spare : List ℕ) : Type 0 where
   pub within : k ≤ depth
+  pub few : looked ≤ k * mostOfStep
   pub place : at ≡ size n + k * (size (length needs + n) + size n)
   pub lent : Lent n width span depth needs adds dels adders interferers labels live t r mates besides spare w
   pub long : length w ≡ length w₀
   pub going : (A : Actions) → Told A n needs adds adders interferers → Deletes A dels → Tells A all labels₀ t₀
-      → Going A all (layerBy (domain A .props) (cell t₀)) depth w₀ k at w labels t
+      → Going A all (layerBy (domain A .props) (cell t₀)) depth w₀ k at looked w labels t
 
 -- the sizes of a layer of the vertices and of one of the propositions
 pub told-sizes : (A : Actions) (n : ℕ) (needs adds adders interferers : List ℕ) → Told A n needs adds adders interferers
@@ -138,20 +167,21 @@ told-sizes A n needs adds adders interferers told = (ap₂ (λ (x y : ℕ). size
 
 pub stepping-none : (n width span depth all at : ℕ) (needs adds dels adders interferers labels t w live r mates besides spare : List ℕ)
     → Lent n width span depth needs adds dels adders interferers labels live t r mates besides spare w → at ≡ size n
-    → Stepping n width span depth all needs adds dels adders interferers labels t w 0 at w labels live t r mates besides spare
+    → Stepping n width span depth all needs adds dels adders interferers labels t w 0 at 0 w labels live t r mates besides spare
 stepping-none n width span depth all at needs adds dels adders interferers labels t w live r mates besides spare lent q = record {
   within = omega arith;
+  few = omega arith;
   place = omega (arith, zero-mul (size (length needs + n) + size n));
   lent = lent;
   long = refl;
   going = λ A told del is.
       let e : size (domain A .props) ≡ at = told-sizes A n needs adds adders interferers told .1 ∙ sym q in
-      subst (λ (x : ℕ). Going A all (layerBy (domain A .props) (cell t)) depth w 0 x w labels t) e
+      subst (λ (x : ℕ). Going A all (layerBy (domain A .props) (cell t)) depth w 0 x 0 w labels t) e
       (going-none A all depth w labels t (omega (arith, lent .fits, q)) is);
 }
 
-module _ {n width span depth all : ℕ} {needs adds dels adders interferers labels₀ t₀ w₀ : List ℕ} {k at : ℕ} {w labels live t r mates besides spare : List ℕ}
-    (s : Stepping n width span depth all needs adds dels adders interferers labels₀ t₀ w₀ k at w labels live t r mates besides spare) (h : k < depth) where
+module _ {n width span depth all : ℕ} {needs adds dels adders interferers labels₀ t₀ w₀ : List ℕ} {k at looked : ℕ} {w labels live t r mates besides spare : List ℕ}
+    (s : Stepping n width span depth all needs adds dels adders interferers labels₀ t₀ w₀ k at looked w labels live t r mates besides spare) (h : k < depth) where
   -- the next step has room
   pub room : at + (size (length needs + n) + size n) ≤ length w
   room = omega (arith, s .place, s .lent .fits, suc-mul k (size (length needs + n) + size n), mul-le-mul-right (size (length needs + n) + size n) h)
@@ -166,21 +196,39 @@ module _ {n width span depth all : ℕ} {needs adds dels adders interferers labe
     room = omega (arith, room, tail-length at w (omega (arith, room)));
   }
 
-  module _ (labels' live' t' r' mates' besides' spare' p : List ℕ) (still : Bool)
+  module _ (labels' live' t' r' mates' besides' spare' p : List ℕ) (still : Bool) (looks : ℕ)
+      (joined : (p q : ℕ) → p < n → q < n → cell spare' p q ≡ joinOf rowLength (getD adders p 0) (λ v. cell besides' v q))
       (did : (A : Actions) → Told A n needs adds adders interferers → Deletes A dels → Tells A all labels t
-      → Stepped A all t labels' t' (take (length w - at) (drop at w)) p still) where
+      → Stepped A all t labels' t' live' r' mates' besides' (take (length w - at) (drop at w)) p still)
+      (sees : Alike adders live' mates' r' besides' spare' → looks ≡ tableLooks (length adders) adders labels' live' mates' r') (most : looks ≤ mostOfStep) where
     further : (A : Actions) → Told A n needs adds adders interferers → at + (size (domain A .vertices) + size (domain A .props)) ≤ length w₀
     further A told = let (a, b) = told-sizes A n needs adds adders interferers told in omega (arith, room, s .long)
+
+    -- they are the looks of the rules
+    seen : (A : Actions) → Told A n needs adds adders interferers → Deletes A dels → Tells A all labels t
+        → looks ≡ stepLooks (domain A) all (layerBy (domain A .props) (cell t))
+    seen A told del is =
+        let d = did A told del is in
+        let sets = sets-of A n width needs adds adders interferers told (s .lent .mating .wide) in
+        sees (alike-told sets told (d .shown) is (s .lent .mating .adders-long) joined) ∙ looks-told sets told (d .shown) (d .next) (s .lent .mating .adders-long)
+
+    -- no sum is too large
+    pub looks-fit : (looked + looks ≤ (k + 1) * mostOfStep) × ((depth - (k + 1)) * looks ≤ maxDepth * mostOfStep)
+    looks-fit = (
+      omega (arith, s .few),
+      (let few : depth - (k + 1) ≤ maxDepth = omega (arith, s .lent .deep) in mul-le-mul few most),
+    )
 
     pub stepping-more : (far : ℕ) → far ≡ size (length needs + n) + size n → length p ≡ length (take (length w - at) (drop at w))
         → length labels' ≡ length labels → length live' ≡ length live → length t' ≡ length t → length r' ≡ length r → length mates' ≡ length mates
         → length besides' ≡ length besides → length spare' ≡ length spare
-        → Stepping n width span depth all needs adds dels adders interferers labels₀ t₀ w₀ (k + 1) (at + far) (putMid at (length w - at) w p) labels' live' t' r' mates' besides' spare'
+        → Stepping n width span depth all needs adds dels adders interferers labels₀ t₀ w₀ (k + 1) (at + far) (looked + looks) (putMid at (length w - at) w p) labels' live' t' r' mates' besides' spare'
     stepping-more far ef lp ll lv lt lr lm lb ls =
         let m = s .lent .mating in
         let lw : length (putMid at (length w - at) w p) ≡ length w = same-len-mid at (length w - at) w p lp in
         record {
           within = omega arith;
+          few = looks-fit .0;
           place = omega (arith, s .place, ef, suc-mul k (size (length needs + n) + size n), ap (λ (x : ℕ). x * (size (length needs + n) + size n)) (add-one k));
           lent = record {
             mating = record {
@@ -208,19 +256,20 @@ module _ {n width span depth all : ℕ} {needs adds dels adders interferers labe
               let (a, b) = told-sizes A n needs adds adders interferers told in
               let e : at + (size (domain A .vertices) + size (domain A .props)) ≡ at + far = omega (arith, ef) in
               let g = s .going A told del is in
-              subst (λ (x : ℕ). Going A all (layerBy (domain A .props) (cell t₀)) depth w₀ (k + 1) x (putMid at (length w - at) w p) labels' t') e
-              (going-more g labels' t' p still h (further A told) (did A told del (g .tells)));
+              subst (λ (x : ℕ). Going A all (layerBy (domain A .props) (cell t₀)) depth w₀ (k + 1) x (looked + looks) (putMid at (length w - at) w p) labels' t') e
+              (going-more g labels' t' live' r' mates' besides' p still looks h (further A told) (did A told del (g .tells)) (seen A told del (g .tells)));
         }
 
     pub stepping-rest : still ≡ true → (A : Actions) → Told A n needs adds adders interferers → Deletes A dels → Tells A all labels₀ t₀
-        → Ended (domain A) all (layerBy (domain A .props) (cell t₀)) depth w₀ (k + 1) (putMid at (length w - at) w p)
+        → Ended (domain A) all (layerBy (domain A .props) (cell t₀)) depth w₀ (k + 1) (looked + looks + (depth - (k + 1)) * looks) (putMid at (length w - at) w p)
     stepping-rest e A told del is =
-        let g = s .going A told del is in ended-rest g labels' t' p still h (further A told) (did A told del (g .tells)) e
+        let g = s .going A told del is in
+        ended-rest g labels' t' live' r' mates' besides' p still looks h (further A told) (did A told del (g .tells)) (seen A told del (g .tells)) e
 
-pub stepping-all : {n width span depth all : ℕ} {needs adds dels adders interferers labels₀ t₀ w₀ : List ℕ} {k at : ℕ} {w labels live t r mates besides spare : List ℕ}
-    → Stepping n width span depth all needs adds dels adders interferers labels₀ t₀ w₀ k at w labels live t r mates besides spare → depth ≤ k
+pub stepping-all : {n width span depth all : ℕ} {needs adds dels adders interferers labels₀ t₀ w₀ : List ℕ} {k at looked : ℕ} {w labels live t r mates besides spare : List ℕ}
+    → Stepping n width span depth all needs adds dels adders interferers labels₀ t₀ w₀ k at looked w labels live t r mates besides spare → depth ≤ k
     → (A : Actions) → Told A n needs adds adders interferers → Deletes A dels → Tells A all labels₀ t₀
-    → Ended (domain A) all (layerBy (domain A .props) (cell t₀)) depth w₀ depth w
+    → Ended (domain A) all (layerBy (domain A .props) (cell t₀)) depth w₀ depth looked w
 stepping-all s h A told del is = ended-all (s .going A told del is) h
 
 -- layer 0 of the start states whose labels these are

@@ -3,3 +3,5 @@ pub mod Builds
 pub mod Repeats
 pub mod Listings
 pub mod Whole
+pub mod Looks
+pub mod Answers

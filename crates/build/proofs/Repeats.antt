@@ -108,7 +108,7 @@ factors zero b h = absurd (omega (arith, zero-mul b))
 factors (suc a) zero h = absurd (omega (arith, mul-zero (suc a)))
 factors (suc a) (suc b) h = (omega arith, omega arith)
 
-module _ {D : Domain} {all : ℕ} {l : List ℕ} {depth : ℕ} {w₀ : List ℕ} {t : ℕ} {w : List ℕ} (s : Ended D all l depth w₀ t w)
+module _ {D : Domain} {all : ℕ} {l : List ℕ} {depth : ℕ} {w₀ : List ℕ} {t looked : ℕ} {w : List ℕ} (s : Ended D all l depth w₀ t looked w)
     (room : wordCount (shapeOf D) depth ≤ length w₀) where
   products : t * far D + (depth - t) * far D ≡ depth * far D
   products = sym (add-mul t (depth - t) (far D)) ∙ ap (λ (x : ℕ). x * far D) (add-sub-of-le (s .within))

@@ -9,12 +9,13 @@ use Rattle.words.specs.Rows.{rowLength, tableLength, columnsOf}
 use Rattle.together.specs.Interference.{interferersOf}
 use Rattle.graph.specs.Verdict.{Verdict, accepted, turnedAway}
 use Rattle.graph.specs.Format.{actionsOf}
+use Rattle.graph.specs.Build.{Counted}
 use Rattle.graph.specs.declared.format.Counts.{Counts}
 use Rattle.build.specs.declared.BuildAnswer.{BuildAnswer}
 use Rattle.build.specs.declared.BuildAnswer.the-variants as answer
 
-abbrev pub buildVerdict : BuildAnswer → Verdict ℕ
-buildVerdict (answer.Built words) = accepted words
+abbrev pub buildVerdict : BuildAnswer → Verdict Counted
+buildVerdict (answer.Built words looked) = accepted (record { words = words; looked = looked })
 buildVerdict (answer.Refused why) = turnedAway why
 
 -- what the code asks of the memory that is lent for the effects: how long each list is, and that no adder is there yet

@@ -8,17 +8,20 @@ use Rattle.rules.specs.Lists.{runOver}
 use Rattle.rules.specs.Domain.{Domain}
 use Rattle.rules.specs.Layer.{size, wordCount}
 use Rattle.rules.specs.Shared.{propFrom}
+use Rattle.rules.specs.Scan.{looksFrom}
 use Rattle.words.specs.Memory.{putAt}
 use Rattle.words.specs.Rows.{rowLength, tableLength}
 use Rattle.layers.specs.Step.{Mating, stepWords}
 use Rattle.graph.specs.Limits.{maxDepth}
 use Rattle.graph.specs.Checks.{Small}
 
--- t of `depth` steps over the layer l make w of w₀; if they end before the depth, layer t, labels and mutex words, equals the one before it
-pub record Ended (D : Domain) (all : ℕ) (l : List ℕ) (depth : ℕ) (w₀ : List ℕ) (t : ℕ) (w : List ℕ) : Type 0 where
+-- t of `depth` steps over the layer l make w of w₀; if they end before the depth, layer t, labels and mutex words, equals the one before it.
+-- All steps of the depth look so many times
+pub record Ended (D : Domain) (all : ℕ) (l : List ℕ) (depth : ℕ) (w₀ : List ℕ) (t looked : ℕ) (w : List ℕ) : Type 0 where
   pub within : t ≤ depth
   pub is : w ≡ putAt (size (D .props)) (runOver t (λ k. stepWords D all (propFrom D all l k))) w₀
   pub rests : t < depth → (0 < t) × (propFrom D all l (t - 1) ≡ propFrom D all l t)
+  pub looks : looked ≡ looksFrom D all l depth
 
 -- what the code asks of the lists and tables of a step, and of the memory
 pub record Lent (n width span depth : ℕ) (needs adds dels adders interferers labels live t r mates besides spare words : List ℕ) : Type 0 where

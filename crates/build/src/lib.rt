@@ -26,19 +26,20 @@ ghost use Prim.Native.Nat.{_≤_};
 ghost use lib.ListN.{length};
 ghost use Rattle.rules.specs.Layer.{wordCount};
 ghost use Rattle.words.specs.Memory.{putAt};
-ghost use Rattle.graph.specs.Verdict.{laid, written};
+ghost use Rattle.graph.specs.Verdict.{laid};
 ghost use Rattle.graph.specs.Limits.{maxDepth};
 ghost use Rattle.graph.specs.Format.{shapeIn};
 ghost use Rattle.graph.specs.File.{Taken};
-ghost use Rattle.graph.specs.Build.{buildTaken, buildRule, graphOf};
+ghost use Rattle.graph.specs.Build.{buildTaken, buildRule, graphOf, graphLooks, counted, countRule};
 ghost use Rattle.build.specs.Rooms.{buildVerdict, Rooms};
 
+// Built: the number of words written, and of the vertices and pairs that the scans looked at.
 pub enum BuildAnswer {
-    Built(usize),
+    Built(usize, usize),
     Refused(Refusal),
 }
 
-// Writes the words, with room lent for the lists and tables.
+// Writes the words, with room lent for the lists and tables; how many looks the scans take.
 fn build_in(
     file: &[u8],
     c: Counts,
@@ -57,10 +58,10 @@ fn build_in(
     mates: &mut [u64],
     besides: &mut [u64],
     spare: &mut [u64],
-)
+) -> usize
     requires { ⌜ Taken (now file) c × (depth ≤ maxDepth) × (wordCount (shapeIn c) depth ≤ length (now words)) ⌝ }
     requires { ⌜ Rooms c (now needs) (now adds) (now dels) (now owners) (now adders) (now interferers) (now labels) (now live) (now t) (now r) (now mates) (now besides) (now spare) ⌝ }
-    ensures { λ _. ⌜ now (words .exit) ≡ putAt 0 (graphOf (now (file .entry)) c depth) (now (words .entry)) ⌝ }
+    ensures { λ looked. ⌜ (now (words .exit) ≡ putAt 0 (graphOf (now (file .entry)) c depth) (now (words .entry))) × (looked ≡ graphLooks (now (file .entry)) c depth) ⌝ }
 {
     read_problem(
         file,
@@ -77,7 +78,7 @@ fn build_in(
     let width = width_for(n);
     let span = width_for(c.effects);
     start(&mut *words, &mut *t, &*labels, &*spare, n, width);
-    let done = steps_until(
+    let steps = steps_until(
         &mut *words,
         n,
         &needs[..],
@@ -98,13 +99,14 @@ fn build_in(
         besides,
         spare,
     );
-    copy_rest(words, c.shape(), done, depth);
+    copy_rest(words, c.shape(), steps.done, depth);
+    steps.looked
 }
 
-// Writes the words; lists and tables are arrays of this call.
-fn build_words(file: &[u8], c: Counts, depth: usize, words: &mut [u64])
+// Writes the words; lists and tables are arrays of this call. How many looks the scans take.
+fn build_words(file: &[u8], c: Counts, depth: usize, words: &mut [u64]) -> usize
     requires { ⌜ Taken (now file) c × (depth ≤ maxDepth) × (wordCount (shapeIn c) depth ≤ length (now words)) ⌝ }
-    ensures { λ _. ⌜ now (words .exit) ≡ putAt 0 (graphOf (now (file .entry)) c depth) (now (words .entry)) ⌝ }
+    ensures { λ looked. ⌜ (now (words .exit) ≡ putAt 0 (graphOf (now (file .entry)) c depth) (now (words .entry))) × (looked ≡ graphLooks (now (file .entry)) c depth) ⌝ }
 {
     let p = c.props;
     let e = c.effects;
@@ -139,28 +141,28 @@ fn build_words(file: &[u8], c: Counts, depth: usize, words: &mut [u64])
         &mut mates[..],
         &mut besides[..],
         &mut spare[..],
-    );
+    )
 }
 
 // Once the file is taken: causes 6 and 9, or the words.
 fn build_taken(file: &[u8], c: Counts, depth: usize, words: &mut [u64]) -> BuildAnswer
     requires { ⌜ Taken (now file) c ⌝ }
-    ensures { λ r. ⌜ (buildVerdict r ≡ written (buildTaken (now (file .entry)) c depth (length (now (words .entry)))))
+    ensures { λ r. ⌜ (buildVerdict r ≡ counted (graphLooks (now (file .entry)) c depth) (buildTaken (now (file .entry)) c depth (length (now (words .entry)))))
         × (now (words .exit) ≡ laid (buildTaken (now (file .entry)) c depth (length (now (words .entry)))) (now (words .entry))) ⌝ }
 {
     let check = check_graph(c, depth, Check::Passed, words.len());
     match check {
         Check::Refused(why) => BuildAnswer::Refused(why),
         Check::Passed => {
-            build_words(file, c, depth, words);
-            BuildAnswer::Built(word_count(c.shape(), depth))
+            let looked = build_words(file, c, depth, words);
+            BuildAnswer::Built(word_count(c.shape(), depth), looked)
         }
     }
 }
 
 // Builds the file's graph to the depth: the words stand at the front of the memory, and what lies behind them stays. Turned away, no word changes.
 pub fn build(file: &[u8], depth: usize, words: &mut [u64]) -> BuildAnswer
-    ensures { λ r. ⌜ (buildVerdict r ≡ written (buildRule (now (file .entry)) depth (length (now (words .entry)))))
+    ensures { λ r. ⌜ (buildVerdict r ≡ countRule (now (file .entry)) depth (length (now (words .entry))))
         × (now (words .exit) ≡ laid (buildRule (now (file .entry)) depth (length (now (words .entry)))) (now (words .entry))) ⌝ }
 {
     let taken = check_file(file);

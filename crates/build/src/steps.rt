@@ -3,6 +3,7 @@ use graph::layout::layer_size;
 use graph::layout::stride;
 use layers::step::step;
 use rules::Shape;
+use scans::step_looks;
 ghost use Prim.Native.Nat.{_≤_, _<_};
 ghost use Rattle.rules.specs.Domain.{Actions, domain};
 ghost use Rattle.rules.specs.Together.{layerBy};
@@ -10,7 +11,13 @@ ghost use Rattle.words.specs.Rows.{cell};
 ghost use Rattle.layers.specs.Step.{Told, Deletes, Tells};
 ghost use Rattle.build.specs.Steps.{Lent, Ended};
 
-// Writes steps behind layer 0 until the graph rests or the depth is reached; how many.
+// How many steps were written, and how many vertices and pairs the scans of all steps of the depth look at.
+pub struct Steps {
+    pub done: usize,
+    pub looked: usize,
+}
+
+// Writes steps behind layer 0 until the graph rests or the depth is reached. The steps that are left look at as many as the last one.
 pub fn steps_until(
     words: &mut [u64],
     n: usize,
@@ -31,9 +38,9 @@ pub fn steps_until(
     mates: &mut [u64],
     besides: &mut [u64],
     spare: &mut [u64],
-) -> usize
+) -> Steps
     requires { ⌜ Lent n width span depth (now needs) (now adds) (now dels) (now adders) (now interferers) (now labels) (now live) (now t) (now r) (now mates) (now besides) (now spare) (now words) ⌝ }
-    ensures { λ done. ⌜ (done ≤ depth) × (done < depth → 0 < done) × ((A : Actions) → Told A n (now (needs .entry)) (now (adds .entry)) (now (adders .entry)) (now (interferers .entry)) → Deletes A (now (dels .entry)) → Tells A all (now (labels .entry)) (now (t .entry)) → Ended (domain A) all (layerBy (domain A .props) (cell (now (t .entry)))) depth (now (words .entry)) done (now (words .exit))) ⌝ }
+    ensures { λ s. ⌜ (s .done ≤ depth) × (s .done < depth → 0 < s .done) × ((A : Actions) → Told A n (now (needs .entry)) (now (adds .entry)) (now (adders .entry)) (now (interferers .entry)) → Deletes A (now (dels .entry)) → Tells A all (now (labels .entry)) (now (t .entry)) → Ended (domain A) all (layerBy (domain A .props) (cell (now (t .entry)))) depth (now (words .entry)) (s .done) (s .looked) (now (words .exit))) ⌝ }
 {
     let s = Shape {
         props: n,
@@ -42,6 +49,7 @@ pub fn steps_until(
     let act = layer_size(s.vertices);
     let apart = stride(s);
     let mut at = layer_size(n);
+    let mut looked = 0;
     for k in 0..depth {
         let still = step(
             &mut words[at..],
@@ -64,10 +72,18 @@ pub fn steps_until(
             &mut *besides,
             &mut *spare,
         );
+        let looks = step_looks(adders, &*labels, &*live, &*mates, &*r, &*besides, &*spare);
+        looked += looks;
         if still {
-            return k + 1;
+            return Steps {
+                done: k + 1,
+                looked: looked + (depth - (k + 1)) * looks,
+            };
         }
         at += apart;
     }
-    depth
+    Steps {
+        done: depth,
+        looked: looked,
+    }
 }

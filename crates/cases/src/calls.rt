@@ -10,7 +10,6 @@ use crate::line::fitting;
 use crate::line::number;
 use crate::line::size;
 use crate::show;
-use crate::show::BUILT;
 use crate::show::EXTRACTED;
 use crate::show::LEVEL;
 use crate::show::NEVER;
@@ -20,6 +19,7 @@ use crate::show::OUTPUT;
 use crate::show::PAGED;
 use crate::show::RAN;
 use crate::show::RESTS;
+use crate::show::say_graph;
 use crate::show::say_line;
 use crate::show::say_name;
 use crate::show::say_plan;
@@ -65,7 +65,7 @@ fn say_built(line: &[u8], answer: BuildAnswer) {
         return;
     }
     match answer {
-        BuildAnswer::Built(n) => say_line(BUILT, n),
+        BuildAnswer::Built(n, looked) => say_graph(n, looked),
         BuildAnswer::Refused(why) => say_refusal(why),
     }
 }

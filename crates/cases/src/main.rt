@@ -18,6 +18,9 @@ use line::size;
 // The byte memory: the file, and from `calls::LIST` on, behind the longest file, a list of 65,536 steps, one more than a run takes.
 const BYTES: usize = 66436;
 
+// The graph memory: what the lamp takes at depth 255.
+const GRAPH: usize = 5361;
+
 fn file<'a>(line: &[u8], memory: &'a [u8]) -> &'a [u8] {
     cut(memory, 0, size(line, line::FILE))
 }
@@ -98,7 +101,7 @@ fn main() {
     let mut script = io::large_buffer();
     let n = io::read_full(0, &mut script);
     let mut memory = [0u8; BYTES];
-    let mut words = [7u64; 600];
+    let mut words = [7u64; GRAPH];
     let mut out = [7u64; 49];
     steps(&script[..n], &mut memory, &mut words, &mut out);
 }

@@ -9,7 +9,7 @@ pub fn say(text: &[u8]) {
 }
 
 // What an answer begins with, and the whole of one that has no number.
-pub const BUILT: usize = 0;
+const BUILT: usize = 0;
 
 pub const RESTS: usize = 1;
 
@@ -83,11 +83,20 @@ pub fn say_refusal(why: Refusal) {
     say_end(place(why));
 }
 
+// An answer with two numbers, and what the second one is.
+fn say_both(name: usize, first: usize, what: &[u8], second: usize) {
+    say_name(name);
+    io::print_decimal(1, first as u64);
+    say(what);
+    say_end(second);
+}
+
+pub fn say_graph(words: usize, looked: usize) {
+    say_both(BUILT, words, b" looked ", looked);
+}
+
 pub fn say_plan(level: usize, count: usize) {
-    say_name(PLAN);
-    io::print_decimal(1, level as u64);
-    say(b" count ");
-    say_end(count);
+    say_both(PLAN, level, b" count ", count);
 }
 
 // A number and a blank.

@@ -31,7 +31,7 @@ use Rattle.rules.proofs.Togethers.{vertex-label, label-at, free-own, free-turn,
 use Rattle.rules.proofs.Steps as S
 use Rattle.rules.proofs.Steps.{Sets}
 use Rattle.words.specs.Memory.{putAt}
-use Rattle.words.specs.Rows.{rowLength, cell, bothWays, changesOf}
+use Rattle.words.specs.Rows.{rowLength, cell, bothWays, grown, changesOf}
 use Rattle.words.proofs.Writes.{put-word, put-length, put-within}
 use lib.Dec.{eqb}
 use borrow.Author.Tests.{eqb-true}
@@ -39,12 +39,23 @@ use Rattle.together.specs.Cells.{Width, Span, labelFor, rowFor, withProp, withE
 use Rattle.layers.specs.Write.{apart, Diagonal, effectRow, actionWords}
 use Rattle.layers.proofs.Puts.{put-behind}
 use Rattle.together.proofs.Rows.{parts-le}
-use Rattle.layers.specs.Step.{Told, Tells, overOf, Admitted, Kept, Mated, Next, Nexting, Deletes, Ready, Stepped, stepWords}
+use Rattle.layers.specs.Step.{Told, Tells, overOf, Admitted, Kept, Mated, Gathered, Next, Nexting, Deletes, Ready, Stepped, stepWords}
 
 -- a word of a row
 pub row-cell : (table : List ℕ) (i q : ℕ) → q < rowLength → getD (rowIn table i) q 0 ≡ cell table i q
 unfolding rowIn cell
 row-cell table i q h = getD-take rowLength (drop (i * rowLength) table) q 0 h ∙ getD-drop (i * rowLength) table q 0
+
+-- a word that is joined to two others
+join-both : (a b x : ℕ) → union (union a b) x ≡ union (union x a) (union x b)
+join-both a b x = ext-all (λ s.
+    bit-union s (union a b) x ∙ ap (λ (y : Bool). y or bit s x) (bit-union s a b) ∙ tests (bit s a) (bit s b) (bit s x)
+    ∙ sym (bit-union s (union x a) (union x b) ∙ ap₂ _or_ (bit-union s x a) (bit-union s x b)))
+  where
+    tests : (a b x : Bool) → ((a or b) or x) ≡ ((x or a) or (x or b))
+    tests a b x = test-eq
+        (λ t. ⊎-elim (λ y. ⊎-elim (λ z. or-left _ (or-right _ z)) (λ z. or-right _ (or-right _ z)) (or-at y)) (λ y. or-left _ (or-left _ y)) (or-at t))
+        (λ t. ⊎-elim (λ y. ⊎-elim (or-right _) (λ z. or-left _ (or-left _ z)) (or-at y)) (λ y. ⊎-elim (or-right _) (λ z. or-left _ (or-right _ z)) (or-at y)) (or-at t))
 
 module _ (A : Actions) (all : ℕ) (sets : Sets rowLength A) (labels t : List ℕ) (is : Tells A all labels t) where
   abbrev free : ℕ → ℕ → ℕ
@@ -190,21 +201,22 @@ module _ (A : Actions) (all : ℕ) (sets : Sets rowLength A) (labels t : List �
   -- ---- the next table
 
   module _ (n : ℕ) (needs adds adders interferers : List ℕ) (told : Told A n needs adds adders interferers) (spare besides t' : List ℕ)
-      (halves : (p q : ℕ) → p < A .props → q < A .props → cell spare p q ≡ union (cell t p q) (joinOf rowLength (getD adders p 0) (λ i. cell besides i q)))
+      (halves : (p q : ℕ) → p < A .props → q < A .props → cell spare p q ≡ joinOf rowLength (getD adders p 0) (λ i. cell besides i q))
       (with-adders : (i p : ℕ) → i < A .effects → p < A .props → cell besides i p ≡ beside (domain A) (overOf A all t) i p)
-      (joined : (p q : ℕ) → p < A .props → q < A .props → cell t' p q ≡ bothWays spare p q) where
+      (joined : (p q : ℕ) → p < A .props → q < A .props → cell t' p q ≡ grown spare t p q) where
     half-told : (p q : ℕ) → p < A .props → q < A .props
-        → cell spare p q ≡ union (cell t p q) (joinOf rowLength (startLabel (A .effects) (A .add) p) (λ i. beside (domain A) (overOf A all t) i q))
+        → cell spare p q ≡ joinOf rowLength (startLabel (A .effects) (A .add) p) (λ i. beside (domain A) (overOf A all t) i q)
     half-told p q h k =
-        halves p q h k ∙ ap (union (cell t p q))
-        (join-only (getD adders p 0) (λ i l m. with-adders i q
+        halves p q h k
+        ∙ join-only (getD adders p 0) (λ i l m. with-adders i q
         (bit-below (startLabel-lt (A .effects) (A .add) p) (ap (bit i) (sym (told .by p h)) ∙ m)) k)
-        ∙ ap (λ (x : ℕ). joinOf rowLength x (λ i. beside (domain A) (overOf A all t) i q)) (told .by p h))
+        ∙ ap (λ (x : ℕ). joinOf rowLength x (λ i. beside (domain A) (overOf A all t) i q)) (told .by p h)
 
     pub cell-told : (p q : ℕ) → p < A .props → q < A .props → cell t' p q ≡ nextTogether (domain A) (overOf A all t) p q
-    unfolding bothWays
+    unfolding grown bothWays domain
     cell-told p q h k =
-        joined p q h k ∙ ap₂ union (half-told p q h k) (half-told q p k h)
+        joined p q h k ∙ join-both (cell spare p q) (cell spare q p) (cell t p q)
+        ∙ ap₂ union (ap (union (cell t p q)) (half-told p q h k)) (ap₂ union (is .consistent .turn p q h k) (half-told q p k h))
         ∙ S.next-cells rowLength all A sets (is .consistent) h k
 
     inside : (s v : ℕ) → v < domain A .vertices → So (bit s (labelIn (overOf A all t) v)) → So (bit s all)
@@ -369,12 +381,11 @@ module _ (A : Actions) (all n width : ℕ) (needs adds dels adders interferers l
 pub next-made : (A : Actions) (all n width fresh : ℕ) (needs adds adders interferers mates labels t besides spare t' labels' : List ℕ)
     → Told A n needs adds adders interferers → Width n width needs → Nexting n width adders besides t spare labels → Tells A all labels t → Mated A all t mates besides
     → (spare' : List ℕ)
-    → ((p k : ℕ) → p < length adders → k < width → cell spare' p k ≡ union (cell t p k) (joinOf rowLength (getD adders p 0) (λ i. cell besides i k)))
-    → ((p q : ℕ) → p < n → q < n → cell t' p q ≡ bothWays spare' p q) → fresh ≡ joinOver n (changesOf n spare' t)
+    → Gathered n adders besides spare' → ((p q : ℕ) → p < n → q < n → cell t' p q ≡ grown spare' t p q) → fresh ≡ joinOver n (changesOf n spare' t)
     → labels' ≡ putAt 0 (listOver n (λ p. cell t' p p)) labels → Next A all t labels' t' (eqb fresh 0)
 next-made A all n width fresh needs adds adders interferers mates labels t besides spare t' labels' told wide ready is mat spare' halves joined ef el =
     next-told A all (sets-of A n width needs adds adders interferers told wide) labels t is n needs adds adders interferers told spare' besides t'
-    (λ p q h k. halves p q (lt p h) (ltw q k)) (mat .with-adders) (λ p q h k. joined p q (ltn p h) (ltn q k)) labels' (eqb fresh 0)
+    (λ p q h k. halves p q (ltn p h) (ltn q k)) (mat .with-adders) (λ p q h k. joined p q (ltn p h) (ltn q k)) labels' (eqb fresh 0)
     (λ p h. diagonal-told n labels labels' t' el (omega (arith, ready .labels-long, few)) p (ltn p h))
     (λ b p q h k. joined p q (ltn p h) (ltn q k) ∙ still b p q (ltn p h) (ltn q k))
   where
@@ -384,15 +395,9 @@ next-made A all n width fresh needs adds adders interferers mates labels t besid
     ltn : (p : ℕ) → p < A .props → p < n
     ltn p h = subst (λ (x : ℕ). p < x) (told .props) h
 
-    lt : (p : ℕ) → p < A .props → p < length adders
-    lt p h = omega (arith, ltn p h, ready .adders-long)
-
-    ltw : (p : ℕ) → p < A .props → p < width
-    ltw p h = omega (arith, ltn p h, ready .props)
-
-    still : eqb fresh 0 ≡ true → (p q : ℕ) → p < n → q < n → bothWays spare' p q ≡ cell t p q
+    still : eqb fresh 0 ≡ true → (p q : ℕ) → p < n → q < n → grown spare' t p q ≡ cell t p q
     still b p q h k = unfold changesOf in
-        unchanged n (bothWays spare' p) (cell t p) (none-joined n (changesOf n spare' t) (sym ef ∙ eqb-true fresh 0 b) p h) q k
+        unchanged n (grown spare' t p) (cell t p) (none-joined n (changesOf n spare' t) (sym ef ∙ eqb-true fresh 0 b) p h) q k
 
 -- ---- the whole step
 
@@ -433,10 +438,10 @@ pub step-made : (A : Actions) (all n width span at : ℕ) (still : Bool)
     → ((A : Actions) (all : ℕ) (needs adds interferers mates : List ℕ) → Told A n needs adds adders interferers → Width n width needs → Tells A all labels t
     → Mated A all t mates besides' → Next A all t labels' t' still)
     → p ≡ putAt 0 (layerBy n (cell t')) (take (length w₁ - at) (drop at w₁))
-    → Stepped A all t labels' t' w (putMid at (length w₁ - at) w₁ p) still
+    → Stepped A all t labels' t' live' cut mates' besides' w (putMid at (length w₁ - at) w₁ p) still
 step-made A all n width span at still needs adds dels adders interferers labels live t r mates besides spare w
     live' r' mates' besides' cut w₁ labels' t' p ready told del is el cells mate cuts e₁ next ep =
-    record { next = nx; is = unfold stepWords in back }
+    record { next = nx; shown = record { label = adm .label; kept = kept; mated = mat }; is = unfold stepWords in back }
   where
     sets : Sets rowLength A
     sets = sets-of A n width needs adds adders interferers told (ready .mating .wide)

@@ -5,6 +5,7 @@ use mathlib.Core.Bool.{Bool, true}
 use mathlib.Core.List.{List, _++_}
 use lib.ListN.{length, getD}
 use Rattle.rules.specs.Word.{bit}
+use Rattle.rules.specs.Over.{joinOf}
 use Rattle.rules.specs.Domain.{Domain, Actions, condition, persistence, interfereOf, domain}
 use Rattle.rules.specs.Layer.{size, labelIn, freeIn}
 use Rattle.rules.specs.Shared.{startLabel, actionLayer, nextLayer}
@@ -53,6 +54,13 @@ pub record Mated (A : Actions) (all : ℕ) (t mates besides : List ℕ) : Type 0
   pub pair : (i j : ℕ) → i < A .effects → j < A .effects → cell mates i j ≡ freeIn (domain A .vertices) (overOf A all t) i j
   pub with-adders : (i p : ℕ) → i < A .effects → p < A .props → cell besides i p ≡ beside (domain A) (overOf A all t) i p
 
+-- what a step leaves of the action layer over the layer of t: the labels of the effects, each effect with each persistence, two effects,
+-- and each effect with the adders of each proposition
+pub record Shown (A : Actions) (all : ℕ) (t live r mates besides : List ℕ) : Type 0 where
+  pub label : (i : ℕ) → i < A .effects → getD live i 0 ≡ labelIn (overOf A all t) i
+  pub kept : Kept A all t r
+  pub mated : Mated A all t mates besides
+
 -- what the code asks that finds them
 pub record Mating (n width span : ℕ) (needs adds dels adders interferers live r mates besides spare : List ℕ) : Type 0 where
   pub wide : Width n width needs
@@ -68,6 +76,10 @@ pub record Mating (n width span : ℕ) (needs adds dels adders interferers live 
   pub mates-long : length mates ≡ tableLength
   pub besides-long : length besides ≡ tableLength
   pub spare-long : length spare ≡ tableLength
+
+-- row p of `spare` is the rows of `besides` of the adders of p, joined
+abbrev pub Gathered : ℕ → List ℕ → List ℕ → List ℕ → Type 0
+Gathered n adders besides spare = (p q : ℕ) → p < n → q < n → cell spare p q ≡ joinOf rowLength (getD adders p 0) (λ v. cell besides v q)
 
 -- the table of the next proposition layer; where nothing changed, it is the layer before
 pub record Next (A : Actions) (all : ℕ) (t labels' t' : List ℕ) (still : Bool) : Type 0 where
@@ -95,8 +107,9 @@ pub record Ready (n width span at : ℕ) (needs adds dels adders interferers lab
   pub room : at + size n ≤ length words
 
 -- what a step leaves
-pub record Stepped (A : Actions) (all : ℕ) (t labels' t' words words' : List ℕ) (still : Bool) : Type 0 where
+pub record Stepped (A : Actions) (all : ℕ) (t labels' t' live' r' mates' besides' words words' : List ℕ) (still : Bool) : Type 0 where
   pub next : Next A all t labels' t' still
+  pub shown : Shown A all t live' r' mates' besides'
   pub is : words' ≡ putAt 0 (stepWords (domain A) all (layerBy (domain A .props) (cell t))) words
 
 -- what the code asks that makes the table of layer 0

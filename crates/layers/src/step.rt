@@ -5,6 +5,7 @@ use together::admit::admit;
 use together::cut::cut_columns;
 use together::cut::cut_rows;
 use together::few::few;
+use together::pairs::gather_rows;
 use together::pairs::join_rows;
 use together::pairs::pairs;
 use words::tables::ROW;
@@ -20,7 +21,7 @@ ghost use Rattle.words.specs.Memory.{putAt};
 ghost use Rattle.words.specs.Rows.{rowLength, tableLength, cell};
 ghost use Rattle.together.specs.Cells.{Width};
 ghost use Rattle.layers.specs.Write.{Diagonal};
-ghost use Rattle.layers.specs.Step.{Told, Tells, Admitted, Mated, Mating, Next, Nexting, Ready, Stepped, Deletes};
+ghost use Rattle.layers.specs.Step.{Told, Tells, Admitted, Mated, Mating, Gathered, Next, Nexting, Ready, Stepped, Deletes};
 
 // Which effects are together, and what each is together with among the adders of each proposition: by rows, or one by one where there are few pairs.
 // Pairs go by the rows of r as they are; what an effect deletes is cut out behind them, since it does not part the effects of one action.
@@ -75,7 +76,7 @@ fn diagonal(t: &[u64], labels: &mut [u64], n: usize)
 }
 
 // The table of the next proposition layer and its labels: what is together in the layer before, by two effects, or by an effect and a persistence.
-// Whether nothing changed.
+// `spare` gets what the adders of each proposition are together with. Whether nothing changed.
 fn next(
     n: usize,
     adders: &[u64],
@@ -86,15 +87,16 @@ fn next(
     width: usize,
 ) -> bool
     requires { ⌜ Nexting n width (now adders) (now besides) (now t) (now spare) (now labels) ⌝ }
-    ensures { λ still. ⌜ Diagonal n (now (labels .exit)) (now (t .exit)) × ((A : Actions) (all : ℕ) (needs adds interferers mates : List ℕ) → Told A n needs adds (now (adders .entry)) interferers → Width n width needs → Tells A all (now (labels .entry)) (now (t .entry)) → Mated A all (now (t .entry)) mates (now (besides .entry)) → Next A all (now (t .entry)) (now (labels .exit)) (now (t .exit)) still) ⌝ }
+    ensures { λ still. ⌜ Diagonal n (now (labels .exit)) (now (t .exit)) × Gathered n (now (adders .entry)) (now (besides .entry)) (now (spare .exit)) × ((A : Actions) (all : ℕ) (needs adds interferers mates : List ℕ) → Told A n needs adds (now (adders .entry)) interferers → Width n width needs → Tells A all (now (labels .entry)) (now (t .entry)) → Mated A all (now (t .entry)) mates (now (besides .entry)) → Next A all (now (t .entry)) (now (labels .exit)) (now (t .exit)) still) ⌝ }
 {
-    join_rows(&mut *spare, &*t, besides, adders, width);
+    gather_rows(&mut *spare, besides, adders, width);
     let fresh = join_turned(&mut *t, &*spare, n);
     diagonal(&*t, labels, n);
     fresh == 0
 }
 
-// Writes the action layer at the front and the next proposition layer behind it; the table and the labels become those of that layer. Whether nothing changed.
+// Writes the action layer at the front and the next proposition layer behind it; the table and the labels become those of that layer.
+// The tables of the effects stay as they are for the caller to read, and `spare` as `next` leaves it. Whether nothing changed.
 pub fn step(
     words: &mut [u64],
     at: usize,
@@ -117,7 +119,7 @@ pub fn step(
     spare: &mut [u64],
 ) -> bool
     requires { ⌜ Ready n width span at (now needs) (now adds) (now dels) (now adders) (now interferers) (now labels) (now live) (now t) (now r) (now mates) (now besides) (now spare) (now words) ⌝ }
-    ensures { λ still. ⌜ ((A : Actions) → Told A n (now (needs .entry)) (now (adds .entry)) (now (adders .entry)) (now (interferers .entry)) → Deletes A (now (dels .entry)) → Tells A all (now (labels .entry)) (now (t .entry)) → Stepped A all (now (t .entry)) (now (labels .exit)) (now (t .exit)) (now (words .entry)) (now (words .exit)) still) ⌝ }
+    ensures { λ still. ⌜ Gathered n (now (adders .entry)) (now (besides .exit)) (now (spare .exit)) × ((A : Actions) → Told A n (now (needs .entry)) (now (adds .entry)) (now (adders .entry)) (now (interferers .entry)) → Deletes A (now (dels .entry)) → Tells A all (now (labels .entry)) (now (t .entry)) → Stepped A all (now (t .entry)) (now (labels .exit)) (now (t .exit)) (now (live .exit)) (now (r .exit)) (now (mates .exit)) (now (besides .exit)) (now (words .entry)) (now (words .exit)) still) ⌝ }
 {
     admit(needs, all, &*labels, &*t, &mut *r, &mut *live, n, width);
     mate(

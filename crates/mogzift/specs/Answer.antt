@@ -3,6 +3,7 @@ use Prim.Native.Nat.{ℕ}
 use mathlib.Core.List.{List, [], _∷_}
 use Rattle.rules.specs.Level.{Level, level, never, notByDepth, Rest, restsAt, none}
 use Rattle.graph.specs.Verdict.{Verdict, accepted, refused}
+use Rattle.graph.specs.Build.{Counted}
 use Rattle.plan.specs.Plan.{Made}
 
 -- the value returned: 0 where the call is accepted, else the paper's number of the cause
@@ -15,9 +16,13 @@ unfoldable pub answerOf : {X : Type 0} → (X → List ℕ) → Verdict X → Li
 answerOf says (accepted x) = says x
 answerOf says (refused number place) = 0 ∷ number ∷ place ∷ []
 
--- kind 1: a build, a page, an extract, a run or a text, with how many words, entries, sets or bytes it wrote
+-- kind 1: a page, an extract, a run or a text, with how many entries, words, sets or bytes it wrote
 abbrev pub countSays : ℕ → List ℕ
 countSays count = 1 ∷ count ∷ 0 ∷ []
+
+-- kind 1: a build, with how many words it wrote, and how many vertices and pairs its scans looked at
+abbrev pub buildSays : Counted → List ℕ
+buildSays graph = 1 ∷ graph .words ∷ graph .looked ∷ []
 
 -- kind 1: the graph rests at this layer; kind 2: 'none'
 abbrev pub restSays : Rest → List ℕ

@@ -26,7 +26,7 @@ use words::sets::States;
 ghost use mathlib.Core.Path.{_≡_};
 ghost use lib.ListN.{length};
 ghost use Rattle.graph.specs.Verdict.{laid, written};
-ghost use Rattle.graph.specs.Build.{buildRule};
+ghost use Rattle.graph.specs.Build.{buildRule, countRule};
 ghost use Rattle.level.specs.Rule.{levelRule, restRule};
 ghost use Rattle.page.specs.Rule.{pageRule};
 ghost use Rattle.extract.specs.Rule.{extractRule};
@@ -34,7 +34,7 @@ ghost use Rattle.run.specs.Run.{runRule};
 ghost use Rattle.plan.specs.Plan.{made, planRule};
 ghost use Rattle.report.specs.Depth.{fittingRule};
 ghost use Rattle.report.specs.Text.{textRule};
-ghost use Rattle.mogzift.specs.Answer.{codeOf, answerOf, countSays, restSays, levelSays, planSays, depthSays};
+ghost use Rattle.mogzift.specs.Answer.{codeOf, answerOf, countSays, buildSays, restSays, levelSays, planSays, depthSays};
 
 #[no_mangle]
 pub extern "C" fn mogzift_build(
@@ -43,12 +43,12 @@ pub extern "C" fn mogzift_build(
     words: &mut [u64],
     answer: &mut [u64; 3],
 ) -> usize
-    ensures { λ r. ⌜ (r ≡ codeOf (written (buildRule (now (file .entry)) depth (length (now (words .entry))))))
-        × (now (answer .exit) ≡ answerOf countSays (written (buildRule (now (file .entry)) depth (length (now (words .entry))))))
+    ensures { λ r. ⌜ (r ≡ codeOf (countRule (now (file .entry)) depth (length (now (words .entry)))))
+        × (now (answer .exit) ≡ answerOf buildSays (countRule (now (file .entry)) depth (length (now (words .entry)))))
         × (now (words .exit) ≡ laid (buildRule (now (file .entry)) depth (length (now (words .entry)))) (now (words .entry))) ⌝ }
 {
     match build(file, depth, words) {
-        BuildAnswer::Built(count) => tell(answer, 1, count, 0),
+        BuildAnswer::Built(count, looked) => tell(answer, 1, count, looked),
         BuildAnswer::Refused(why) => tell_refusal(answer, why),
     }
 }

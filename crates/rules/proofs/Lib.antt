@@ -25,5 +25,7 @@ pub mod Plans
 pub mod Claims
 pub mod Lamp
 pub mod Bag
+pub mod Scans
+pub mod ScanSplits
 pub mod SamePlans
 pub mod SameDomains

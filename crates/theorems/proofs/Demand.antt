@@ -1,16 +1,21 @@
 -- What the calls promise together, of what they answer and write themselves: for every accepted file, every depth and memory that the build accepts,
 -- every goal over the file's propositions and every non-empty set S of its states, on memory that begins with the words which the build writes.
--- A call's answer and memory are what its rule says (buildRule, extractRule, levelRule, runRule, planRule). The setting is that of Setting.
+-- A call's answer and memory are what its rule says (buildRule and countRule, extractRule, levelRule, runRule, planRule). The setting is that of Setting.
 -- What is said of a page of goals (pageRule) holds on any memory, and what is said of equal actions and of effects without an action of any file.
 -- Assumes nothing.
-use mathlib.Core.Path.{_≡_}
+use mathlib.Core.Path.{_≡_, ap, _∙_}
 use mathlib.Core.Bool.{So}
 use mathlib.Core.List.{List}
-use Prim.Native.Nat.{ℕ, _≤_, _<_}
+use Prim.Native.Nat.{ℕ, _+_, _*_, _≤_, _<_}
 use lib.ListN.{length, getD}
 use Rattle.rules.specs.Test.{_or_}
-use Rattle.rules.specs.Word.{bit, union, without, single, within}
-use Rattle.rules.specs.Domain.{SameActions, condition, clobbers, domain}
+use Rattle.rules.specs.Word.{bit, common, union, without, single, within}
+use Rattle.rules.specs.Over.{countBelow}
+use Rattle.rules.specs.Domain.{shapeOf, SameActions, condition, clobbers, domain}
+use Rattle.rules.specs.Layer.{labelIn, mutexIn, propsIn, actionsIn}
+use Rattle.rules.specs.Shared.{nextMutex}
+use Rattle.rules.specs.Scan.{Scan, scanned, sumOver, looksOf}
+use Rattle.rules.proofs.Scans.{scanned-left, scanned-none, looked-all, all-looks}
 use Rattle.rules.specs.Level.{Level, level, never, notByDepth}
 use Rattle.rules.specs.Extract.{rank}
 use Rattle.rules.specs.Run.{after}
@@ -19,7 +24,7 @@ use Rattle.rules.specs.Agreement.{OneState}
 use Rattle.graph.specs.Verdict.{accepted, refused, written, laid}
 use Rattle.graph.specs.Format.{countsIn, actionsOf, startOf, domainOf, withCount, withStates}
 use Rattle.graph.specs.File.{fileRule}
-use Rattle.graph.specs.Build.{buildRule}
+use Rattle.graph.specs.Build.{buildRule, countRule}
 use Rattle.graph.specs.declared.format.Counts.{Counts}
 use Rattle.level.specs.Rule.{levelRule}
 use Rattle.page.specs.Rule.{entryOf, pageRule}
@@ -38,6 +43,7 @@ use Rattle.theorems.proofs.Leaks as leaks
 use Rattle.theorems.proofs.Pages as pages
 use Rattle.theorems.proofs.Pairs as pairs
 use Rattle.theorems.proofs.Effects as effects
+use Rattle.theorems.proofs.Looks as scans
 
 -- the memory after an accepted build is of this setting
 pub build-leaves : (file : List ℕ) (c : Counts) (depth : ℕ) (memory words : List ℕ) → fileRule file ≡ accepted c
@@ -234,3 +240,48 @@ module _ (file : List ℕ) (c : Counts) (taken : fileRule file ≡ accepted c) (
       → domainOf file c .interfere v w ≡ (clobbers (actionsOf file c) v w or clobbers (actionsOf file c) w v)
   unfolding domain
   version-1-interfere = effects.interfere file c taken one
+
+-- ---- 9: pairs that are settled early
+
+-- What the scan of a pair leaves is the mutex word of document 01, in every case: whatever n vertices add, over any layer and from any states.
+pub scan-leaves-mutex : (n : ℕ) (adds : ℕ → ℕ) (a : List ℕ) (both p q : ℕ) → scanned n adds a both p q .left ≡ nextMutex n adds a both p q
+scan-leaves-mutex n adds a both p q = scanned-left n adds a p q both
+
+-- Where a state is left the scan has looked at all there is: as often as vertices add p, times those that add q. Where labels share no state it does not look.
+pub unsettled-looks : (n : ℕ) (adds : ℕ → ℕ) (a : List ℕ) (both p q : ℕ) → (nextMutex n adds a both p q ≡ 0 → ⊥)
+    → scanned n adds a both p q .looked ≡ countBelow n (λ v. bit p (adds v)) * countBelow n (λ v. bit q (adds v))
+unsettled-looks n adds a both p q some = looked-all n adds a p q both some ∙ all-looks n adds p q
+
+pub unshared-looks : (n : ℕ) (adds : ℕ → ℕ) (a : List ℕ) (p q : ℕ) → scanned n adds a 0 p q .looked ≡ 0
+unshared-looks n adds a p q = ap (λ (s : Scan). s .looked) (scanned-none n adds a p q)
+
+-- A build that is turned away answers no number of looks, and only such a one.
+pub no-looks-exactly : (file : List ℕ) (depth room number place : ℕ)
+    → Exactly (buildRule file depth room ≡ refused number place) (countRule file depth room ≡ refused number place)
+no-looks-exactly = scans.refused-exactly
+
+-- In files of either version, by the layers as they lie in memory.
+module _ (file : List ℕ) (c : Counts) (depth : ℕ) (found : List ℕ) (built : Found file c depth found) where
+  abbrev props : ℕ → List ℕ
+  props = propsIn (shapeOf (domainOf file c)) found
+
+  abbrev actions : ℕ → List ℕ
+  actions = actionsIn (shapeOf (domainOf file c)) found
+
+  -- The scan of p and q over action layer t, from what their labels share in layer t + 1, leaves their mutex word of that layer.
+  pub scan-leaves-word : (t : ℕ) → t < depth → (p q : ℕ) → p < q → q < domainOf file c .props
+      → scanned (domainOf file c .vertices) (domainOf file c .adds) (actions t) (common (labelIn (props (t + 1)) p) (labelIn (props (t + 1)) q)) p q .left
+      ≡ mutexIn (domainOf file c .props) (props (t + 1)) p q
+  scan-leaves-word = scans.leaves-word built
+
+  -- how many vertices and pairs the scans look at in the step over action layer t
+  abbrev looks : ℕ → ℕ
+  looks t = looksOf (domainOf file c .props) (domainOf file c .vertices) (domainOf file c .adds) (actions t)
+
+  -- The build answers how many words it wrote, and the looks of all its steps.
+  pub build-answers : countRule file depth (built .memory) ≡ accepted (record { words = length (built .words); looked = sumOver depth looks })
+  build-answers = scans.answers built
+
+  -- A step behind the layer at which the graph rests looks as often as the one at it, whose layers it copies.
+  pub copies-look : (r : ℕ) → r < depth → props r ≡ props (r + 1) → (t : ℕ) → r ≤ t → t < depth → looks t ≡ looks r
+  copies-look = scans.as-copied built

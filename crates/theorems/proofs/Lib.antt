@@ -8,4 +8,5 @@ pub mod Leaks
 pub mod Pages
 pub mod Pairs
 pub mod Effects
+pub mod Looks
 pub mod Demand

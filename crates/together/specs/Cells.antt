@@ -85,9 +85,8 @@ pub record Pairing (span : ℕ) (needs interferers live turned mates : List ℕ)
   pub mates-long : length mates ≡ tableLength
 
 -- what it asks that joins rows of a table
-pub record Joining (to from table sets : List ℕ) (width : ℕ) : Type 0 where
+pub record Joining (to table sets : List ℕ) (width : ℕ) : Type 0 where
   pub to-long : length to ≡ tableLength
-  pub from-long : length from ≡ tableLength
   pub table-long : length table ≡ tableLength
   pub few : length sets ≤ rowLength
   pub rows : Inside rowLength sets

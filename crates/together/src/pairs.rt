@@ -1,4 +1,5 @@
 // What two effects are together in, all pairs row by row; and rows joined over the adders of each proposition.
+use words::parts::gather_row;
 use words::parts::join_row;
 use words::parts::meet_row;
 use words::sets::wide;
@@ -9,7 +10,7 @@ ghost use Prim.Native.Nat.{ℕ, _<_};
 ghost use lib.ListN.{length, getD};
 ghost use Rattle.rules.specs.Word.{union};
 ghost use Rattle.rules.specs.Over.{joinOf};
-ghost use Rattle.words.specs.Rows.{rowLength, cell};
+ghost use Rattle.words.specs.Rows.{rowLength, tableLength, cell};
 ghost use Rattle.together.specs.Cells.{Pairing, Joining, withEffect};
 
 // An effect with itself is there where it is; with one that it interferes with nowhere.
@@ -33,10 +34,20 @@ pub fn pairs(
 
 // Row p of `to`: that of `from`, joined with the rows of a table that the set p names.
 pub fn join_rows(to: &mut [u64], from: &[u64], table: &[u64], sets: &[u64], width: usize)
-    requires { ⌜ Joining (now to) (now from) (now table) (now sets) width ⌝ }
+    requires { ⌜ Joining (now to) (now table) (now sets) width × (length (now from) ≡ tableLength) ⌝ }
     ensures { λ _. ⌜ ((p k : ℕ) → p < length (now (sets .entry)) → k < width → cell (now (to .exit)) p k ≡ union (cell (now (from .entry)) p k) (joinOf rowLength (getD (now (sets .entry)) p 0) (λ i. cell (now (table .entry)) i k))) ⌝ }
 {
     for p in 0..sets.len() {
         join_row(&mut *to, p, from, table, width, sets[p]);
+    }
+}
+
+// Row p of `to`: the rows of a table that the set p names, joined.
+pub fn gather_rows(to: &mut [u64], table: &[u64], sets: &[u64], width: usize)
+    requires { ⌜ Joining (now to) (now table) (now sets) width ⌝ }
+    ensures { λ _. ⌜ ((p k : ℕ) → p < length (now (sets .entry)) → k < width → cell (now (to .exit)) p k ≡ joinOf rowLength (getD (now (sets .entry)) p 0) (λ i. cell (now (table .entry)) i k)) ⌝ }
+{
+    for p in 0..sets.len() {
+        gather_row(&mut *to, p, table, width, sets[p]);
     }
 }

@@ -117,12 +117,16 @@ pub fn word_room() -> [u64; WORDS]
 }
 
 // An answer with one number.
-fn said(answer: u64, n: usize) -> Outcome {
+fn said_both(answer: u64, first: usize, second: usize) -> Outcome {
     Outcome {
         answer: answer,
-        first: n,
-        second: 0,
+        first: first,
+        second: second,
     }
+}
+
+fn said(answer: u64, n: usize) -> Outcome {
+    said_both(answer, n, 0)
 }
 
 fn states(row: &[u8]) -> States {
@@ -172,7 +176,7 @@ fn lay_graph(row: &[u8], edits: &[u8], built: &[u64], graph: &mut [u64]) {
 
 fn call_build(file: &[u8], row: &[u8], out: &mut [u64]) -> Outcome {
     match build::build(file, index(row, DEPTH), out) {
-        BuildAnswer::Built(n) => said(a::BUILT, n),
+        BuildAnswer::Built(n, looked) => said_both(a::BUILT, n, looked),
         BuildAnswer::Refused(why) => refused(why),
     }
 }
@@ -203,11 +207,7 @@ fn call_extract(file: &[u8], row: &[u8], graph: &[u64], out: &mut [u64]) -> Outc
 
 fn call_plan(file: &[u8], row: &[u8], graph: &[u64], out: &mut [u32]) -> Outcome {
     match plan::plan(file, index(row, DEPTH), states(row), goal(row), graph, out) {
-        PlanAnswer::Plan(level, marked) => Outcome {
-            answer: a::PLANNED,
-            first: level,
-            second: marked,
-        },
+        PlanAnswer::Plan(level, marked) => said_both(a::PLANNED, level, marked),
         PlanAnswer::Refused(why) => refused(why),
     }
 }

@@ -29,9 +29,13 @@ cell table i j = getD table (i * rowLength + j) 0
 unfoldable pub bothWays : List ℕ → ℕ → ℕ → ℕ
 bothWays table p q = union (cell table p q) (cell table q p)
 
--- what that changes in n words of row p of another table
+-- that joined to what another table has there
+unfoldable pub grown : List ℕ → List ℕ → ℕ → ℕ → ℕ
+grown table old p q = union (bothWays table p q) (cell old p q)
+
+-- what that changes in n words of row p of the other
 unfoldable pub changesOf : ℕ → List ℕ → List ℕ → ℕ → ℕ
-changesOf n table old p = joinOver n (λ q. bitXor (bothWays table p q) (cell old p q))
+changesOf n table old p = joinOver n (λ q. bitXor (grown table old p q) (cell old p q))
 
 -- a row of a table, to be written
 pub record Target (table : List ℕ) (row : ℕ) : Type 0 where

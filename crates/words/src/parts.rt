@@ -108,6 +108,16 @@ fn join_cols(dest: &mut [u64], row: usize, from: &[u64], table: &[u64], col: usi
     put_part(dest, row * ROW + col, &part[..]);
 }
 
+// Part `col` of row `row`: the named rows, joined.
+fn gather_cols(dest: &mut [u64], row: usize, table: &[u64], col: usize, named: u64)
+    requires { ⌜ Target (now dest) row × Source (now table) named × (col + partLength ≤ rowLength) ⌝ }
+    ensures { λ r. ⌜ now (dest .exit) ≡ putAt (row * rowLength + col) (listOver partLength (λ k. joinOf rowLength named (λ i. cell (now (table .entry)) i (col + k)))) (now (dest .entry)) ⌝ }
+{
+    let mut part = [0u64; PART];
+    join_parts(&mut part[..], table, col, named);
+    put_part(dest, row * ROW + col, &part[..]);
+}
+
 // The rows that can change words cut to `own`: none where that is empty.
 fn rows_for(own: u64, named: u64) -> u64
     ensures { λ r. ⌜ (r ≡ choose (same own 0) 0 named) × (r ≤ named) ⌝ }
@@ -146,5 +156,16 @@ pub fn join_row(dest: &mut [u64], row: usize, from: &[u64], table: &[u64], width
     join_cols(&mut *dest, row, from, table, 0, named);
     if PART < width {
         join_cols(dest, row, from, table, PART, named);
+    }
+}
+
+// Row `row` of a table: the named rows of another, joined.
+pub fn gather_row(dest: &mut [u64], row: usize, table: &[u64], width: usize, named: u64)
+    requires { ⌜ Target (now dest) row × Source (now table) named × InParts width ⌝ }
+    ensures { λ r. ⌜ now (dest .exit) ≡ putAt (row * rowLength) (listOver width (λ k. joinOf rowLength named (λ i. cell (now (table .entry)) i k))) (now (dest .entry)) ⌝ }
+{
+    gather_cols(&mut *dest, row, table, 0, named);
+    if PART < width {
+        gather_cols(dest, row, table, PART, named);
     }
 }

@@ -9,7 +9,7 @@ ghost use Rattle.rules.specs.Word.{bit, common, without};
 ghost use Rattle.rules.specs.Over.{joinOver};
 ghost use Rattle.rules.specs.Lists.{listOver};
 ghost use Rattle.words.specs.Memory.{putAt};
-ghost use Rattle.words.specs.Rows.{rowLength, tableLength, cell, bothWays, changesOf};
+ghost use Rattle.words.specs.Rows.{rowLength, tableLength, cell, grown, changesOf};
 
 // From one row of a table to the next.
 pub const ROW: usize = 32;
@@ -80,24 +80,25 @@ pub fn turn(to: &mut [u64], from: &[u64], m: usize, n: usize)
     }
 }
 
-// Row p of a table becomes row p of another joined with its column p; what changed.
+// Joins row p of another table and its column p to row p of a table; what changed.
 fn join_turned_row(table: &mut [u64], one: &[u64], p: usize, n: usize) -> u64
     requires { ⌜ (length (now table) ≡ tableLength) × (length (now one) ≡ tableLength) × (p < rowLength) × (n ≤ rowLength) ⌝ }
-    ensures { λ r. ⌜ (now (table .exit) ≡ putAt (p * rowLength) (listOver n (bothWays (now (one .entry)) p)) (now (table .entry))) × (r ≡ changesOf n (now (one .entry)) (now (table .entry)) p) ⌝ }
+    ensures { λ r. ⌜ (now (table .exit) ≡ putAt (p * rowLength) (listOver n (grown (now (one .entry)) (now (table .entry)) p)) (now (table .entry))) × (r ≡ changesOf n (now (one .entry)) (now (table .entry)) p) ⌝ }
 {
     let mut fresh = 0;
     for q in 0..n {
-        let word = one[p * ROW + q] | one[q * ROW + p];
-        fresh = fresh | (word ^ table[p * ROW + q]);
+        let old = table[p * ROW + q];
+        let word = one[p * ROW + q] | one[q * ROW + p] | old;
+        fresh = fresh | (word ^ old);
         table[p * ROW + q] = word;
     }
     fresh
 }
 
-// A table becomes another joined with the same turned round, over n rows and columns; what changed.
+// Joins another table and the same turned round to a table, over n rows and columns; what changed.
 pub fn join_turned(table: &mut [u64], one: &[u64], n: usize) -> u64
     requires { ⌜ (length (now table) ≡ tableLength) × (length (now one) ≡ tableLength) × (n ≤ rowLength) ⌝ }
-    ensures { λ r. ⌜ ((p q : ℕ) → p < n → q < n → cell (now (table .exit)) p q ≡ bothWays (now (one .entry)) p q) × (r ≡ joinOver n (changesOf n (now (one .entry)) (now (table .entry)))) ⌝ }
+    ensures { λ r. ⌜ ((p q : ℕ) → p < n → q < n → cell (now (table .exit)) p q ≡ grown (now (one .entry)) (now (table .entry)) p q) × (r ≡ joinOver n (changesOf n (now (one .entry)) (now (table .entry)))) ⌝ }
 {
     let mut fresh = 0;
     for p in 0..n {

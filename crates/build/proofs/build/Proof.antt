@@ -1,10 +1,12 @@
 -- `build::build` meets its contract: the file's causes, or what comes after them.
-use mathlib.Core.Path.{sym}
+use mathlib.Core.Path.{sym, ap}
 use borrow.Author.Needs.{needs}
 use Rattle.graph.specs.File.{fileVerdict}
-use Rattle.graph.specs.Build.{buildRule}
-use Rattle.graph.proofs.Ladder.{taken-means}
-use Rattle.graph.proofs.Verdicts.{told, then-refused, then-accepted, laid-refused, same-rule}
+use Rattle.graph.specs.Build.{buildRule, graphLooks, countRule}
+use Rattle.graph.specs.declared.format.Counts.{Counts}
+use Rattle.graph.proofs.Ladder.{taken-means, taken-linked}
+use Rattle.graph.proofs.Verdicts.{told, then-refused, then-accepted}
+use Rattle.build.proofs.Answers.{count-refused, count-same}
 use Rattle.build.proofs.build.Statement.{statement}
 use Rattle.build.proofs.build.Tie as tie
 
@@ -21,17 +23,19 @@ build-taken-requires : tie.Need-build-taken-requires
 build-taken-requires c κs = taken-means _ _ (told fileVerdict (c .before .before .before .before .check-file .ensures) (c .before .before .taken2 .given .1))
 
 returns : tie.Need-returns
-unfolding buildRule
-returns c = laid-refused _ _ _ _ (then-refused _ _ _ _ (told fileVerdict (c .before .before .before .check-file .ensures) (c .before .taken .given .1)))
+unfolding buildRule countRule
+returns c = count-refused _ _ _ _ _ (then-refused _ _ _ _ (told fileVerdict (c .before .before .before .check-file .ensures) (c .before .taken .given .1)))
 
 same-length : tie.Need-same-length
 same-length c = search needs
 
 returns-2 : tie.Need-returns-2
-unfolding buildRule
+unfolding buildRule countRule
 returns-2 c =
     let at-file = c .before .before .before .before .before .before .before in
-    same-rule _ _ _ (sym (then-accepted _ _ _ (told fileVerdict (at-file .check-file .ensures) (c .before .before .before .before .before .taken2 .given .1))))
+    let a = at-file .before .before .before .args in
+    let taken = told fileVerdict (at-file .check-file .ensures) (c .before .before .before .before .before .taken2 .given .1) in
+    count-same _ (ap (λ (x : Counts). graphLooks (a .file .now) x (a .depth)) (taken-linked _ _ taken .are)) (sym (then-accepted _ _ _ taken))
     (c .before .before .build-taken .ensures)
 
 pub build-spec : {M : Type 1} → statement M

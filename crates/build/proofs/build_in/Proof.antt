@@ -1,4 +1,4 @@
--- The lists that were read make the file's graph: layer 0, the steps behind it, and copies of the last one where the graph rests.
+-- The lists that were read make the file's graph: layer 0, the steps behind it, and copies of the last one where the graph rests; and its looks.
 use mathlib.Core.Path.{_≡_, sym, ap, subst, _∙_}
 use Prim.Native.Nat.{_≤_}
 use native.Mathlib.Omega.{arith}
@@ -194,7 +194,7 @@ returns c =
     let read = problem at-labels in
     let start = entry read in
     let did = at-start .start in
-    graph-made (start .pre .0 .0) (read .read-problem .ensures) _ _ _ _ _ _ (start .args .words .now) _ _ _ (start .pre .0 .2) (steps .before .before .before .before .before .before .before .before .before .first .ensures)
+    graph-made (start .pre .0 .0) (read .read-problem .ensures) _ _ _ _ _ _ _ (start .args .words .now) _ _ _ (start .pre .0 .2) (steps .before .before .before .before .before .before .before .before .before .first .ensures)
     (c .before .before .before .shape .ensures) (at-labels .start-labels .ensures) (did .kept .0) (did .ensures .0) (did .ensures .1) (did .ensures .2)
     (steps .steps-until .ensures .2) (c .before .before .copy-rest .ensures)
 

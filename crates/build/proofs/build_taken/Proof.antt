@@ -1,4 +1,4 @@
--- `build::build_taken` meets its contract: causes 6 and 9, or the words.
+-- `build::build_taken` meets its contract: causes 6 and 9, or the words and the looks.
 use mathlib.Core.Path.{_≡_, sym, ap, subst, _∙_}
 use borrow.Author.Needs.{needs}
 use lib.ListN.{length}
@@ -9,7 +9,8 @@ use Rattle.graph.specs.Checks.{checkVerdict, graphRule, Small}
 use Rattle.graph.specs.Build.{buildTaken}
 use Rattle.graph.proofs.Ladder.{graph-means, small-of}
 use Rattle.graph.proofs.Graphs.{graph-long}
-use Rattle.graph.proofs.Verdicts.{told, then-refused, then-accepted, laid-refused, laid-accepted}
+use Rattle.graph.proofs.Verdicts.{told, then-refused, then-accepted}
+use Rattle.build.proofs.Answers.{count-refused, count-accepted}
 use Rattle.build.proofs.build_taken.Statement.{statement}
 use Rattle.build.proofs.build_taken.Tie as tie
 
@@ -48,7 +49,7 @@ word-count-requires c κs = (
 
 returns : tie.Need-returns
 unfolding buildTaken
-returns c = laid-refused _ _ _ _ (then-refused _ _ _ _ (told checkVerdict (c .before .before .before .check-graph .ensures) (c .before .check .given .1)))
+returns c = count-refused _ _ _ _ _ (then-refused _ _ _ _ (told checkVerdict (c .before .before .before .check-graph .ensures) (c .before .check .given .1)))
 
 same-length : tie.Need-same-length
 same-length c = search needs
@@ -57,10 +58,10 @@ returns-2 : tie.Need-returns-2
 unfolding buildTaken
 returns-2 c =
     let start = to-start (c .before .before .before .before .before .before) in
-    laid-accepted _ _ _ _ _ (then-accepted _ _ _ (passed ((c .before .before .before .before .before .before))))
+    count-accepted _ _ _ _ _ _ _ (then-accepted _ _ _ (passed ((c .before .before .before .before .before .before))))
     (c .word-count .ensures ∙ ap (λ (s : Shape). wordCount s (start .args .depth)) (c .before .shape .ensures)
     ∙ sym (graph-long (start .args .file .now) (start .args .c) (start .args .depth)))
-    (c .before .before .before .before .build-words .ensures)
+    (c .before .before .before .before .build-words .ensures .1) (c .before .before .before .before .build-words .ensures .0)
 
 pub build-taken-spec : {M : Type 1} → statement M
 build-taken-spec =

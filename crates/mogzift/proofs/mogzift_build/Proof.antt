@@ -2,7 +2,7 @@
 use borrow.Author.Needs.{needs}
 use Rattle.build.specs.Rooms.{buildVerdict}
 use Rattle.graph.proofs.Verdicts.{told}
-use Rattle.mogzift.specs.Answer.{countSays}
+use Rattle.mogzift.specs.Answer.{buildSays}
 use Rattle.mogzift.proofs.Tells.{tells-accepted, tells-refused, with-memory}
 use Rattle.mogzift.proofs.mogzift_build.Statement.{statement}
 use Rattle.mogzift.proofs.mogzift_build.Tie as tie
@@ -28,7 +28,7 @@ same-length c = search needs
 returns : tie.Need-returns
 returns c =
     with-memory
-    (tells-accepted countSays _
+    (tells-accepted buildSays _
     (told buildVerdict (c .before .before .before .before .before .before .before .build .ensures .0) (c .before .before .before .count .given .1))
     (c .tell .ensures))
     (c .before .before .before .before .before .before .before .build .ensures .1)
@@ -39,7 +39,7 @@ same-length-2 c = search needs
 returns-2 : tie.Need-returns-2
 returns-2 c =
     with-memory
-    (tells-refused countSays _ _
+    (tells-refused buildSays _ _
     (told buildVerdict (c .before .before .before .before .before .before .before .build .ensures .0) (c .before .before .before .why .given .1))
     (c .tell-refusal .ensures))
     (c .before .before .before .before .before .before .before .build .ensures .1)

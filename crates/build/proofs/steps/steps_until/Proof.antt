@@ -1,23 +1,24 @@
--- The loop writes one step after the other, until nothing changes or the depth is reached.
+-- The loop writes one step after the other and adds up the looks, until nothing changes or the depth is reached.
 use mathlib.Core.Path.{_≡_, sym, _∙_}
-use Prim.Native.Nat.{_-_, _+_}
-use native.Mathlib.Nat.{add-comm}
+use Prim.Native.Nat.{_-_, _+_, _*_, _≤_}
+use native.Mathlib.Nat.{add-comm, mul-le-mul-right}
 use native.Mathlib.Omega.{arith}
 use borrow.Author.Needs.{needs as simple}
 use borrow.Rule.Slice.PartMut.{same-len-mid}
 use lib.ListN.{length}
 use Rattle.rules.specs.Layer.{size, stride}
 use Rattle.together.proofs.Rows.{parts-le}
-use Rattle.build.proofs.Builds.{Stepping, stepping-none, room, ready, stepping-more, stepping-rest, stepping-all}
+use Rattle.graph.specs.Limits.{maxDepth}
+use Rattle.build.proofs.Builds.{mostOfStep, Stepping, stepping-none, room, ready, looks-fit, stepping-more, stepping-rest, stepping-all}
 use Rattle.build.proofs.steps.steps_until.Statement.{statement}
 use Rattle.build.proofs.steps.steps_until.Tie as tie
 
 abbrev Inv-loop : tie.InvT-loop
-Inv-loop words₀ n needs adds dels adders interferers all many width span depth labels₀ live₀ t₀ r₀ mates₀ besides₀ spare₀ act apart at₀ k₀ words labels live t r mates besides spare at k =
-    Stepping n width span depth all needs adds dels adders interferers labels₀ t₀ words₀ k at words labels live t r mates besides spare
+Inv-loop words₀ n needs adds dels adders interferers all many width span depth labels₀ live₀ t₀ r₀ mates₀ besides₀ spare₀ act apart at₀ looked₀ k₀ words labels live t r mates besides spare at looked k =
+    Stepping n width span depth all needs adds dels adders interferers labels₀ t₀ words₀ k at looked words labels live t r mates besides spare
 
 abbrev μ-loop : tie.MeasureT-loop
-μ-loop words₀ n needs adds dels adders interferers all many width span depth labels₀ live₀ t₀ r₀ mates₀ besides₀ spare₀ act apart at₀ k₀ words labels live t r mates besides spare at k =
+μ-loop words₀ n needs adds dels adders interferers all many width span depth labels₀ live₀ t₀ r₀ mates₀ besides₀ spare₀ act apart at₀ looked₀ k₀ words labels live t r mates besides spare at looked k =
     depth - k
 
 -- places, each from a later one
@@ -39,14 +40,23 @@ to-loop c = c .before
 abbrev to-turn : tie.After-step Inv-loop μ-loop → tie.In-loop Inv-loop μ-loop
 to-turn c = c .before .before .before .before .before .before .before .before .before
 
+abbrev to-step : tie.After-step-looks Inv-loop μ-loop → tie.After-step Inv-loop μ-loop
+to-step c = c .before .before .before .before .before .before .before .before .before .before .before .before .before .before .before .before .before .before .before .before .before .before .before
+
+abbrev to-seen-of-Else1 : tie.Else1 Inv-loop μ-loop → tie.After-step-looks Inv-loop μ-loop
+to-seen-of-Else1 c = c .before
+
+abbrev to-seen-of-Then1 : tie.Then1 Inv-loop μ-loop → tie.After-step-looks Inv-loop μ-loop
+to-seen-of-Then1 c = c .before
+
 abbrev to-step-of-Else1 : tie.Else1 Inv-loop μ-loop → tie.After-step Inv-loop μ-loop
-to-step-of-Else1 c = c .before .before .before .before .before .before .before .before .before .before .before .before .before .before .before .before .before
+to-step-of-Else1 c = to-step (to-seen-of-Else1 c)
 
 abbrev to-step-of-Then1 : tie.Then1 Inv-loop μ-loop → tie.After-step Inv-loop μ-loop
-to-step-of-Then1 c = c .before .before .before .before .before .before .before .before .before .before .before .before .before .before .before .before .before
+to-step-of-Then1 c = to-step (to-seen-of-Then1 c)
 
-add-t27 : tie.Need-add-t27 Inv-loop μ-loop
-add-t27 c = let start = to-start c in
+add-t29 : tie.Need-add-t29 Inv-loop μ-loop
+add-t29 c = let start = to-start c in
     let w = start .pre .mating .wide in
     omega (arith, w .props, w .effects, parts-le (w .parts))
 
@@ -91,8 +101,50 @@ part-step-end c = search simple
 step-requires : tie.Need-step-requires Inv-loop μ-loop
 step-requires c κs = ready ((to-loop (c .before .before .before .before .before .before .before .before)) .loop .inv) ((c .before .before .before .before .before .before .before .before) .loop-test .taken) _ ((to-layer-size (to-stride (to-loop (c .before .before .before .before .before .before .before .before)))) .layer-size .ensures .0)
 
-add-result : tie.Need-add-result Inv-loop μ-loop
-add-result c = omega (arith, (to-turn (to-step-of-Then1 c)) .loop-test .taken, (to-start (to-slice-known8 (to-layer-size (to-stride (to-loop (to-turn (to-step-of-Then1 c))))))) .pre .deep)
+step-looks-requires : tie.Need-step-looks-requires Inv-loop μ-loop
+step-looks-requires c κs =
+    let at-step = c .before .before .before .before .before .before .before .before .before .before .before .before .before .before .before .before .before .before .before .before .before .before in
+    let did = at-step .step in
+    let lent = (to-loop (to-turn at-step)) .loop .inv .lent in
+    let m = lent .mating in (
+      record {
+        live-long = did .kept .1 .1 .1 .1 .1 .1 .1 .1 .1 .1 .1 .1 .1 .0 ∙ m .live-long;
+        mates-long = did .kept .1 .1 .1 .1 .1 .1 .1 .1 .1 .1 .1 .1 .1 .1 .1 .1 .0 ∙ m .mates-long;
+        r-long = did .kept .1 .1 .1 .1 .1 .1 .1 .1 .1 .1 .1 .1 .1 .1 .1 .0 ∙ m .r-long;
+        besides-long = did .kept .1 .1 .1 .1 .1 .1 .1 .1 .1 .1 .1 .1 .1 .1 .1 .1 .1 .0 ∙ m .besides-long;
+        spare-long = did .kept .1 .1 .1 .1 .1 .1 .1 .1 .1 .1 .1 .1 .1 .1 .1 .1 .1 .1 .0 ∙ m .spare-long;
+      },
+      omega (arith, m .adders-long, m .wide .props, parts-le (m .wide .parts)),
+      m .adders-inside,
+      did .kept .1 .1 .1 .1 .1 .1 .1 .1 .1 .1 .1 .1 .0 ∙ lent .labels-long,
+    )
+
+-- the sums of the looks are small
+sums : (c : tie.After-step-looks Inv-loop μ-loop) → let s = to-loop (to-turn (to-step c)) in
+    (s .loop .looked + c .step-looks .result ≤ (s .loop .k + 1) * mostOfStep) × ((to-start (to-slice-known8 (to-layer-size (to-stride s))) .args .depth - (s .loop .k + 1)) * c .step-looks .result ≤ maxDepth * mostOfStep)
+sums c = let did = (to-step c) .step in
+    looks-fit ((to-loop (to-turn (to-step c))) .loop .inv) ((to-turn (to-step c)) .loop-test .taken) (did .last .1 .1 .1 .1 .1 .1 .1 .1 .1 .1 .1 .1 .0) (did .last .1 .1 .1 .1 .1 .1 .1 .1 .1 .1 .1 .1 .1 .0) (did .last .1 .1 .1 .1 .1 .1 .1 .1 .1 .1 .1 .1 .1 .1 .0) (did .last .1 .1 .1 .1 .1 .1 .1 .1 .1 .1 .1 .1 .1 .1 .1 .0) (did .last .1 .1 .1 .1 .1 .1 .1 .1 .1 .1 .1 .1 .1 .1 .1 .1 .0) (did .last .1 .1 .1 .1 .1 .1 .1 .1 .1 .1 .1 .1 .1 .1 .1 .1 .1 .0) (did .last .1 .1 .1 .1 .1 .1 .1 .1 .1 .1 .1 .1 .1 .1 .1 .1 .1 .1 .0) (did .last .0) _ _ (did .ensures .0) (did .ensures .1) (c .step-looks .ensures .0) (c .step-looks .ensures .1)
+
+deep : (c : tie.After-step Inv-loop μ-loop) → let s = to-loop (to-turn c) in s .loop .k + 1 ≤ maxDepth
+deep c = let s = to-loop (to-turn c) in omega (arith, (to-turn c) .loop-test .taken, s .loop .inv .lent .deep)
+
+add-looked : tie.Need-add-looked Inv-loop μ-loop
+add-looked c = omega (arith, sums c, mul-le-mul-right mostOfStep (deep (to-step c)))
+
+add-t62 : tie.Need-add-t62 Inv-loop μ-loop
+add-t62 c = omega (arith, deep (to-step-of-Then1 c))
+
+add-t63 : tie.Need-add-t63 Inv-loop μ-loop
+add-t63 c = omega (arith, deep (to-step-of-Then1 c))
+
+sub-t64 : tie.Need-sub-t64 Inv-loop μ-loop
+sub-t64 c = omega (arith, (to-turn (to-step-of-Then1 c)) .loop-test .taken)
+
+mul-t65 : tie.Need-mul-t65 Inv-loop μ-loop
+mul-t65 c = omega (arith, sums (to-seen-of-Then1 c))
+
+add-t66 : tie.Need-add-t66 Inv-loop μ-loop
+add-t66 c = omega (arith, sums (to-seen-of-Then1 c), mul-le-mul-right mostOfStep (deep (to-step-of-Then1 c)))
 
 same-length : tie.Need-same-length Inv-loop μ-loop
 same-length c = let at-loop = to-loop (to-turn (to-step-of-Then1 c)) in
@@ -124,7 +176,7 @@ returns c = let did = (to-step-of-Then1 c) .step in (
   omega (arith, (to-turn (to-step-of-Then1 c)) .loop-test .taken),
   λ h. omega arith,
   stepping-rest ((to-loop (to-turn (to-step-of-Then1 c))) .loop .inv) ((to-turn (to-step-of-Then1 c)) .loop-test .taken) (did .last .1 .1 .1 .1 .1 .1 .1 .1 .1 .1 .1 .1 .0) (did .last .1 .1 .1 .1 .1 .1 .1 .1 .1 .1 .1 .1 .1 .0) (did .last .1 .1 .1 .1 .1 .1 .1 .1 .1 .1 .1 .1 .1 .1 .0) (did .last .1 .1 .1 .1 .1 .1 .1 .1 .1 .1 .1 .1 .1 .1 .1 .0) (did .last .1 .1 .1 .1 .1 .1 .1 .1 .1 .1 .1 .1 .1 .1 .1 .1 .0) (did .last .1 .1 .1 .1 .1 .1 .1 .1 .1 .1 .1 .1 .1 .1 .1 .1 .1 .0) (did .last .1 .1 .1 .1 .1 .1 .1 .1 .1 .1 .1 .1 .1 .1 .1 .1 .1 .1 .0)
-      (did .last .0) _ (did .ensures) (c .if1 .taken),
+      (did .last .0) _ _ (did .ensures .0) (did .ensures .1) ((to-seen-of-Then1 c) .step-looks .ensures .0) ((to-seen-of-Then1 c) .step-looks .ensures .1) (c .if1 .taken),
 )
 
 add-at : tie.Need-add-at Inv-loop μ-loop
@@ -140,7 +192,7 @@ loop-less c = omega (arith, (to-turn (to-step-of-Else1 c)) .loop-test .taken)
 loop-again : tie.Need-loop-again Inv-loop μ-loop
 loop-again c = let did = (to-step-of-Else1 c) .step in
     stepping-more ((to-loop (to-turn (to-step-of-Else1 c))) .loop .inv) ((to-turn (to-step-of-Else1 c)) .loop-test .taken) (did .last .1 .1 .1 .1 .1 .1 .1 .1 .1 .1 .1 .1 .0) (did .last .1 .1 .1 .1 .1 .1 .1 .1 .1 .1 .1 .1 .1 .0) (did .last .1 .1 .1 .1 .1 .1 .1 .1 .1 .1 .1 .1 .1 .1 .0) (did .last .1 .1 .1 .1 .1 .1 .1 .1 .1 .1 .1 .1 .1 .1 .1 .0) (did .last .1 .1 .1 .1 .1 .1 .1 .1 .1 .1 .1 .1 .1 .1 .1 .1 .0) (did .last .1 .1 .1 .1 .1 .1 .1 .1 .1 .1 .1 .1 .1 .1 .1 .1 .1 .0) (did .last .1 .1 .1 .1 .1 .1 .1 .1 .1 .1 .1 .1 .1 .1 .1 .1 .1 .1 .0)
-    (did .last .0) _ (did .ensures) _ (omega (arith, far-is (to-stride (to-loop (to-turn (to-step-of-Else1 c)))))) (did .kept .0) (did .kept .1 .1 .1 .1 .1 .1 .1 .1 .1 .1 .1 .1 .0) (did .kept .1 .1 .1 .1 .1 .1 .1 .1 .1 .1 .1 .1 .1 .0) (did .kept .1 .1 .1 .1 .1 .1 .1 .1 .1 .1 .1 .1 .1 .1 .0) (did .kept .1 .1 .1 .1 .1 .1 .1 .1 .1 .1 .1 .1 .1 .1 .1 .0)
+    (did .last .0) _ _ (did .ensures .0) (did .ensures .1) ((to-seen-of-Else1 c) .step-looks .ensures .0) ((to-seen-of-Else1 c) .step-looks .ensures .1) _ (omega (arith, far-is (to-stride (to-loop (to-turn (to-step-of-Else1 c)))))) (did .kept .0) (did .kept .1 .1 .1 .1 .1 .1 .1 .1 .1 .1 .1 .1 .0) (did .kept .1 .1 .1 .1 .1 .1 .1 .1 .1 .1 .1 .1 .1 .0) (did .kept .1 .1 .1 .1 .1 .1 .1 .1 .1 .1 .1 .1 .1 .1 .0) (did .kept .1 .1 .1 .1 .1 .1 .1 .1 .1 .1 .1 .1 .1 .1 .1 .0)
     (did .kept .1 .1 .1 .1 .1 .1 .1 .1 .1 .1 .1 .1 .1 .1 .1 .1 .0) (did .kept .1 .1 .1 .1 .1 .1 .1 .1 .1 .1 .1 .1 .1 .1 .1 .1 .1 .0) (did .kept .1 .1 .1 .1 .1 .1 .1 .1 .1 .1 .1 .1 .1 .1 .1 .1 .1 .1 .0)
 
 same-length-9 : tie.Need-same-length-9 Inv-loop μ-loop
@@ -176,7 +228,7 @@ steps-until-spec =
     (tie.spec
     Inv-loop
     μ-loop
-    add-t27
+    add-t29
     layer-size-requires
     stride-requires
     layer-size-requires-2
@@ -186,7 +238,13 @@ steps-until-spec =
     part-step-start
     part-step-end
     step-requires
-    add-result
+    step-looks-requires
+    add-looked
+    add-t62
+    add-t63
+    sub-t64
+    mul-t65
+    add-t66
     same-length
     same-length-2
     same-length-3

@@ -71,15 +71,16 @@ join-rows-requires c κs =
     let at-cut = c .before .before .before .before .before in
     let at-turn = to-turn (to-pairs at-cut) in
     let start = to-start (to-turn-arg at-turn) in
-    let wide = start .pre .wide in
-    record {
-      to-long = start .pre .spare-long;
-      from-long = omega (arith, start .pre .besides-long, at-turn .turn .kept .0, at-cut .cut-columns .kept .0);
-      table-long = omega (arith, start .pre .mates-long, to-pairs at-cut .pairs .kept .1 .1 .1 .1 .0);
-      few = omega (arith, start .pre .adders-long, wide .props, parts-le (wide .parts));
-      rows = start .pre .adders-inside;
-      parts = start .pre .spans .parts;
-    }
+    let wide = start .pre .wide in (
+      record {
+        to-long = start .pre .spare-long;
+        table-long = omega (arith, start .pre .mates-long, to-pairs at-cut .pairs .kept .1 .1 .1 .1 .0);
+        few = omega (arith, start .pre .adders-long, wide .props, parts-le (wide .parts));
+        rows = start .pre .adders-inside;
+        parts = start .pre .spans .parts;
+      },
+      omega (arith, start .pre .besides-long, at-turn .turn .kept .0, at-cut .cut-columns .kept .0),
+    )
 
 turn-requires-2 : tie.Need-turn-requires-2
 turn-requires-2 c κs =

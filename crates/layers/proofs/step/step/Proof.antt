@@ -180,18 +180,20 @@ same-length-8 c =
     at-next .next .kept .1 .1 .1 .1 .0 ∙ to-mate (to-cut-rows (to-put-actions at-next)) .mate .kept .1 .1 .1 .1 .1 .1 .1 .1 .1 .1 .1 .0
 
 returns : tie.Need-returns
-returns c = λ A told del is.
+returns c =
     let at-next = behind-put-props c in
     let at-put = to-put-actions at-next in
     let at-cut = to-cut-rows at-put in
     let at-mate = to-mate at-cut in
     let at-admit = to-admit at-mate in
     let start = to-start at-admit in
-    let a = start .args in
-    step-made A (a .all) (a .n) (a .width) (a .span) (a .at) _ (a .needs .now) (a .adds .now) (a .dels .now) (a .adders .now) (a .interferers .now) (a .labels .now)
-    (a .live .now) (a .t .now) (a .r .now) (a .mates .now) (a .besides .now) (a .spare .now) (a .words .now) _ _ _ _ _ _ _ _ _ (start .pre) told del is
-    (at-admit .admit .ensures .0) (at-admit .admit .ensures .1) (at-mate .mate .ensures) (at-cut .cut-rows .ensures) (at-put .put-actions .ensures)
-    (at-next .next .ensures .1) (c .before .before .put-props .ensures)
+    let a = start .args in (
+      at-next .next .ensures .1,
+      λ A told del is. step-made A (a .all) (a .n) (a .width) (a .span) (a .at) _ (a .needs .now) (a .adds .now) (a .dels .now) (a .adders .now) (a .interferers .now) (a .labels .now)
+          (a .live .now) (a .t .now) (a .r .now) (a .mates .now) (a .besides .now) (a .spare .now) (a .words .now) _ _ _ _ _ _ _ _ _ (start .pre) told del is
+          (at-admit .admit .ensures .0) (at-admit .admit .ensures .1) (at-mate .mate .ensures) (at-cut .cut-rows .ensures) (at-put .put-actions .ensures)
+          (at-next .next .ensures .2) (c .before .before .put-props .ensures),
+    )
 
 pub step-spec : {M : Type 1} → statement M
 step-spec =

@@ -29,7 +29,8 @@ join-row-requires : tie.Need-join-row-requires Inv-loop μ-loop
 join-row-requires c κs =
     let at-loop = c .before .before .before in
     let start = at-loop .before .before .before .before .before in
-    (record { whole = at-loop .loop .inv .long; inside = omega arith }, start .pre .from-long, record { whole = start .pre .table-long; inside = start .pre .rows (at-loop .loop .p) (omega arith) }, start .pre .parts)
+    let pre = start .pre .0 in
+    (record { whole = at-loop .loop .inv .long; inside = omega arith }, start .pre .1, record { whole = pre .table-long; inside = pre .rows (at-loop .loop .p) (omega arith) }, pre .parts)
 
 add-p : tie.Need-add-p Inv-loop μ-loop
 add-p c = omega arith
@@ -42,7 +43,7 @@ loop-again c =
     let at-join-row = c .before .before in
     let at-loop = at-join-row .before .before .before .before in
     let start = at-loop .before .before .before .before .before in
-    rows-put (at-loop .loop .inv) (omega arith) (parts-le (start .pre .parts)) (at-join-row .join-row .ensures)
+    rows-put (at-loop .loop .inv) (omega arith) (parts-le (start .pre .0 .parts)) (at-join-row .join-row .ensures)
 
 same-length : tie.Need-same-length Inv-loop μ-loop
 same-length c = omega arith

@@ -1,11 +1,14 @@
 -- The loop joins one row after the other; the rows ahead are not changed yet.
 use mathlib.Core.List.{List}
 use mathlib.Core.Path.{_≡_, refl, ap, _∙_}
-use Prim.Native.Nat.{ℕ, _≤_, _<_, _-_}
+use Prim.Native.Nat.{ℕ, _*_, _≤_, _<_, _-_}
 use native.Mathlib.Omega.{arith}
 use lib.Bits.{bitXor}
+use Rattle.rules.specs.Word.{union}
+use Rattle.rules.proofs.Layers.{listOver-eq}
 use Rattle.rules.proofs.Overs.{joinOver-eq}
-use Rattle.words.specs.Rows.{rowLength, cell, bothWays, changesOf}
+use Rattle.words.specs.Memory.{putAt}
+use Rattle.words.specs.Rows.{rowLength, cell, bothWays, grown, changesOf}
 use Rattle.words.proofs.Cells.{Rows, rows-none, rows-put, cell-stays}
 use Rattle.words.proofs.Folds.{Joins, join-none, join-more, join-done}
 use Rattle.words.proofs.tables.join_turned.Statement.{statement}
@@ -13,7 +16,7 @@ use Rattle.words.proofs.tables.join_turned.Tie as tie
 
 abbrev Inv-loop : tie.InvT-loop
 Inv-loop table₀ one n fresh₀ p₀ table fresh p =
-    Rows (bothWays one) n p table × Joins (changesOf n one table₀) n p fresh × ((j k : ℕ) → p ≤ j → k < rowLength → cell table j k ≡ cell table₀ j k)
+    Rows (grown one table₀) n p table × Joins (changesOf n one table₀) n p fresh × ((j k : ℕ) → p ≤ j → k < rowLength → cell table j k ≡ cell table₀ j k)
 
 abbrev μ-loop : tie.MeasureT-loop
 μ-loop table₀ one n fresh₀ p₀ table fresh p = n - p
@@ -31,17 +34,20 @@ loop-less : tie.Need-loop-less Inv-loop μ-loop
 loop-less c = omega arith
 
 loop-again : tie.Need-loop-again Inv-loop μ-loop
-unfolding changesOf
+unfolding changesOf grown
 loop-again c =
     let at-loop = c .before .before .before .before .before in
     let inv = at-loop .loop .inv in
     let did = c .before .before .join-turned-row .ensures in
-    let a = at-loop .before .before .before .args in (
-      rows-put (inv .0) (omega arith) (omega arith) (did .0),
-      join-more (inv .1) (omega arith) refl (did .1
-          ∙ joinOver-eq (a .n) (λ q h. ap (bitXor (bothWays (a .one .now) (at-loop .loop .p) q)) (inv .2 (at-loop .loop .p) q (omega arith) (omega arith)))),
+    let a = at-loop .before .before .before .args in
+    let p = at-loop .loop .p in
+    let ways = bothWays (a .one .now) p in
+    let ahead : (q : ℕ) → q < a .n → cell (at-loop .loop .table) p q ≡ cell (a .table .now) p q = (λ q h. inv .2 p q (omega arith) (omega arith)) in
+    let put = did .0 ∙ ap (λ (l : List ℕ). putAt (p * rowLength) l (at-loop .loop .table)) (listOver-eq (λ q h. ap (union (ways q)) (ahead q h))) in (
+      rows-put (inv .0) (omega arith) (omega arith) put,
+      join-more (inv .1) (omega arith) refl (did .1 ∙ joinOver-eq (a .n) (λ q h. ap (λ (x : ℕ). bitXor (union (ways q) x) x) (ahead q h))),
       λ j k h l. ap (λ (w : List ℕ). cell w j k) (did .0)
-          ∙ cell-stays (at-loop .loop .p) (a .n) (bothWays (a .one .now) (at-loop .loop .p)) (at-loop .loop .table) (inv .0 .long) (omega arith) (omega arith) j k l (λ e. omega arith)
+          ∙ cell-stays p (a .n) (grown (a .one .now) (at-loop .loop .table) p) (at-loop .loop .table) (inv .0 .long) (omega arith) (omega arith) j k l (λ e. omega arith)
           ∙ inv .2 j k (omega arith) l,
     )
 

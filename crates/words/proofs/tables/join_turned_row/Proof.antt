@@ -1,9 +1,10 @@
 -- The loop joins one word after the other; what lies ahead is not changed yet.
 use mathlib.Core.Path.{refl, ap}
-use Prim.Native.Nat.{_*_, _-_}
+use Prim.Native.Nat.{ℕ, _*_, _-_}
 use native.Mathlib.Omega.{arith}
 use lib.Bits.{bitXor}
-use Rattle.words.specs.Rows.{rowLength, cell, bothWays, changesOf}
+use Rattle.rules.specs.Word.{union}
+use Rattle.words.specs.Rows.{rowLength, cell, bothWays, grown, changesOf}
 use Rattle.words.proofs.Folds.{Joins, join-none, join-more, join-done}
 use Rattle.words.proofs.Writes.{Lists, list-none, list-more, list-done, list-ahead}
 use Rattle.words.proofs.tables.join_turned_row.Statement.{statement}
@@ -11,13 +12,25 @@ use Rattle.words.proofs.tables.join_turned_row.Tie as tie
 
 abbrev Inv-loop : tie.InvT-loop
 Inv-loop table₀ one p n fresh₀ q₀ table fresh q =
-    Lists (bothWays one p) (p * rowLength) n table₀ q table × Joins (λ q. bitXor (bothWays one p q) (cell table₀ p q)) n q fresh
+    Lists (grown one table₀ p) (p * rowLength) n table₀ q table × Joins (λ q. bitXor (grown one table₀ p q) (cell table₀ p q)) n q fresh
 
 abbrev μ-loop : tie.MeasureT-loop
 μ-loop table₀ one p n fresh₀ q₀ table fresh q = n - q
 
 loop-holds : tie.Need-loop-holds Inv-loop μ-loop
 loop-holds c = (list-none (omega arith), join-none)
+
+mul-old : tie.Need-mul-old Inv-loop μ-loop
+mul-old c = omega arith
+
+add-old : tie.Need-add-old Inv-loop μ-loop
+add-old c = omega arith
+
+mul-old-2 : tie.Need-mul-old-2 Inv-loop μ-loop
+mul-old-2 c = omega arith
+
+slice-read-old : tie.Need-slice-read-old Inv-loop μ-loop
+slice-read-old c = omega arith
 
 mul-word : tie.Need-mul-word Inv-loop μ-loop
 mul-word c = omega arith
@@ -43,18 +56,6 @@ mul-word-4 c = omega arith
 shared-slice-read-word-2 : tie.Need-shared-slice-read-word-2 Inv-loop μ-loop
 shared-slice-read-word-2 c = omega arith
 
-mul-fresh : tie.Need-mul-fresh Inv-loop μ-loop
-mul-fresh c = omega arith
-
-add-fresh : tie.Need-add-fresh Inv-loop μ-loop
-add-fresh c = omega arith
-
-mul-fresh-2 : tie.Need-mul-fresh-2 Inv-loop μ-loop
-mul-fresh-2 c = omega arith
-
-slice-read-fresh : tie.Need-slice-read-fresh Inv-loop μ-loop
-slice-read-fresh c = omega arith
-
 mul-table : tie.Need-mul-table Inv-loop μ-loop
 mul-table c = omega arith
 
@@ -74,12 +75,13 @@ loop-less : tie.Need-loop-less Inv-loop μ-loop
 loop-less c = omega arith
 
 loop-again : tie.Need-loop-again Inv-loop μ-loop
-unfolding bothWays cell
+unfolding grown bothWays cell
 loop-again c =
     let at-loop = c .before .before .before .before in
-    let a = at-loop .before .args in (
-      list-more (at-loop .loop .inv .0) (omega arith) refl refl,
-      join-more (at-loop .loop .inv .1) (omega arith) refl (ap (bitXor (bothWays (a .one .now) (a .p) (at-loop .loop .q))) (list-ahead (at-loop .loop .inv .0) refl)),
+    let a = at-loop .before .args in
+    let old = list-ahead (at-loop .loop .inv .0) refl in (
+      list-more (at-loop .loop .inv .0) (omega arith) refl (ap (union (bothWays (a .one .now) (a .p) (at-loop .loop .q))) old),
+      join-more (at-loop .loop .inv .1) (omega arith) refl (ap (λ (x : ℕ). bitXor (union (bothWays (a .one .now) (a .p) (at-loop .loop .q)) x) x) old),
     )
 
 same-length : tie.Need-same-length Inv-loop μ-loop
@@ -96,6 +98,10 @@ join-turned-row-spec =
     Inv-loop
     μ-loop
     loop-holds
+    mul-old
+    add-old
+    mul-old-2
+    slice-read-old
     mul-word
     add-word
     mul-word-2
@@ -104,10 +110,6 @@ join-turned-row-spec =
     add-word-2
     mul-word-4
     shared-slice-read-word-2
-    mul-fresh
-    add-fresh
-    mul-fresh-2
-    slice-read-fresh
     mul-table
     add-table
     mul-table-2

@@ -1,0 +1,2 @@
+-- The scans of a step's pairs, over tables.
+pub mod Pairs
