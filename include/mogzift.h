@@ -193,7 +193,12 @@ static inline const char *mogzift_message(size_t number) {
 
 /*
  * Builds the file's graph to the depth, into the front of words.
- * Answered: answer[1] is the number of words written. Refused: 1 to 5, 16, 15, 6, 9.
+ * A step from one layer of propositions to the next has a scan of each two propositions p < q. It starts with what their
+ * labels share in the next layer, and ends as soon as nothing is left. It looks at the vertices that add both, rising; then
+ * for each vertex that adds p, rising, at its pair with each other vertex that adds q, rising. A look takes away a vertex's
+ * label, or what the labels of a pair share less its mutex word. What is left at the end is the mutex word of p and q.
+ * Answered: answer[1] is the number of words written, answer[2] the number of looks in all scans of all steps, 0 at depth 0.
+ * Refused: 1 to 5, 16, 15, 6, 9.
  */
 size_t mogzift_build(const uint8_t *file, size_t file_len, size_t depth, uint64_t *words, size_t words_len,
                      uint64_t answer[3]);

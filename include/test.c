@@ -54,6 +54,7 @@ static uint8_t file[9 + 4 * 32 + 13 * 32 + 4 * 64 + 1];
 static size_t file_len;
 static uint64_t words[49];
 static uint64_t deeper[69];
+static uint64_t deepest[5361];
 static uint64_t words_out[49];
 static uint32_t sets_out[4];
 static uint16_t levels_out[GOALS + 1];
@@ -162,12 +163,26 @@ static size_t levels_text(size_t len, size_t out_len) {
 
 static void builds(void) {
     CHECK(mogzift_words(3, 2, 2) == 48);
-    CHECK(build(2, 49) == 0 && told(MOGZIFT_ANSWERED, 48, 0) && wrote(48, 0, 0, 0));
+    CHECK(build(2, 49) == 0 && told(MOGZIFT_ANSWERED, 48, 12) && wrote(48, 0, 0, 0));
     CHECK(memcmp(words_out, LAMP_WORDS, sizeof LAMP_WORDS) == 0);
     CHECK(build(0, 6) == 0 && told(MOGZIFT_ANSWERED, 6, 0) && wrote(6, 0, 0, 0));
     CHECK(refused(build(256, 49), MOGZIFT_BAD_DEPTH, 255));
     CHECK(refused(build(2, 47), MOGZIFT_SHORT_MEMORY, 48));
     CHECK(refused(build(2, 0), MOGZIFT_SHORT_MEMORY, 48));
+}
+
+/* How many vertices and pairs the scans look at: 5 at the first step, 7 at each further one. */
+static void looks(void) {
+    CHECK(build(0, 49) == 0 && told(MOGZIFT_ANSWERED, 6, 0) && wrote(6, 0, 0, 0));
+    CHECK(build(1, 49) == 0 && told(MOGZIFT_ANSWERED, 27, 5) && wrote(27, 0, 0, 0));
+    CHECK(build(2, 49) == 0 && told(MOGZIFT_ANSWERED, 48, 12) && wrote(48, 0, 0, 0));
+    CHECK(mogzift_words(3, 2, 255) == 5361);
+    mark();
+    CHECK(mogzift_build(file, file_len, 255, deepest, 5361, answer) == 0);
+    CHECK(told(MOGZIFT_ANSWERED, 5361, 5 + 254 * 7) && wrote(0, 0, 0, 0));
+    /* one that is turned away tells its place */
+    CHECK(refused(build(1, 26), MOGZIFT_SHORT_MEMORY, 27));
+    CHECK(refused(build(256, 49), MOGZIFT_BAD_DEPTH, 255));
 }
 
 /* The causes of the file's writer: a byte of the file is another, or its length. */
@@ -512,7 +527,7 @@ static void interference(void) {
     add_effect(0, 0, 1, 0);
     add_effect(0, 0, 2, 1);
     CHECK(mogzift_words(2, 2, 2) == 29);
-    CHECK(build(2, 49) == 0 && told(MOGZIFT_ANSWERED, 29, 0) && wrote(29, 0, 0, 0));
+    CHECK(build(2, 49) == 0 && told(MOGZIFT_ANSWERED, 29, 2) && wrote(29, 0, 0, 0)); /* a look each step: at their pair */
     CHECK(words_out[3] == 1 && words_out[4] == 1 && words_out[7] == 0);    /* the effects at action layer 0 */
     CHECK(words_out[13] == 1 && words_out[14] == 1 && words_out[15] == 0); /* the propositions at layer 1 */
     /* in a step of both, what is deleted is deleted */
@@ -521,7 +536,7 @@ static void interference(void) {
     begin_2(2, 2, 1);
     add_effect(0, 0, 1, 0);
     add_effect(1, 0, 2, 1);
-    CHECK(build(2, 49) == 0 && told(MOGZIFT_ANSWERED, 29, 0) && wrote(29, 0, 0, 0));
+    CHECK(build(2, 49) == 0 && told(MOGZIFT_ANSWERED, 29, 4 + 2) && wrote(29, 0, 0, 0));
     CHECK(words_out[3] == 1 && words_out[4] == 1 && words_out[7] == 1);
     CHECK(words_out[13] == 1 && words_out[14] == 1 && words_out[15] == 1);
     CHECK(run(1, list, 1, 1) == 0 && sets_out[0] == 1);
@@ -584,6 +599,7 @@ int main(void) {
     CHECK(mogzift_words(3, 2, 3) == 69);
     CHECK(mogzift_build(file, file_len, 3, deeper, 69, answer) == 0);
     builds();
+    looks();
     files();
     equal_actions();
     rests_and_levels();
@@ -599,6 +615,7 @@ int main(void) {
     /* the same graph in version 2 */
     put(LAMP_2, sizeof LAMP_2);
     builds();
+    looks();
     files_2();
     effects_of_no_action();
     rests_and_levels();

@@ -16,7 +16,7 @@
 //!     file.extend(set.to_le_bytes());
 //! }
 //! let mut words = vec![0; mogzift::word_count(3, 2, 2)];
-//! assert_eq!(mogzift::build(&file, 2, &mut words), Ok(48));
+//! assert_eq!(mogzift::build(&file, 2, &mut words), Ok(mogzift::Built { words: 48, looked: 12 }));
 //! assert_eq!(mogzift::level(&file, 2, 0b11, 1 << 2, &words), Ok(mogzift::Level::At(2)));
 //!
 //! let mut levels = [0; 2];
@@ -39,6 +39,19 @@ mod refusal;
 
 pub use problem::{ConditionalProblem, Graph, Problem};
 pub use refusal::Refusal;
+
+/// A graph that was built.
+#[derive(Clone, Copy, Debug, PartialEq, Eq, Hash)]
+pub struct Built {
+    /// How many words were written.
+    pub words: usize,
+    /// How many vertices and pairs the scans looked at, over all steps.
+    ///
+    /// The scan of two propositions at a step begins with what their labels share after it, and ends as soon as nothing
+    /// is left. It looks at the vertices that add both, then at the pairs of a vertex that adds the lower one with
+    /// another that adds the higher one, and takes away the states in which these are there and not mutex.
+    pub looked: usize,
+}
 
 /// What a goal's level is.
 #[derive(Clone, Copy, Debug, PartialEq, Eq, Hash)]
@@ -205,12 +218,15 @@ fn count(answer: (u64, usize, usize)) -> usize {
 // In each call below the pointers and lengths are those of slices that live as long as the call, and what is written is
 // borrowed alone. The library asks nothing else.
 
-/// Builds the file's graph to the depth, and answers the number of words written.
-pub fn build(file: &[u8], depth: usize, words: &mut [u64]) -> Result<usize, Refusal> {
-    told(|answer| unsafe {
+/// Builds the file's graph to the depth, and answers the number of words written and that of the looks.
+pub fn build(file: &[u8], depth: usize, words: &mut [u64]) -> Result<Built, Refusal> {
+    let answer = told(|answer| unsafe {
         proved::mogzift_build(file.as_ptr(), file.len(), depth, words.as_mut_ptr(), words.len(), answer)
+    })?;
+    Ok(match answer {
+        (ANSWERED, words, looked) => Built { words, looked },
+        _ => unreachable!("{answer:?} of a build"),
     })
-    .map(count)
 }
 
 /// The layer at which the graph rests.

@@ -279,12 +279,14 @@ impl From<Problem> for ConditionalProblem {
     }
 }
 
-/// A graph with the file that it was built from, its depth, and memory of its own. Nothing alters its words.
+/// A graph with the file that it was built from, its depth, memory of its own, and what the build looked at. Nothing alters
+/// its words.
 #[derive(Clone, Debug, PartialEq, Eq)]
 pub struct Graph {
     file: Vec<u8>,
     depth: usize,
     words: Vec<u64>,
+    looked: usize,
 }
 
 impl Graph {
@@ -294,10 +296,10 @@ impl Graph {
         let mut words = match build(&file, depth, &mut []) {
             Err(Refusal::Memory(needed)) => vec![0; needed],
             Err(why) => return Err(why),
-            Ok(count) => unreachable!("a graph of {count} words"),
+            Ok(built) => unreachable!("a graph of {} words", built.words),
         };
-        build(&file, depth, &mut words)?;
-        Ok(Graph { file, depth, words })
+        let looked = build(&file, depth, &mut words)?.looked;
+        Ok(Graph { file, depth, words, looked })
     }
 
     /// The problem file.
@@ -313,6 +315,11 @@ impl Graph {
     /// The graph's words.
     pub fn words(&self) -> &[u64] {
         &self.words
+    }
+
+    /// How many vertices and pairs the build's scans looked at, over all steps: see [`Built`](crate::Built::looked).
+    pub fn looked(&self) -> usize {
+        self.looked
     }
 
     /// The layer at which the graph rests.
@@ -351,7 +358,7 @@ impl Graph {
 #[cfg(test)]
 mod tests {
     use super::*;
-    use crate::reference;
+    use crate::{reference, Built};
 
     /// The bytes of the README's table.
     const LAMP: [u8; 40] = *b"SAG\x01\x00\x03\x02\x02\
@@ -593,15 +600,69 @@ mod tests {
         assert_eq!(problem.bytes().unwrap().len(), 9 + 4 * 2 + 13 * 2 + 4 * 2);
         let (graph, other) = (lamp().graph(3).unwrap(), problem.graph(3).unwrap());
         assert_eq!(graph.words(), other.words());
+        assert_eq!(graph.looked(), other.looked());
         assert_eq!(graph.plan(0b11, 0b100), other.plan(0b11, 0b100));
+    }
+
+    /// Problems of both versions, each with a depth and the looks of its build.
+    fn scanned() -> Result<Vec<(Vec<u8>, usize, usize)>, Refusal> {
+        let two = || Problem::new(2);
+        let problems = [
+            // 5 at the first step, 7 at each further one, behind the rest too
+            (lamp(), 0, 0),
+            (lamp(), 1, 5),
+            (lamp(), 2, 12),
+            (lamp(), 255, 5 + 254 * 7),
+            // two actions that each add both: a state each, at the second step both by the first
+            (two()?.action(1, 3, 0)?.action(2, 3, 0)?.state(1)?.state(2)?, 1, 2),
+            (two()?.action(1, 3, 0)?.action(2, 3, 0)?.state(1)?.state(2)?, 2, 3),
+            // settled by the last look, never settled, nothing to settle
+            (two()?.action(1, 1, 2)?.state(3)?, 1, 2),
+            (two()?.action(1, 2, 1)?.state(1)?, 1, 2),
+            (two()?.state(1)?.state(2)?, 1, 0),
+            // an action that adds both is no pair with itself: 4 looks for them, 1 for each with the third
+            (Problem::new(3)?.action(4, 3, 0)?.state(4)?.state(3)?, 1, 6),
+            // an adder that no state has is looked at
+            (Problem::new(3)?.action(4, 1, 0)?.state(3)?, 1, 2),
+        ];
+        let mut files = Vec::new();
+        for (problem, depth, looked) in problems {
+            files.push((problem.bytes()?, depth, looked));
+            files.push((ConditionalProblem::from(problem).bytes()?, depth, looked));
+        }
+        // two effects, of which the second deletes what the first adds: of one action, of two
+        let effects = || ConditionalProblem::new(2)?.state(0)?.action(0)?.action(0)?.effect(0, 0, 1, 0);
+        files.push((effects()?.effect(0, 0, 2, 1)?.bytes()?, 2, 2));
+        files.push((effects()?.effect(1, 0, 2, 1)?.bytes()?, 2, 6));
+        // an effect that reaches more by another one, at a step that touches few propositions, and is asked for it later
+        let late =
+            ConditionalProblem::new(6)?.state(4)?.action(0)?.action(0)?.effect(0, 4, 10, 0)?.effect(0, 0, 16, 4)?;
+        files.push((late.effect(1, 40, 16, 0)?.effect(1, 2, 33, 24)?.bytes()?, 5, 116));
+        Ok(files)
+    }
+
+    #[test]
+    fn a_scan_ends_as_soon_as_nothing_is_left() {
+        for (file, depth, looked) in scanned().unwrap() {
+            assert_eq!(Graph::new(file, depth).unwrap().looked(), looked);
+        }
+    }
+
+    #[test]
+    fn the_plain_version_counts_the_same() {
+        for (file, depth, looked) in scanned().unwrap() {
+            let Err(Refusal::Memory(words)) = reference::build(&file, depth, &mut []) else { panic!("no words") };
+            assert_eq!(reference::build(&file, depth, &mut vec![0; words]), Ok(Built { words, looked }));
+        }
     }
 
     #[test]
     fn a_graph_has_what_the_calls_say() {
         let graph = lamp().graph(2).unwrap();
         let mut words = vec![u64::MAX; 48];
-        assert_eq!(reference::build(&LAMP, 2, &mut words), Ok(48));
+        assert_eq!(reference::build(&LAMP, 2, &mut words), Ok(Built { words: 48, looked: 12 }));
         assert_eq!((graph.file(), graph.depth(), graph.words()), (&LAMP[..], 2, &words[..]));
+        assert_eq!(graph.looked(), 12);
         assert_eq!(graph.rest(), Ok(Rest::None));
         assert_eq!(graph.level(0b11, 0b100), Ok(Level::At(2)));
         assert_eq!(graph.level(0b01, 0b101), Ok(Level::NotByDepth));

@@ -13,6 +13,10 @@
 //!   delete it, and two of them are as their propositions.
 //! - All of this only grows from layer to layer: what has no need that changed is not made again, and few pairs are
 //!   made one by one. Once a layer equals the one before, all further ones are copied.
+//! - The build counts the looks of its scans, and makes few of them. Where something is left before the last look all are
+//!   made, and a product says how many: that is seen in passing, as the rows are joined. Of the other pairs a scan takes a
+//!   row of looks at once, and only those of the row that settles the pair one by one, without the ones that interfere.
+//!   Where few propositions are touched, the pairs of all others keep their counts.
 //! - Extract cuts out runs of states by shifts where they are few, and else copies what repeats.
 //! - Level looks first at the word that stood in the goal's way one layer before, and for a rest from the top.
 //! - Page remembers in which layers such a word stands in the way, for all goals to come, and looks for a rest once.
@@ -22,7 +26,7 @@
 
 #![allow(clippy::needless_range_loop)] // an index that several rows share
 
-use crate::{word_count, Level, Plan, Refusal, Rest, ENTRY_GOAL, ENTRY_NEVER, ENTRY_NOT_BY_DEPTH, TEXT_ROOM};
+use crate::{word_count, Built, Level, Plan, Refusal, Rest, ENTRY_GOAL, ENTRY_NEVER, ENTRY_NOT_BY_DEPTH, TEXT_ROOM};
 use std::fmt::Write;
 
 /// The members of a set of up to R effects or propositions, rising. R is a power of two, up to 32.
@@ -359,37 +363,40 @@ const fn size(n: usize) -> usize {
 
 // ---- the build
 
-/// Builds the file's graph to the depth, and answers the number of words written.
-pub fn build(file: &[u8], depth: usize, words: &mut [u64]) -> Result<usize, Refusal> {
+/// Builds the file's graph to the depth, and answers the number of words written and that of the looks.
+pub fn build(file: &[u8], depth: usize, words: &mut [u64]) -> Result<Built, Refusal> {
     let problem = Problem::open(file)?;
     check_depth(depth)?;
     let wanted = problem.check_memory(depth, words.len())?;
     let words = &mut words[..wanted];
-    match problem.props.max(problem.effects) {
+    let looked = match problem.props.max(problem.effects) {
         0..=4 => build_graph::<4, 4>(&problem, words),
         5..=8 => build_graph::<8, 8>(&problem, words),
         9..=16 => build_graph::<16, 16>(&problem, words),
         _ if problem.props <= 16 => build_graph::<16, 32>(&problem, words),
         _ => build_graph::<32, 32>(&problem, words),
-    }
-    Ok(wanted)
+    };
+    Ok(Built { words: wanted, looked })
 }
 
 /// For each of up to R effects or propositions a row, with a word for each of up to W effects or propositions.
 type Rows<const R: usize, const W: usize> = [[u64; W]; R];
 
-/// All layers, of up to P propositions and up to E effects, into just as many words as they take. E is not below P.
-fn build_graph<const P: usize, const E: usize>(problem: &Problem, words: &mut [u64]) {
+/// All layers, of up to P propositions and up to E effects, into just as many words as they take. E is not below P. The
+/// number of looks.
+fn build_graph<const P: usize, const E: usize>(problem: &Problem, words: &mut [u64]) -> usize {
     let (layer, vertices) = (size(problem.props), size(problem.vertices()));
     let label: [u64; P] = start_labels(problem.starts());
     let (first, mut rest) = words.split_at_mut(layer);
     first[..problem.props].copy_from_slice(&label[..problem.props]);
     first[problem.props..].fill(0);
     if rest.is_empty() {
-        return;
+        return 0;
     }
     let sets = Sets::<P, E>::new(problem);
     let mut now = Layer::new(problem, label);
+    let mut looks = Looks::new(&sets);
+    let mut looked = 0;
     let mut before = &*first;
     while !rest.is_empty() {
         let (over, next) = rest[..vertices + layer].split_at_mut(vertices);
@@ -400,16 +407,20 @@ fn build_graph<const P: usize, const E: usize>(problem: &Problem, words: &mut [u
             now.pair_one_by_one(&sets);
         }
         now.write_vertices(&sets, before, over);
-        let changed = now.grow(&sets);
+        let changed = now.grow(&sets, &mut looks);
         now.write_props(&sets, next);
         if !changed {
+            // each step that is copied counts as this one
+            looked += looks.step * (rest.len() / (vertices + layer));
             repeat(rest, vertices + layer);
-            return;
+            return looked;
         }
+        looked += looks.step;
         let (step, left) = rest.split_at_mut(vertices + layer);
         before = &step[vertices..];
         rest = left;
     }
+    looked
 }
 
 /// The label of each proposition in layer 0.
@@ -524,6 +535,11 @@ impl<const P: usize, const E: usize> Sets<P, E> {
         }
     }
 
+    /// Whether all rows are joined at once if these propositions may have something new.
+    fn joins_all(&self, touched: u32) -> bool {
+        MANY_ROWS * touched.count_ones() > self.props as u32
+    }
+
     /// The effects that go by one of these propositions. One that needs nothing goes by all.
     fn going_by(&self, props: u32) -> u32 {
         (0..E).fold(0, |going, e| going | ((self.needs[e] & props != 0 || self.needs[e] == 0) as u32) << e)
@@ -564,6 +580,8 @@ struct Layer<const P: usize, const E: usize> {
     /// The effects that some state has, and of them those to be made again.
     live: u32,
     stale: u32,
+    /// The effects that may reach more than their rows say, by others that were made again.
+    behind: u32,
 }
 
 /// With up to so many pairs for each effect it is quicker to make them one by one.
@@ -589,6 +607,7 @@ impl<const P: usize, const E: usize> Layer<P, E> {
             effect: [0; E],
             live: 0,
             stale,
+            behind: 0,
         }
     }
 
@@ -640,6 +659,12 @@ impl<const P: usize, const E: usize> Layer<P, E> {
             fold_rows(row, &own, &self.effects, sets.adders[p] & self.live, |x, y| x | y);
         }
         turn(&mut self.reached, &self.spare);
+        self.behind = 0;
+    }
+
+    /// The propositions that a stale effect adds: only their rows may have something new.
+    fn touched(&self, sets: &Sets<P, E>) -> u32 {
+        Members::<E>(self.stale).fold(0, |touched, e| touched | sets.add[e])
     }
 
     /// The pairs with a stale effect, and what the stale ones reach, one by one.
@@ -658,13 +683,38 @@ impl<const P: usize, const E: usize> Layer<P, E> {
         if sets.with_siblings != 0 {
             self.pair_siblings(sets, self.stale);
         }
-        for e in Members::<E>(self.stale) {
+        if sets.joins_all(self.touched(sets)) {
+            self.reach_again(sets, self.stale | self.behind);
+            self.reach_stale(sets, self.live & !self.stale & !self.behind);
+            self.behind = 0;
+        } else {
+            self.reach_again(sets, self.stale);
+            self.behind = (self.behind | self.live) & !self.stale;
+        }
+    }
+
+    /// What these effects reach.
+    fn reach_again(&mut self, sets: &Sets<P, E>, these: u32) {
+        for e in Members::<E>(these) {
             let row = &mut self.reached[e];
             *row = self.kept[e];
             for f in Members::<E>(sets.free[e] & self.live) {
                 let with = self.effects[e][f];
                 for p in Members::<P>(sets.add[f]) {
                     row[p] |= with;
+                }
+            }
+        }
+    }
+
+    /// What these effects reach by the stale ones. Only the scans ask for it: the rows to be joined have it the other way
+    /// round.
+    fn reach_stale(&mut self, sets: &Sets<P, E>, these: u32) {
+        for e in Members::<E>(self.stale) {
+            for f in Members::<E>(sets.free[e] & these) {
+                let with = self.effects[e][f];
+                for p in Members::<P>(sets.add[e]) {
+                    self.reached[f][p] |= with;
                 }
             }
         }
@@ -689,23 +739,34 @@ impl<const P: usize, const E: usize> Layer<P, E> {
         }
     }
 
-    /// Goes on to the next layer of propositions. Whether anything changed.
-    fn grow(&mut self, sets: &Sets<P, E>) -> bool {
-        let touched = Members::<E>(self.stale).fold(0, |touched, e| touched | sets.add[e]);
-        let changed = if MANY_ROWS * touched.count_ones() > sets.props as u32 {
+    /// Goes on to the next layer of propositions, and counts the looks of the step. Whether anything changed.
+    fn grow(&mut self, sets: &Sets<P, E>, looks: &mut Looks<P>) -> bool {
+        let touched = self.touched(sets);
+        let changed = if sets.joins_all(touched) {
             for (p, row) in self.spare.iter_mut().enumerate() {
                 let row = row.first_chunk_mut().unwrap();
-                fold_rows(row, &[0; P], &self.reached, sets.adders[p] & self.stale, |x, y| x | y);
+                // not of the stale ones only: what is left is what no effect shows
+                fold_rows(row, &[0; P], &self.reached, sets.adders[p] & self.live, |x, y| x | y);
             }
-            join_both_ways(&mut self.props, &self.spare)
+            let (changed, unsettled) = join_both_ways(&mut self.props, &self.spare, &looks.marks);
+            self.relabel();
+            looks.count_all(sets, self, &unsettled);
+            changed
         } else {
-            self.join_rows(sets, touched)
+            let changed = self.join_rows(sets, touched);
+            self.relabel();
+            looks.count_touched(sets, self, touched);
+            changed
         };
+        self.stale = sets.going_by(changed);
+        changed != 0
+    }
+
+    /// The labels of propositions, as their rows have them.
+    fn relabel(&mut self) {
         for p in 0..P {
             self.prop[p] = self.props[p][p];
         }
-        self.stale = sets.going_by(changed);
-        changed != 0
     }
 
     /// Joins what the stale effects reach into these propositions' rows, and into the same columns. The propositions
@@ -726,6 +787,11 @@ impl<const P: usize, const E: usize> Layer<P, E> {
             changed |= new | ((new != 0) as u32) << p;
         }
         changed
+    }
+
+    /// The propositions that some state has.
+    fn labelled(&self) -> u32 {
+        (0..P).fold(0, |some, p| some | ((self.prop[p] != 0) as u32) << p)
     }
 
     /// The action layer, over the layer of propositions whose words are `before`.
@@ -765,6 +831,128 @@ impl<const P: usize, const E: usize> Layer<P, E> {
             pairs = after;
             write_apart(row, self.prop[p], &self.prop[p + 1..], &self.props[p][p + 1..]);
         }
+    }
+}
+
+/// How many vertices and pairs the scans of a step look at.
+struct Looks<const P: usize> {
+    /// How many vertices add a proposition, its persistence among them.
+    sizes: [usize; P],
+    /// The same in the upper half of a word, and the proposition's bit in the lower.
+    marks: [u64; P],
+    /// The looks of the step.
+    step: usize,
+    /// Of p the propositions q above it such that all looks of the two are made.
+    all: [u32; P],
+    /// Of two others, the lower one first, how many are made.
+    some: [[u16; P]; P],
+    /// The propositions whose pairs were not counted yet.
+    new: u32,
+}
+
+impl<const P: usize> Looks<P> {
+    fn new<const E: usize>(sets: &Sets<P, E>) -> Self {
+        let sizes = sets.adders.map(|adders| adders.count_ones() as usize + 1);
+        let marks = std::array::from_fn(|p| (sizes[p] as u64) << 32 | 1 << p);
+        Looks { sizes, marks, step: 0, all: [0; P], some: [[0; P]; P], new: u32::MAX }
+    }
+
+    /// Counts all pairs. Of each proposition the marks are given, in one sum, of those above it with which something is
+    /// left before the last look.
+    fn count_all<const E: usize>(&mut self, sets: &Sets<P, E>, layer: &Layer<P, E>, unsettled: &[u64; P]) {
+        let mut step = 0;
+        let mut above = layer.labelled();
+        for p in Members::<P>(above) {
+            above &= !(1 << p);
+            self.all[p] = unsettled[p] as u32;
+            step += self.sizes[p] * (unsettled[p] >> 32) as usize;
+            for q in Members::<P>(above & !self.all[p]) {
+                if layer.prop[p] & layer.prop[q] != 0 {
+                    let looked = self.scan::<true, E>(sets, layer, p, q);
+                    self.some[p][q] = looked as u16;
+                    step += looked;
+                }
+            }
+        }
+        self.step = step;
+        self.new = 0;
+    }
+
+    /// Counts the pairs of these propositions, and leaves the others as they were.
+    fn count_touched<const E: usize>(&mut self, sets: &Sets<P, E>, layer: &Layer<P, E>, touched: u32) {
+        let mut step = self.step;
+        let mut others = layer.labelled();
+        for i in Members::<P>(others & (touched | self.new)) {
+            others &= !(1 << i);
+            for j in Members::<P>(others) {
+                let shared = layer.prop[i] & layer.prop[j];
+                let (p, q) = (i.min(j), i.max(j));
+                let (mutex, before) = (shared & !layer.props[i][j] != 0, self.all[p] >> q & 1 == 1);
+                if shared == 0 || mutex && before {
+                    continue; // as it was
+                }
+                let all = self.sizes[p] * self.sizes[q];
+                step -= if before { all } else { self.some[p][q] as usize };
+                let looked = if mutex { all } else { self.scan::<false, E>(sets, layer, p, q) };
+                step += looked;
+                self.all[p] = self.all[p] & !(1 << q) | (mutex as u32) << q;
+                self.some[p][q] = looked as u16;
+            }
+        }
+        self.step = step;
+        self.new = 0;
+    }
+
+    /// The looks of the scan of p and q, which share a state. REACHED: whether no effect is behind, so that a row of looks
+    /// may be taken at once.
+    #[inline(always)]
+    fn scan<const REACHED: bool, const E: usize>(
+        &self,
+        sets: &Sets<P, E>,
+        layer: &Layer<P, E>,
+        p: usize,
+        q: usize,
+    ) -> usize {
+        let (lower, upper) = (sets.adders[p], sets.adders[q]);
+        let mut left = layer.prop[p] & layer.prop[q];
+        let mut looked = 0;
+        for v in Members::<E>(lower & upper) {
+            left &= !layer.effect[v];
+            looked += 1;
+            if left == 0 {
+                return looked;
+            }
+        }
+        for v in Members::<E>(lower) {
+            let row = self.sizes[q] - (upper >> v & 1) as usize;
+            // its own label, which is among what it reaches if it adds q, is taken away by now
+            let after = left & !layer.reached[v][q];
+            if REACHED && after != 0 {
+                left = after;
+            } else {
+                let others = upper & !(1 << v);
+                for w in Members::<E>(others & sets.free[v]) {
+                    left &= !layer.effects[v][w];
+                    if left == 0 {
+                        return looked + (others << (31 - w)).count_ones() as usize;
+                    }
+                }
+                // the persistence is the last of the row
+                left &= !layer.kept[v][q];
+                if REACHED || left == 0 {
+                    return looked + row;
+                }
+            }
+            looked += row;
+        }
+        for w in Members::<E>(upper) {
+            left &= !layer.kept[w][p];
+            looked += 1;
+            if left == 0 {
+                return looked;
+            }
+        }
+        looked + 1
     }
 }
 
@@ -819,16 +1007,34 @@ fn square<const R: usize, const W: usize>(rows: &Rows<R, W>, p: usize, q: usize)
 }
 
 /// Joins a table of R columns, as it is and turned round, into one that is the same turned round. The rows with something
-/// new.
+/// new; and of each row the sum of the marks of those behind it with which its label, as it is then, shares more than the
+/// one table joins into the other.
 #[inline(always)]
-fn join_both_ways<const R: usize, const W: usize>(to: &mut Rows<R, R>, from: &Rows<R, W>) -> u32 {
-    let mut new = [0; R];
+fn join_both_ways<const R: usize, const W: usize>(
+    to: &mut Rows<R, R>,
+    from: &Rows<R, W>,
+    marks: &[u64; R],
+) -> (u32, [u64; R]) {
+    let (mut new, mut unsettled) = ([0; R], [0; R]);
+    let label: [u64; R] = std::array::from_fn(|p| to[p][p] | from[p][p]);
     for p in (0..R).step_by(2) {
+        let (mut upper, mut lower) = ([0; 2], [0; 2]);
         for q in (p..R).step_by(2) {
             let (old, here) = (square(to, p, q), square(from, p, q));
             let [a, c, b, d] = square(from, q, p);
             let there = [a, b, c, d];
-            let all: [u64; 4] = std::array::from_fn(|i| old[i] | here[i] | there[i]);
+            let joined: [u64; 4] = std::array::from_fn(|i| here[i] | there[i]);
+            if q > p {
+                for k in 0..2 {
+                    let shared = label[q + k] & !joined[k];
+                    upper[k] += if label[p] & shared != 0 { marks[q + k] } else { 0 };
+                    let shared = label[q + k] & !joined[2 + k];
+                    lower[k] += if label[p + 1] & shared != 0 { marks[q + k] } else { 0 };
+                }
+            } else if label[p] & label[p + 1] & !joined[1] != 0 {
+                upper[1] += marks[p + 1];
+            }
+            let all: [u64; 4] = std::array::from_fn(|i| old[i] | joined[i]);
             let more: [u64; 4] = std::array::from_fn(|i| old[i] ^ all[i]);
             new[p] |= more[0] | more[1];
             new[p + 1] |= more[2] | more[3];
@@ -838,8 +1044,9 @@ fn join_both_ways<const R: usize, const W: usize>(to: &mut Rows<R, R>, from: &Ro
             (to[p][q], to[p][q + 1], to[p + 1][q], to[p + 1][q + 1]) = (a, b, c, d);
             (to[q][p], to[q][p + 1], to[q + 1][p], to[q + 1][p + 1]) = (a, c, b, d);
         }
+        (unsettled[p], unsettled[p + 1]) = (upper[0] + upper[1], lower[0] + lower[1]);
     }
-    (0..R).fold(0, |rows, p| rows | ((new[p] != 0) as u32) << p)
+    ((0..R).fold(0, |rows, p| rows | ((new[p] != 0) as u32) << p), unsettled)
 }
 
 /// Repeats the first `n` words to the end: first in ever longer runs, then from one run that stays near at hand.
@@ -1425,7 +1632,7 @@ pub fn levels_text(file: &[u8], out: &mut [u8]) -> Result<usize, Refusal> {
 fn text(file: &[u8]) -> Result<String, Refusal> {
     let depth = fitting_depth(file, 8192)?;
     let mut words = [0; 8192];
-    let count = build(file, depth, &mut words)?;
+    let count = build(file, depth, &mut words)?.words;
     let (problem, words) = (Problem::open(file)?, &words[..count]);
 
     let rest = match rest(file, depth, words)? {

@@ -1,11 +1,12 @@
 //! Makes each call of the proved library and of the plain Rust version on the same input, and compares the answers and
 //! all lent memory: many problems of both versions, short and long, whole, damaged, with equal actions and with effects of
 //! no action, over built, altered and junk words. What a page of goals says of each is held to the single call for it,
-//! too, and the graph of actions to that of the same actions as effects.
+//! too, the graph of actions to that of the same actions as effects, and the number of a build's looks to a count that
+//! makes each look, where that does not take too long.
 //!
 //! Prints how often each kind of answer came up, and fails where one that the paper has never did.
 
-use mogzift::{reference, word_count, Level, Plan, Refusal, Rest, TEXT_ROOM};
+use mogzift::{reference, word_count, Built, Level, Plan, Refusal, Rest, TEXT_ROOM};
 use std::collections::BTreeMap;
 use std::fmt::Debug;
 use std::time::Instant;
@@ -347,6 +348,74 @@ fn misowned(random: &mut Random, problem: &Problem) -> Vec<u8> {
     }
 }
 
+// ---- looks, one by one
+
+/// A count of looks that may take more than so many steps, one for each two propositions and two vertices, is not made.
+const LOOKS_BUDGET: usize = 4_000_000;
+
+/// Of an accepted file the propositions, and of each vertex, effects first, those that it adds.
+fn vertices(file: &[u8]) -> (usize, Vec<u32>) {
+    let [props, actions] = [5, 6].map(|at| file[at] as usize);
+    let (first, step, effects) =
+        if version(file) == 2 { (9 + 4 * actions + 5, 13, file[8] as usize) } else { (8 + 4, 12, actions) };
+    let add = |e: usize| u32::from_le_bytes(*file[first + step * e..].first_chunk().expect("four bytes"));
+    (props, (0..effects).map(add).chain((0..props).map(|p| 1 << p)).collect())
+}
+
+/// A layer of so many elements: its labels, then the mutex words of its pairs.
+struct Layer<'a> {
+    elements: usize,
+    words: &'a [u64],
+}
+
+impl Layer<'_> {
+    /// The mutex word of two elements.
+    fn mutex(&self, i: usize, j: usize) -> u64 {
+        let (i, j) = (i.min(j), i.max(j));
+        self.words[self.elements + i * (2 * self.elements - i - 1) / 2 + j - i - 1]
+    }
+
+    /// What the labels of two elements share.
+    fn shared(&self, i: usize, j: usize) -> u64 {
+        self.words[i] & self.words[j]
+    }
+}
+
+/// The looks of the scan of two propositions, the lower one first.
+fn scan(adds: &[u32], over: &Layer, next: &Layer, p: usize, q: usize) -> usize {
+    let adders = |p: usize| (0..adds.len()).filter(move |&v| adds[v] >> p & 1 == 1);
+    let single = adders(p).filter(|&v| adds[v] >> q & 1 == 1).map(|v| over.words[v]);
+    let pairs = adders(p).flat_map(|v| adders(q).filter(move |&w| w != v).map(move |w| (v, w)));
+    let mut left = next.shared(p, q);
+    let mut looked = 0;
+    for word in single.chain(pairs.map(|(v, w)| over.shared(v, w) & !over.mutex(v, w))) {
+        if left == 0 {
+            break;
+        }
+        left &= !word;
+        looked += 1;
+    }
+    assert_eq!(left, next.mutex(p, q), "what a scan leaves of {p} and {q}");
+    looked
+}
+
+/// The looks of all steps of a graph, or nothing where they are too many.
+fn looks(file: &[u8], depth: usize, words: &[u64]) -> Option<usize> {
+    let (props, adds) = vertices(file);
+    if depth * (props * adds.len()).pow(2) > LOOKS_BUDGET {
+        return None;
+    }
+    let [layer, over] = [props, adds.len()].map(|n| n * (n + 1) / 2);
+    let step = |t: usize| {
+        let words = &words[t * (layer + over) + layer..];
+        let over_layer = Layer { elements: adds.len(), words: &words[..over] };
+        let next = Layer { elements: props, words: &words[over..over + layer] };
+        let scans = (0..props).flat_map(|p| (p + 1..props).map(move |q| (p, q)));
+        scans.map(|(p, q)| scan(&adds, &over_layer, &next, p, q)).sum::<usize>()
+    };
+    Some((0..depth).map(step).sum())
+}
+
 // ---- the two versions side by side
 
 const REFUSED: [&str; 16] = [
@@ -405,6 +474,15 @@ impl Kind for Plan {
 impl Kind for usize {
     fn kind(&self) -> &'static str {
         "written"
+    }
+}
+
+impl Kind for Built {
+    fn kind(&self) -> &'static str {
+        match self.looked {
+            0 => "built without a look",
+            _ => "written",
+        }
     }
 }
 
@@ -474,6 +552,8 @@ fn version(file: &[u8]) -> usize {
 #[derive(Default)]
 struct Tally {
     calls: usize,
+    /// The builds whose looks were made one by one, too.
+    looked: usize,
     kinds: BTreeMap<(usize, &'static str, &'static str), usize>,
     places: BTreeMap<(usize, usize, usize), usize>,
 }
@@ -532,13 +612,18 @@ impl Tally {
         }
     }
 
-    fn build(&mut self, file: &[u8], depth: usize, before: Vec<u64>) -> Vec<u64> {
+    /// The words, and how many looks an accepted build made.
+    fn build(&mut self, file: &[u8], depth: usize, before: Vec<u64>) -> (Vec<u64>, Option<usize>) {
         let input = || format!("depth {depth}, {} words, file {file:02x?}", before.len());
         let (mut proved, mut plain) = (before.clone(), before.clone());
-        let answer = mogzift::build(file, depth, &mut proved);
-        self.compare("build", file, answer, reference::build(file, depth, &mut plain), input);
-        self.memory("build", &before, &proved, &plain, answer.unwrap_or(0), input);
-        proved
+        let (answer, other) = (mogzift::build(file, depth, &mut proved), reference::build(file, depth, &mut plain));
+        if let Some((built, looks)) = other.ok().and_then(|built| Some((built, looks(file, depth, &plain)?))) {
+            assert!(built.looked == looks, "build: plain {built:?}, one by one {looks} looks; {}", input());
+            self.looked += 1;
+        }
+        self.compare("build", file, answer, other, input);
+        self.memory("build", &before, &proved, &plain, answer.map_or(0, |built| built.words), input);
+        (proved, answer.ok().map(|built| built.looked))
     }
 
     fn rest(&mut self, file: &[u8], depth: usize, words: &[u64]) {
@@ -803,6 +888,7 @@ fn problem_calls(tally: &mut Tally, random: &mut Random) {
         let as_effects = Problem { version: 2, ..problem.clone() };
         assert!(tally.build(&as_effects.file(), depth, before) == built, "not the same as effects: {file:02x?}");
     }
+    let (built, _) = built;
     // fewer calls where there are many words to copy for each
     let calls = if built.len() < 20_000 { 30 } else { 6 };
     for _ in 0..calls {
@@ -837,7 +923,7 @@ fn widest(tally: &mut Tally, random: &mut Random) {
 fn deepest_calls(tally: &mut Tally, random: &mut Random, problem: &Problem) {
     let (file, depth) = (problem.file(), 255);
     let before = random.words(problem.words(depth));
-    let built = tally.build(&file, depth, before);
+    let (built, _) = tally.build(&file, depth, before);
     for _ in 0..10 {
         any_call(tally, random, problem, &file, depth, &built);
     }
@@ -895,6 +981,7 @@ fn print_places(tally: &Tally) {
 fn check_kinds(tally: &Tally, version: usize) {
     for (call, kind) in [
         ("build", "written"),
+        ("build", "built without a look"),
         ("rest", "layer"),
         ("rest", "none"),
         ("level", "level 0"),
@@ -946,8 +1033,10 @@ fn main() {
     widest(&mut tally, &mut random);
 
     println!("seed {SEED}: {} calls in {:.1} s, all alike", tally.calls, began.elapsed().as_secs_f64());
+    println!("{} builds whose looks were made one by one, too", tally.looked);
     [1, 2].into_iter().for_each(|version| print_kinds(&tally, version));
     print_places(&tally);
     assert!(tally.calls >= 100_000, "too few calls");
+    assert!(tally.looked >= PROBLEMS / 2, "too few counts of looks");
     [1, 2].into_iter().for_each(|version| check_kinds(&tally, version));
 }

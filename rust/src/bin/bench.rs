@@ -7,7 +7,7 @@
 //! A number in SEED, in the environment, gives other problems of the same kinds. A name as an argument, or a part of
 //! one, leaves only the problems with it.
 
-use mogzift::{reference, word_count, Level, Refusal, Rest};
+use mogzift::{reference, word_count, Built, Level, Refusal, Rest};
 use std::hint::black_box;
 use std::time::{Duration, Instant};
 
@@ -338,12 +338,12 @@ macro_rules! race {
 
 fn builds(case: &Case) {
     let Case { file, depth, words, .. } = case;
-    let (count, times) = race!(build(file, *depth => vec![0; words.len()]));
+    let (built, times) = race!(build(file, *depth => vec![0; words.len()]));
     let rest = match reference::rest(file, *depth, words).unwrap() {
         Rest::At(t) => format!("rest {t}"),
         Rest::None => "no rest".to_string(),
     };
-    times.print("build", case, format!("{count} words, {rest}"));
+    times.print("build", case, format!("{} words, {rest}, {} looks", built.words, built.looked));
 }
 
 fn reads(case: &Case, seed: u64, random: &mut Random) {
@@ -420,7 +420,7 @@ fn agree(case: &Case) {
     }
 }
 
-type Build = fn(&[u8], usize, &mut [u64]) -> Result<usize, Refusal>;
+type Build = fn(&[u8], usize, &mut [u64]) -> Result<Built, Refusal>;
 
 /// A build for each state by itself, against one for all of them.
 fn alone(version: &str, build: Build, case: &Case) {
