@@ -4,13 +4,12 @@ use Prim.Native.Nat.{ℕ, zero, suc, _+_, _-_, _*_, _≤_, _<_}
 use mathlib.Core.Path.{_≡_, refl, sym, ap, ap₂, subst, _∙_}
 use mathlib.Core.Bool.{Bool, true}
 use mathlib.Core.List.{List, _++_, append-assoc, append-nil}
-use native.Mathlib.Nat.{le-refl, le-trans, suc-mul, mul-le-mul, mul-le-mul-right, zero-mul, add-zero}
+use native.Mathlib.Nat.{le-refl, suc-mul, mul-le-mul, mul-le-mul-right, zero-mul, add-zero}
 use native.Mathlib.Numerals.{add-one}
 use native.Mathlib.Omega.{arith}
 use borrow.Rule.Slice.PartMut.{putMid, same-len-mid}
 use lib.ListN.{length, getD, take, drop, length-append}
 use Rattle.rules.specs.Word.{first}
-use Rattle.rules.specs.Over.{joinOf}
 use Rattle.rules.specs.Lists.{runOver}
 use Rattle.rules.specs.Domain.{Domain, Actions, domain}
 use Rattle.rules.specs.Layer.{size, layerOf}
@@ -20,14 +19,11 @@ use Rattle.rules.specs.Scan.{sumOver, stepLooks, looksFrom}
 use Rattle.rules.proofs.Layers.{length-layerOf, layer-eq}
 use Rattle.rules.proofs.Scans.{looks-left}
 use Rattle.words.specs.Memory.{putAt}
-use Rattle.words.specs.Rows.{rowLength, cell}
+use Rattle.words.specs.Rows.{cell}
 use Rattle.words.proofs.Writes.{Runs, run-more, run-done, put-put, put-within, put-none, tail-length}
-use Rattle.layers.specs.Step.{Told, Deletes, Tells, Ready, Stepped, stepWords}
-use Rattle.layers.proofs.Stages.{sets-of}
-use Rattle.scans.specs.Pairs.{Alike, tableLooks, Tables, mostLooks}
+use Rattle.layers.specs.Step.{Told, Deletes, Tells, Ready, Stepped, stepWords, mostOfStep}
 use Rattle.graph.specs.Limits.{maxDepth}
 use Rattle.build.specs.Steps.{Ended, Lent}
-use Rattle.build.proofs.Looks.{looks-told, alike-told}
 
 pub length-actions : (D : Domain) (all : ℕ) (l : List ℕ) → length (actionLayer D all l) ≡ size (D .vertices)
 unfolding actionLayer
@@ -81,9 +77,8 @@ module _ {A : Actions} {all : ℕ} {l : List ℕ} {depth : ℕ} {w₀ : List ℕ
   abbrev D : Domain
   D = domain A
 
-  module _ (labels' t' live r mates besides p : List ℕ) (still : Bool) (looks : ℕ) (h : k < depth) (room : at + (size (D .vertices) + size (D .props)) ≤ length w₀)
-      (did : Stepped A all t labels' t' live r mates besides (take (length w - at) (drop at w)) p still)
-      (seen : looks ≡ stepLooks D all (layerBy (D .props) (cell t))) where
+  module _ (labels' t' p : List ℕ) (still : Bool) (looks : ℕ) (h : k < depth) (room : at + (size (D .vertices) + size (D .props)) ≤ length w₀)
+      (did : Stepped A all t labels' t' (take (length w - at) (drop at w)) p still looks) where
     put : putMid at (length w - at) w p ≡ putAt at (stepWords D all (propFrom D all l k)) w
     put =
         put-within at 0 (stepWords D all (propFrom D all l k)) w p (omega (arith, step-length D all (propFrom D all l k), s .runs .long))
@@ -95,7 +90,7 @@ module _ {A : Actions} {all : ℕ} {l : List ℕ} {depth : ℕ} {w₀ : List ℕ
 
     all-looks : looked + looks ≡ looksFrom D all l (k + 1)
     all-looks = unfold looksFrom sumOver in
-        ap₂ _+_ (s .looks) (seen ∙ ap (stepLooks D all) (s .layer)) ∙ ap (looksFrom D all l) (sym (add-one k))
+        ap₂ _+_ (s .looks) (did .looks ∙ ap (stepLooks D all) (s .layer)) ∙ ap (looksFrom D all l) (sym (add-one k))
 
     pub going-more : Going A all l depth w₀ (k + 1) (at + (size (D .vertices) + size (D .props))) (looked + looks) (putMid at (length w - at) w p) labels' t'
     going-more = record {
@@ -117,7 +112,7 @@ module _ {A : Actions} {all : ℕ} {l : List ℕ} {depth : ℕ} {w₀ : List ℕ
         omega arith,
         (let q : k + 1 - 1 ≡ k = omega arith in ap (propFrom D all l) q) ∙ same e ∙ ap (propFrom D all l) (sym (add-one k)),
       );
-      looks = sym (looks-left D all l k (same e) depth (k + 1) (looked + looks) looks refl (omega arith) all-looks (seen ∙ ap (stepLooks D all) (s .layer)));
+      looks = sym (looks-left D all l k (same e) depth (k + 1) (looked + looks) looks refl (omega arith) all-looks (did .looks ∙ ap (stepLooks D all) (s .layer)));
     }
 
   pub ended-all : depth ≤ k → Ended D all l depth w₀ depth looked w
@@ -145,10 +140,6 @@ layers-put D n start depth all l w₀ w₁ w₂ room q el e₁ e₂ =
     ∙ ap (λ (l : List ℕ). putAt 0 l w₀) (graph-steps D n start depth)
 
 -- ---- the same, whatever actions the lists tell
-
--- the looks of a step are no more
-abbrev pub mostOfStep : ℕ
-mostOfStep = rowLength * (rowLength * mostLooks)
 
 pub record Stepping (n width span depth all : ℕ) (needs adds dels adders interferers labels₀ t₀ w₀ : List ℕ) (k at looked : ℕ) (w labels live t r mates besides spare : List ℕ) : Type 0 where
   pub within : k ≤ depth
@@ -196,28 +187,18 @@ module _ {n width span depth all : ℕ} {needs adds dels adders interferers labe
     room = omega (arith, room, tail-length at w (omega (arith, room)));
   }
 
+  -- no sum is too large
+  pub looks-fit : (looks : ℕ) → looks ≤ mostOfStep → (looked + looks ≤ (k + 1) * mostOfStep) × ((depth - (k + 1)) * looks ≤ maxDepth * mostOfStep)
+  looks-fit looks most = (
+    omega (arith, s .few),
+    (let few : depth - (k + 1) ≤ maxDepth = omega (arith, s .lent .deep) in mul-le-mul few most),
+  )
+
   module _ (labels' live' t' r' mates' besides' spare' p : List ℕ) (still : Bool) (looks : ℕ)
-      (joined : (p q : ℕ) → p < n → q < n → cell spare' p q ≡ joinOf rowLength (getD adders p 0) (λ v. cell besides' v q))
       (did : (A : Actions) → Told A n needs adds adders interferers → Deletes A dels → Tells A all labels t
-      → Stepped A all t labels' t' live' r' mates' besides' (take (length w - at) (drop at w)) p still)
-      (sees : Alike adders live' mates' r' besides' spare' → looks ≡ tableLooks (length adders) adders labels' live' mates' r') (most : looks ≤ mostOfStep) where
+      → Stepped A all t labels' t' (take (length w - at) (drop at w)) p still looks) (most : looks ≤ mostOfStep) where
     further : (A : Actions) → Told A n needs adds adders interferers → at + (size (domain A .vertices) + size (domain A .props)) ≤ length w₀
     further A told = let (a, b) = told-sizes A n needs adds adders interferers told in omega (arith, room, s .long)
-
-    -- they are the looks of the rules
-    seen : (A : Actions) → Told A n needs adds adders interferers → Deletes A dels → Tells A all labels t
-        → looks ≡ stepLooks (domain A) all (layerBy (domain A .props) (cell t))
-    seen A told del is =
-        let d = did A told del is in
-        let sets = sets-of A n width needs adds adders interferers told (s .lent .mating .wide) in
-        sees (alike-told sets told (d .shown) is (s .lent .mating .adders-long) joined) ∙ looks-told sets told (d .shown) (d .next) (s .lent .mating .adders-long)
-
-    -- no sum is too large
-    pub looks-fit : (looked + looks ≤ (k + 1) * mostOfStep) × ((depth - (k + 1)) * looks ≤ maxDepth * mostOfStep)
-    looks-fit = (
-      omega (arith, s .few),
-      (let few : depth - (k + 1) ≤ maxDepth = omega (arith, s .lent .deep) in mul-le-mul few most),
-    )
 
     pub stepping-more : (far : ℕ) → far ≡ size (length needs + n) + size n → length p ≡ length (take (length w - at) (drop at w))
         → length labels' ≡ length labels → length live' ≡ length live → length t' ≡ length t → length r' ≡ length r → length mates' ≡ length mates
@@ -228,7 +209,7 @@ module _ {n width span depth all : ℕ} {needs adds dels adders interferers labe
         let lw : length (putMid at (length w - at) w p) ≡ length w = same-len-mid at (length w - at) w p lp in
         record {
           within = omega arith;
-          few = looks-fit .0;
+          few = looks-fit looks most .0;
           place = omega (arith, s .place, ef, suc-mul k (size (length needs + n) + size n), ap (λ (x : ℕ). x * (size (length needs + n) + size n)) (add-one k));
           lent = record {
             mating = record {
@@ -257,14 +238,14 @@ module _ {n width span depth all : ℕ} {needs adds dels adders interferers labe
               let e : at + (size (domain A .vertices) + size (domain A .props)) ≡ at + far = omega (arith, ef) in
               let g = s .going A told del is in
               subst (λ (x : ℕ). Going A all (layerBy (domain A .props) (cell t₀)) depth w₀ (k + 1) x (looked + looks) (putMid at (length w - at) w p) labels' t') e
-              (going-more g labels' t' live' r' mates' besides' p still looks h (further A told) (did A told del (g .tells)) (seen A told del (g .tells)));
+              (going-more g labels' t' p still looks h (further A told) (did A told del (g .tells)));
         }
 
     pub stepping-rest : still ≡ true → (A : Actions) → Told A n needs adds adders interferers → Deletes A dels → Tells A all labels₀ t₀
         → Ended (domain A) all (layerBy (domain A .props) (cell t₀)) depth w₀ (k + 1) (looked + looks + (depth - (k + 1)) * looks) (putMid at (length w - at) w p)
     stepping-rest e A told del is =
         let g = s .going A told del is in
-        ended-rest g labels' t' live' r' mates' besides' p still looks h (further A told) (did A told del (g .tells)) (seen A told del (g .tells)) e
+        ended-rest g labels' t' p still looks h (further A told) (did A told del (g .tells)) e
 
 pub stepping-all : {n width span depth all : ℕ} {needs adds dels adders interferers labels₀ t₀ w₀ : List ℕ} {k at looked : ℕ} {w labels live t r mates besides spare : List ℕ}
     → Stepping n width span depth all needs adds dels adders interferers labels₀ t₀ w₀ k at looked w labels live t r mates besides spare → depth ≤ k

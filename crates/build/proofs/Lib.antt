@@ -3,5 +3,4 @@ pub mod Builds
 pub mod Repeats
 pub mod Listings
 pub mod Whole
-pub mod Looks
 pub mod Answers

@@ -3,7 +3,6 @@ use graph::layout::layer_size;
 use graph::layout::stride;
 use layers::step::step;
 use rules::Shape;
-use scans::step_looks;
 ghost use Prim.Native.Nat.{_≤_, _<_};
 ghost use Rattle.rules.specs.Domain.{Actions, domain};
 ghost use Rattle.rules.specs.Together.{layerBy};
@@ -51,7 +50,7 @@ pub fn steps_until(
     let mut at = layer_size(n);
     let mut looked = 0;
     for k in 0..depth {
-        let still = step(
+        let did = step(
             &mut words[at..],
             act,
             n,
@@ -72,12 +71,11 @@ pub fn steps_until(
             &mut *besides,
             &mut *spare,
         );
-        let looks = step_looks(adders, &*labels, &*live, &*mates, &*r, &*besides, &*spare);
-        looked += looks;
-        if still {
+        looked += did.looked;
+        if did.still {
             return Steps {
                 done: k + 1,
-                looked: looked + (depth - (k + 1)) * looks,
+                looked: looked + (depth - (k + 1)) * did.looked,
             };
         }
         at += apart;

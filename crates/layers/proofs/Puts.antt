@@ -1,21 +1,20 @@
 -- Rows of mutex words, one behind the other.
 -- Assumes nothing.
 use Prim.Native.Nat.{ℕ, zero, suc, _+_, _-_, _*_, _/_, _≤_, _<_}
-use mathlib.Core.Path.{_≡_, refl, sym, ap, ap₂, _∙_}
+use mathlib.Core.Path.{_≡_, sym, ap, ap₂, _∙_}
 use mathlib.Core.List.{List, _++_, append-assoc}
 use native.Mathlib.Omega.{arith}
 use native.Mathlib.Nat.{suc-mul, zero-mul, sub-zero, mul-le-mul-right, zero-add, suc-add}
-use native.Mathlib.Numerals.{add-one}
 use lib.ListN.{length, getD, take, length-append}
 use lib.Seq.{ext-getD, getD-take, length-take-le}
 use Rattle.rules.specs.Word.{common, without}
 use Rattle.rules.specs.Lists.{listOver, runOver}
 use Rattle.rules.specs.Layer.{pairs, size, rowOf, layerOf}
 use Rattle.rules.specs.Together.{layerBy}
-use Rattle.rules.proofs.Layers.{length-listOver, getD-listOver, listOver-eq, layer-eq, size-pairs, pairs-suc, length-rows, length-rowOf, pairs-row, pairs-sub}
+use Rattle.rules.proofs.Layers.{length-listOver, getD-listOver, listOver-eq, layer-eq, size-pairs, pairs-suc, length-rows, pairs-row, pairs-sub}
 use Rattle.words.specs.Memory.{putAt}
 use Rattle.words.specs.Rows.{rowLength, cell}
-use Rattle.words.proofs.Writes.{Runs, run-more, put-put}
+use Rattle.words.proofs.Writes.{Runs, run-more, put-put, put-behind}
 use Rattle.layers.specs.Write.{apart, Diagonal, effectRow, actionWords}
 
 -- ---- the pairs of n elements: p rows are written, up to `at`
@@ -103,14 +102,6 @@ pairs-sum (suc a) n =
 
 pub size-sum : (a n : ℕ) → size (a + n) ≡ a + n + (pairs a + a * n) + pairs n
 size-sum a n = size-pairs (a + n) ∙ omega (arith, pairs-sum a n)
-
--- ---- lists one behind the other, from the front on
-
-pub put-behind : (at : ℕ) (xs ys w₀ w₁ w₂ : List ℕ) → length xs ≡ at → at + length ys ≤ length w₀ → w₁ ≡ putAt 0 xs w₀ → w₂ ≡ putAt at ys w₁
-    → w₂ ≡ putAt 0 (xs ++ ys) w₀
-put-behind at xs ys w₀ w₁ w₂ e room e₁ e₂ =
-    let here : at ≡ 0 + length xs = omega arith in
-    e₂ ∙ ap₂ (λ (x : ℕ) (l : List ℕ). putAt x ys l) here e₁ ∙ put-put 0 xs w₀ (omega arith) ys
 
 -- the first words of a row
 pub take-row : (n : ℕ) (row : List ℕ) → n ≤ length row → take n row ≡ listOver n (λ i. getD row i 0)

@@ -6,15 +6,14 @@ use mathlib.Core.Bool.{Bool, true, So}
 use mathlib.Core.Logic.{⊎-elim}
 use mathlib.Core.List.{List}
 use native.Mathlib.Omega.{arith}
-use native.Mathlib.Nat.{zero-add, add-zero}
+use native.Mathlib.Nat.{add-zero}
 use borrow.Rule.Slice.PartMut.{putMid}
 use mathlib.Core.List.{_++_}
-use lib.Bits.{bitXor, xor-add-and, and-le-l, and-le-r}
 use lib.ListN.{length, getD, take, drop}
 use lib.Seq.{getD-take, getD-drop}
 use Rattle.rules.specs.Test.{_and_, _or_, fails, same, choose}
 use Rattle.rules.specs.Word.{bit, common, union, without, single, first}
-use Rattle.rules.specs.Over.{keep, joinOver, joinOf, meetOf}
+use Rattle.rules.specs.Over.{keep, joinOf, meetOf}
 use Rattle.rules.specs.Lists.{listOver, runOver}
 use Rattle.rules.specs.Domain.{Domain, Actions, condition, persistence, interfereOf, domain}
 use Rattle.rules.specs.Layer.{size, rowOf, layerOf, labelIn, freeIn}
@@ -22,24 +21,25 @@ use Rattle.rules.specs.Shared.{startLabel, vertexLabel, actionLayer, nextLayer}
 use Rattle.rules.specs.Together.{layerBy, beside, nextTogether}
 use Rattle.rules.proofs.Tests.{choose-held, choose-failed, and-of, and-right, or-left, or-right, or-at, fails-of, fails-at}
 use Rattle.rules.proofs.Tests.{holds-or, test-eq, same-of, same-at, below-of}
-use Rattle.rules.proofs.Words.{bit-union, bit-without, bit-single, bit-first, bit-below, first-lt, without-lt, ext-all, no-bit-zero}
-use Rattle.rules.proofs.Overs.{bit-joinOver, any-of}
-use Rattle.rules.proofs.Layers.{length-layerOf, length-listOver, getD-listOver, listOver-eq, runOver-eq, list-append, run-append}
+use Rattle.rules.proofs.Words.{bit-union, bit-without, bit-single, bit-first, bit-below, first-lt, without-lt, ext-all}
+use Rattle.rules.proofs.Layers.{length-layerOf, listOver-eq, runOver-eq, list-append, run-append}
 use Rattle.rules.proofs.Members.{meet-only, join-only, startLabel-lt}
 use Rattle.rules.proofs.Domains.{needs-effect, effect-below, interfere-turn}
 use Rattle.rules.proofs.Togethers.{vertex-label, label-at, free-own, free-turn, action-by, next-by, next-together, layerBy-eq, consistent-eq}
 use Rattle.rules.proofs.Steps as S
 use Rattle.rules.proofs.Steps.{Sets}
 use Rattle.words.specs.Memory.{putAt}
-use Rattle.words.specs.Rows.{rowLength, cell, bothWays, grown, changesOf}
-use Rattle.words.proofs.Writes.{put-word, put-length, put-within}
+use Rattle.words.specs.Rows.{rowLength, cell, bothWays, grown}
+use Rattle.words.proofs.Writes.{put-length, put-behind, put-within, front-word}
 use lib.Dec.{eqb}
 use borrow.Author.Tests.{eqb-true}
+use Rattle.scans.specs.Pairs.{Alike, tableLooks}
+use Rattle.scans.specs.Ends.{Turns, Finished}
 use Rattle.together.specs.Cells.{Width, Span, labelFor, rowFor, withProp, withEffect, independentOf, withIndependent, rowIn, mateOf, besideFor}
-use Rattle.layers.specs.Write.{apart, Diagonal, effectRow, actionWords}
-use Rattle.layers.proofs.Puts.{put-behind}
+use Rattle.layers.specs.Write.{apart, effectRow, actionWords}
+use Rattle.layers.proofs.Looks.{Shown, looks-told, alike-told}
 use Rattle.together.proofs.Rows.{parts-le}
-use Rattle.layers.specs.Step.{Told, Tells, overOf, Admitted, Kept, Mated, Gathered, Next, Nexting, Deletes, Ready, Stepped, stepWords}
+use Rattle.layers.specs.Step.{Told, Tells, overOf, Admitted, Kept, Mated, Next, Deletes, Ready, Stepped, stepWords}
 
 -- a word of a row
 pub row-cell : (table : List ℕ) (i q : ℕ) → q < rowLength → getD (rowIn table i) q 0 ≡ cell table i q
@@ -237,18 +237,6 @@ module _ (A : Actions) (all : ℕ) (sets : Sets rowLength A) (labels t : List �
       rests = λ e. layerBy-eq (same e);
     }
 
--- a table that did not change
-none-joined : (n : ℕ) (f : ℕ → ℕ) → joinOver n f ≡ 0 → (i : ℕ) → i < n → f i ≡ 0
-none-joined n f e i h = ext-all (λ s. test-eq
-    (λ b. absurd (no-bit-zero s (ap (bit s) (sym e) ∙ (bit-joinOver s _ (λ i l. refl) ∙ any-of _ h b))))
-    (λ b. absurd (no-bit-zero s b)))
-
-pub unchanged : (n : ℕ) (f g : ℕ → ℕ) → joinOver n (λ i. bitXor (f i) (g i)) ≡ 0 → (i : ℕ) → i < n → f i ≡ g i
-unchanged n f g e i h = same-words (f i) (g i) (none-joined n (λ i. bitXor (f i) (g i)) e i h)
-  where
-    same-words : (a b : ℕ) → bitXor a b ≡ 0 → a ≡ b
-    same-words a b z = omega (arith, xor-add-and a b, and-le-l a b, and-le-r a b)
-
 -- ---- the action layer's words
 
 module _ (a n : ℕ) (f : ℕ → ℕ → ℕ) where
@@ -318,15 +306,6 @@ actions-told A all sets labels t live r cut mates besides is adm kept-is mat =
 
 -- ---- on what the functions leave
 
--- a word written at the front
-front-word : (m i : ℕ) (f : ℕ → ℕ) (w : List ℕ) → m ≤ length w → i < m → getD (putAt 0 (listOver m f) w) i 0 ≡ f i
-front-word m i f w room h =
-    ap (λ (x : ℕ). getD (putAt 0 (listOver m f) w) x 0) (sym (zero-add i))
-    ∙ put-word 0 (listOver m f) w (omega (arith, length-listOver m f)) i (omega (arith, length-listOver m f)) ∙ getD-listOver f h
-
-pub diagonal-told : (n : ℕ) (labels labels' t' : List ℕ) → labels' ≡ putAt 0 (listOver n (λ p. cell t' p p)) labels → n ≤ length labels → Diagonal n labels' t'
-diagonal-told n labels labels' t' e room p h = ap (λ (l : List ℕ). getD l p 0) e ∙ front-word n p _ labels room h
-
 pub sets-of : (A : Actions) (n width : ℕ) (needs adds adders interferers : List ℕ) → Told A n needs adds adders interferers → Width n width needs → Sets rowLength A
 sets-of A n width needs adds adders interferers told wide =
     let le : width ≤ rowLength = parts-le (wide .parts) in
@@ -378,27 +357,6 @@ module _ (A : Actions) (all n width : ℕ) (needs adds dels adders interferers l
       paired i j h k = pair i j (act i h) (omega (arith, act j k, spans .effects))
           ∙ pair-told A all sets labels t is n needs adds dels adders interferers live r told del adm turned (λ j q g l. turns j q (act j g) (prop q l)) i j h k
 
-pub next-made : (A : Actions) (all n width fresh : ℕ) (needs adds adders interferers mates labels t besides spare t' labels' : List ℕ)
-    → Told A n needs adds adders interferers → Width n width needs → Nexting n width adders besides t spare labels → Tells A all labels t → Mated A all t mates besides
-    → (spare' : List ℕ)
-    → Gathered n adders besides spare' → ((p q : ℕ) → p < n → q < n → cell t' p q ≡ grown spare' t p q) → fresh ≡ joinOver n (changesOf n spare' t)
-    → labels' ≡ putAt 0 (listOver n (λ p. cell t' p p)) labels → Next A all t labels' t' (eqb fresh 0)
-next-made A all n width fresh needs adds adders interferers mates labels t besides spare t' labels' told wide ready is mat spare' halves joined ef el =
-    next-told A all (sets-of A n width needs adds adders interferers told wide) labels t is n needs adds adders interferers told spare' besides t'
-    (λ p q h k. halves p q (ltn p h) (ltn q k)) (mat .with-adders) (λ p q h k. joined p q (ltn p h) (ltn q k)) labels' (eqb fresh 0)
-    (λ p h. diagonal-told n labels labels' t' el (omega (arith, ready .labels-long, few)) p (ltn p h))
-    (λ b p q h k. joined p q (ltn p h) (ltn q k) ∙ still b p q (ltn p h) (ltn q k))
-  where
-    few : n ≤ rowLength
-    few = omega (arith, ready .props, parts-le (ready .parts))
-
-    ltn : (p : ℕ) → p < A .props → p < n
-    ltn p h = subst (λ (x : ℕ). p < x) (told .props) h
-
-    still : eqb fresh 0 ≡ true → (p q : ℕ) → p < n → q < n → grown spare' t p q ≡ cell t p q
-    still b p q h k = unfold changesOf in
-        unchanged n (grown spare' t p) (cell t p) (none-joined n (changesOf n spare' t) (sym ef ∙ eqb-true fresh 0 b) p h) q k
-
 -- ---- the whole step
 
 length-by : (n : ℕ) (t : ℕ → ℕ → ℕ) → length (layerBy n t) ≡ size n
@@ -426,8 +384,8 @@ admit-made A all n width needs adds adders interferers labels t live live' r' to
     ready : Sets rowLength A
     ready = sets-of A n width needs adds adders interferers told wide
 
-pub step-made : (A : Actions) (all n width span at : ℕ) (still : Bool)
-    (needs adds dels adders interferers labels live t r mates besides spare w live' r' mates' besides' cut w₁ labels' t' p : List ℕ)
+pub step-made : (A : Actions) (all n width span at fresh looked : ℕ)
+    (needs adds dels adders interferers labels live t r mates besides spare w live' r' mates' besides' cut w₁ spare' labels' t' p : List ℕ)
     → Ready n width span at needs adds dels adders interferers labels live t r mates besides spare w → Told A n needs adds adders interferers → Deletes A dels → Tells A all labels t
     → live' ≡ putAt 0 (listOver (length needs) (λ i. labelFor all t (getD needs i 0))) live
     → ((i q : ℕ) → i < length needs → q < width → cell r' i q ≡ rowFor all labels t (getD needs i 0) q)
@@ -435,13 +393,17 @@ pub step-made : (A : Actions) (all n width span at : ℕ) (still : Bool)
     → Admitted A all labels t live' r' → Mated A all t mates' besides')
     → ((i q : ℕ) → i < length dels → q < rowLength → cell cut i q ≡ withProp dels r' i q)
     → w₁ ≡ putAt 0 (actionWords n (length needs) live' labels t mates' cut) w
-    → ((A : Actions) (all : ℕ) (needs adds interferers mates : List ℕ) → Told A n needs adds adders interferers → Width n width needs → Tells A all labels t
-    → Mated A all t mates besides' → Next A all t labels' t' still)
-    → p ≡ putAt 0 (layerBy n (cell t')) (take (length w₁ - at) (drop at w₁))
-    → Stepped A all t labels' t' live' cut mates' besides' w (putMid at (length w₁ - at) w₁ p) still
-step-made A all n width span at still needs adds dels adders interferers labels live t r mates besides spare w
-    live' r' mates' besides' cut w₁ labels' t' p ready told del is el cells mate cuts e₁ next ep =
-    record { next = nx; shown = record { label = adm .label; kept = kept; mated = mat }; is = unfold stepWords in back }
+    → ((p q : ℕ) → p < length adders → q < width → cell spare' p q ≡ joinOf rowLength (getD adders p 0) (λ v. cell besides' v q))
+    → (Turns (length adders) t → Finished (length adders) spare' t labels' t' (take (length w₁ - at) (drop at w₁)) p fresh)
+    → (Alike adders live' mates' cut besides' spare' → looked ≡ tableLooks (length adders) adders labels' live' mates' cut)
+    → Stepped A all t labels' t' w (putMid at (length w₁ - at) w₁ p) (eqb fresh 0) looked
+step-made A all n width span at fresh looked needs adds dels adders interferers labels live t r mates besides spare w
+    live' r' mates' besides' cut w₁ spare' labels' t' p ready told del is el cells mate cuts e₁ gathered finish sees =
+    record {
+      next = nx;
+      is = unfold stepWords in back;
+      looks = sees (alike-told sets told shown is long-adders joined) ∙ looks-told sets told shown nx long-adders;
+    }
   where
     sets : Sets rowLength A
     sets = sets-of A n width needs adds adders interferers told (ready .mating .wide)
@@ -457,8 +419,28 @@ step-made A all n width span at still needs adds dels adders interferers labels 
         cuts i q (omega (arith, subst (λ (x : ℕ). i < x) (told .effects) h, ready .mating .dels-long)) (omega (arith, sets .props))
         ∙ kept-told A all sets labels t is dels live' r' adm del i q h k
 
-    nx : Next A all t labels' t' still
-    nx = next A all needs adds interferers mates' told (ready .mating .wide) is mat
+    shown : Shown A all t live' cut mates' besides'
+    shown = record { label = adm .label; kept = kept; mated = mat }
+
+    long-adders : length adders ≡ n
+    long-adders = ready .mating .adders-long
+
+    -- a proposition of the actions is one of the list
+    listed : (p : ℕ) → p < A .props → p < length adders
+    listed p h = omega (arith, long-adders, told .props)
+
+    joined : (p q : ℕ) → p < n → q < n → cell spare' p q ≡ joinOf rowLength (getD adders p 0) (λ v. cell besides' v q)
+    joined p q h k = gathered p q (omega (arith, long-adders)) (omega (arith, ready .mating .wide .props))
+
+    done : Finished (length adders) spare' t labels' t' (take (length w₁ - at) (drop at w₁)) p fresh
+    done = unfold domain in finish (λ p q h k. is .consistent .turn p q (omega (arith, long-adders, told .props)) (omega (arith, long-adders, told .props)))
+
+    nx : Next A all t labels' t' (eqb fresh 0)
+    nx = next-told A all sets labels t is n needs adds adders interferers told spare' besides' t'
+        (λ p q h k. joined p q (omega (arith, told .props)) (omega (arith, told .props))) (mat .with-adders)
+        (λ p q h k. done .grows p q (listed p h) (listed q k)) labels' (eqb fresh 0)
+        (λ p h. done .diagonal p (listed p h))
+        (λ e p q h k. done .still (eqb-true fresh 0 e) p q (listed p h) (listed q k))
 
     words : w₁ ≡ putAt 0 (overOf A all t) w
     words =
@@ -470,17 +452,20 @@ step-made A all n width span at still needs adds dels adders interferers labels 
     long = unfold domain in
         length-actions' (domain A) all (layerBy (A .props) (cell t)) ∙ ap₂ (λ (x y : ℕ). size (x + y)) (told .effects) (told .props) ∙ sym (ready .place)
 
-    next-words : layerBy n (cell t') ≡ nextLayer (domain A) (overOf A all t)
-    next-words = unfold domain in ap (λ (x : ℕ). layerBy x (cell t')) (sym (told .props)) ∙ nx .layer
+    next-words : layerBy (length adders) (cell t') ≡ nextLayer (domain A) (overOf A all t)
+    next-words = unfold domain in ap (λ (x : ℕ). layerBy x (cell t')) (long-adders ∙ sym (told .props)) ∙ nx .layer
+
+    next-long : length (layerBy (length adders) (cell t')) ≡ size n
+    next-long = length-by (length adders) (cell t') ∙ ap size long-adders
 
     fits : at + length (nextLayer (domain A) (overOf A all t)) ≤ length w
-    fits = omega (arith, ready .room, length-by n (cell t'), ap length next-words)
+    fits = omega (arith, ready .room, next-long, ap length next-words)
 
     lw : length w₁ ≡ length w
     lw = ap length words ∙ put-length 0 (overOf A all t) w (omega (arith, long, fits))
 
     back : putMid at (length w₁ - at) w₁ p ≡ putAt 0 (overOf A all t ++ nextLayer (domain A) (overOf A all t)) w
     back =
-        put-within at 0 (layerBy n (cell t')) w₁ p (omega (arith, ready .room, length-by n (cell t'), lw)) ep
+        put-within at 0 (layerBy (length adders) (cell t')) w₁ p (omega (arith, ready .room, next-long, lw)) (done .is)
         ∙ ap₂ (λ (x : ℕ) (l : List ℕ). putAt x l w₁) (add-zero at) next-words
         ∙ put-behind at (overOf A all t) (nextLayer (domain A) (overOf A all t)) w w₁ _ long fits words refl

@@ -1,17 +1,18 @@
 -- A step of the graph, by the lists of the effects' sets and the tables of what is together.
-use Prim.Native.Nat.{ℕ, _+_, _≤_, _<_}
+use Prim.Native.Nat.{ℕ, _+_, _*_, _≤_, _<_}
 use mathlib.Core.Path.{_≡_}
 use mathlib.Core.Bool.{Bool, true}
 use mathlib.Core.List.{List, _++_}
 use lib.ListN.{length, getD}
 use Rattle.rules.specs.Word.{bit}
-use Rattle.rules.specs.Over.{joinOf}
 use Rattle.rules.specs.Domain.{Domain, Actions, condition, persistence, interfereOf, domain}
 use Rattle.rules.specs.Layer.{size, labelIn, freeIn}
 use Rattle.rules.specs.Shared.{startLabel, actionLayer, nextLayer}
 use Rattle.rules.specs.Together.{layerBy, Consistent, beside}
+use Rattle.rules.specs.Scan.{stepLooks}
 use Rattle.words.specs.Memory.{putAt}
 use Rattle.words.specs.Rows.{rowLength, tableLength, cell, InParts, Inside}
+use Rattle.scans.specs.Pairs.{mostLooks}
 use Rattle.together.specs.Cells.{Width, Span, rowFor}
 
 -- the action layer over the proposition layer l, and the next proposition layer behind it
@@ -54,13 +55,6 @@ pub record Mated (A : Actions) (all : ℕ) (t mates besides : List ℕ) : Type 0
   pub pair : (i j : ℕ) → i < A .effects → j < A .effects → cell mates i j ≡ freeIn (domain A .vertices) (overOf A all t) i j
   pub with-adders : (i p : ℕ) → i < A .effects → p < A .props → cell besides i p ≡ beside (domain A) (overOf A all t) i p
 
--- what a step leaves of the action layer over the layer of t: the labels of the effects, each effect with each persistence, two effects,
--- and each effect with the adders of each proposition
-pub record Shown (A : Actions) (all : ℕ) (t live r mates besides : List ℕ) : Type 0 where
-  pub label : (i : ℕ) → i < A .effects → getD live i 0 ≡ labelIn (overOf A all t) i
-  pub kept : Kept A all t r
-  pub mated : Mated A all t mates besides
-
 -- what the code asks that finds them
 pub record Mating (n width span : ℕ) (needs adds dels adders interferers live r mates besides spare : List ℕ) : Type 0 where
   pub wide : Width n width needs
@@ -77,26 +71,11 @@ pub record Mating (n width span : ℕ) (needs adds dels adders interferers live 
   pub besides-long : length besides ≡ tableLength
   pub spare-long : length spare ≡ tableLength
 
--- row p of `spare` is the rows of `besides` of the adders of p, joined
-abbrev pub Gathered : ℕ → List ℕ → List ℕ → List ℕ → Type 0
-Gathered n adders besides spare = (p q : ℕ) → p < n → q < n → cell spare p q ≡ joinOf rowLength (getD adders p 0) (λ v. cell besides v q)
-
 -- the table of the next proposition layer; where nothing changed, it is the layer before
 pub record Next (A : Actions) (all : ℕ) (t labels' t' : List ℕ) (still : Bool) : Type 0 where
   pub tells : Tells A all labels' t'
   pub layer : layerBy (domain A .props) (cell t') ≡ nextLayer (domain A) (overOf A all t)
   pub rests : still ≡ true → layerBy (domain A .props) (cell t') ≡ layerBy (domain A .props) (cell t)
-
--- what the code asks that makes it
-pub record Nexting (n width : ℕ) (adders besides t spare labels : List ℕ) : Type 0 where
-  pub parts : InParts width
-  pub props : n ≤ width
-  pub adders-long : length adders ≡ n
-  pub adders-inside : Inside rowLength adders
-  pub besides-long : length besides ≡ tableLength
-  pub t-long : length t ≡ tableLength
-  pub spare-long : length spare ≡ tableLength
-  pub labels-long : length labels ≡ rowLength
 
 -- what it asks of a whole step: `at` is where the proposition layer goes behind the action layer
 pub record Ready (n width span at : ℕ) (needs adds dels adders interferers labels live t r mates besides spare words : List ℕ) : Type 0 where
@@ -106,11 +85,15 @@ pub record Ready (n width span at : ℕ) (needs adds dels adders interferers lab
   pub place : at ≡ size (length needs + n)
   pub room : at + size n ≤ length words
 
+-- no step looks at more
+abbrev pub mostOfStep : ℕ
+mostOfStep = rowLength * (rowLength * mostLooks)
+
 -- what a step leaves
-pub record Stepped (A : Actions) (all : ℕ) (t labels' t' live' r' mates' besides' words words' : List ℕ) (still : Bool) : Type 0 where
+pub record Stepped (A : Actions) (all : ℕ) (t labels' t' words words' : List ℕ) (still : Bool) (looked : ℕ) : Type 0 where
   pub next : Next A all t labels' t' still
-  pub shown : Shown A all t live' r' mates' besides'
   pub is : words' ≡ putAt 0 (stepWords (domain A) all (layerBy (domain A .props) (cell t))) words
+  pub looks : looked ≡ stepLooks (domain A) all (layerBy (domain A .props) (cell t))
 
 -- what the code asks that makes the table of layer 0
 pub record Starting (n width : ℕ) (labels t spare : List ℕ) : Type 0 where

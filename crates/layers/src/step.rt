@@ -1,6 +1,6 @@
-// The step: labels and pairs of the effects, the action layer's words, what is together in the next proposition layer, and its words.
+// The step: labels and pairs of the effects, the action layer's words, and the next proposition layer with its table and its looks.
 use crate::write::put_actions;
-use crate::write::put_props;
+use scans::finish;
 use together::admit::admit;
 use together::cut::cut_columns;
 use together::cut::cut_rows;
@@ -8,20 +8,11 @@ use together::few::few;
 use together::pairs::gather_rows;
 use together::pairs::join_rows;
 use together::pairs::pairs;
-use words::tables::ROW;
-use words::tables::join_turned;
 use words::tables::turn;
-ghost use mathlib.Core.Path.{_≡_};
 ghost use mathlib.Core.List.{List};
 ghost use Prim.Native.Nat.{ℕ, _≤_};
-ghost use lib.ListN.{length};
-ghost use Rattle.rules.specs.Lists.{listOver};
 ghost use Rattle.rules.specs.Domain.{Actions};
-ghost use Rattle.words.specs.Memory.{putAt};
-ghost use Rattle.words.specs.Rows.{rowLength, tableLength, cell};
-ghost use Rattle.together.specs.Cells.{Width};
-ghost use Rattle.layers.specs.Write.{Diagonal};
-ghost use Rattle.layers.specs.Step.{Told, Tells, Admitted, Mated, Mating, Gathered, Next, Nexting, Ready, Stepped, Deletes};
+ghost use Rattle.layers.specs.Step.{Told, Tells, Admitted, Mated, Mating, Ready, Stepped, Deletes, mostOfStep};
 
 // Which effects are together, and what each is together with among the adders of each proposition: by rows, or one by one where there are few pairs.
 // Pairs go by the rows of r as they are; what an effect deletes is cut out behind them, since it does not part the effects of one action.
@@ -65,38 +56,14 @@ fn mate(
     turn(besides, &*spare, n, needs.len());
 }
 
-// The labels of a table.
-fn diagonal(t: &[u64], labels: &mut [u64], n: usize)
-    requires { ⌜ (length (now t) ≡ tableLength) × (n ≤ length (now labels)) × (n ≤ rowLength) ⌝ }
-    ensures { λ _. ⌜ now (labels .exit) ≡ putAt 0 (listOver n (λ p. cell (now (t .entry)) p p)) (now (labels .entry)) ⌝ }
-{
-    for p in 0..n {
-        labels[p] = t[p * ROW + p];
-    }
-}
-
-// The table of the next proposition layer and its labels: what is together in the layer before, by two effects, or by an effect and a persistence.
-// `spare` gets what the adders of each proposition are together with. Whether nothing changed.
-fn next(
-    n: usize,
-    adders: &[u64],
-    besides: &[u64],
-    t: &mut [u64],
-    spare: &mut [u64],
-    labels: &mut [u64],
-    width: usize,
-) -> bool
-    requires { ⌜ Nexting n width (now adders) (now besides) (now t) (now spare) (now labels) ⌝ }
-    ensures { λ still. ⌜ Diagonal n (now (labels .exit)) (now (t .exit)) × Gathered n (now (adders .entry)) (now (besides .entry)) (now (spare .exit)) × ((A : Actions) (all : ℕ) (needs adds interferers mates : List ℕ) → Told A n needs adds (now (adders .entry)) interferers → Width n width needs → Tells A all (now (labels .entry)) (now (t .entry)) → Mated A all (now (t .entry)) mates (now (besides .entry)) → Next A all (now (t .entry)) (now (labels .exit)) (now (t .exit)) still) ⌝ }
-{
-    gather_rows(&mut *spare, besides, adders, width);
-    let fresh = join_turned(&mut *t, &*spare, n);
-    diagonal(&*t, labels, n);
-    fresh == 0
+// Whether a step changed nothing, and how many vertices and pairs its scans looked at.
+pub struct Outcome {
+    pub still: bool,
+    pub looked: usize,
 }
 
 // Writes the action layer at the front and the next proposition layer behind it; the table and the labels become those of that layer.
-// The tables of the effects stay as they are for the caller to read, and `spare` as `next` leaves it. Whether nothing changed.
+// `spare` gets what the adders of each proposition are together with; that and what is together in the layer before make the next layer.
 pub fn step(
     words: &mut [u64],
     at: usize,
@@ -117,9 +84,9 @@ pub fn step(
     mates: &mut [u64],
     besides: &mut [u64],
     spare: &mut [u64],
-) -> bool
+) -> Outcome
     requires { ⌜ Ready n width span at (now needs) (now adds) (now dels) (now adders) (now interferers) (now labels) (now live) (now t) (now r) (now mates) (now besides) (now spare) (now words) ⌝ }
-    ensures { λ still. ⌜ Gathered n (now (adders .entry)) (now (besides .exit)) (now (spare .exit)) × ((A : Actions) → Told A n (now (needs .entry)) (now (adds .entry)) (now (adders .entry)) (now (interferers .entry)) → Deletes A (now (dels .entry)) → Tells A all (now (labels .entry)) (now (t .entry)) → Stepped A all (now (t .entry)) (now (labels .exit)) (now (t .exit)) (now (live .exit)) (now (r .exit)) (now (mates .exit)) (now (besides .exit)) (now (words .entry)) (now (words .exit)) still) ⌝ }
+    ensures { λ s. ⌜ (s .looked ≤ mostOfStep) × ((A : Actions) → Told A n (now (needs .entry)) (now (adds .entry)) (now (adders .entry)) (now (interferers .entry)) → Deletes A (now (dels .entry)) → Tells A all (now (labels .entry)) (now (t .entry)) → Stepped A all (now (t .entry)) (now (labels .exit)) (now (t .exit)) (now (words .entry)) (now (words .exit)) (s .still) (s .looked)) ⌝ }
 {
     admit(needs, all, &*labels, &*t, &mut *r, &mut *live, n, width);
     mate(
@@ -149,7 +116,20 @@ pub fn step(
         &*mates,
         &*r,
     );
-    let still = next(n, adders, &*besides, &mut *t, spare, &mut *labels, width);
-    put_props(&mut words[at..], n, &*labels, &*t);
-    still
+    gather_rows(&mut *spare, &*besides, adders, width);
+    let done = finish(
+        &mut words[at..],
+        adders,
+        &mut *labels,
+        &mut *t,
+        &*live,
+        &*mates,
+        &*r,
+        &*besides,
+        &*spare,
+    );
+    Outcome {
+        still: done.fresh == 0,
+        looked: done.looked,
+    }
 }

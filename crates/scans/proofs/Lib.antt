@@ -4,3 +4,4 @@ pub mod Looks
 pub mod RowLoops
 pub mod Wholes
 pub mod Totals
+pub mod Ends

@@ -17,7 +17,7 @@ use Rattle.rules.specs.Scan.{Scan, scanAt, look, scanOf, sumOver, allLooks}
 use Rattle.rules.proofs.Tests.{and-of, and-left, and-right, or-at}
 use Rattle.rules.proofs.Words.{bit-common, bit-union, bit-below, common-lt}
 use Rattle.rules.proofs.Scans.{Turn, turn-then, turn-where, sum-eq, count-eq, count-ones, Adders, adders-told, others-ones, all-ones}
-use Rattle.words.specs.Rows.{rowLength, cell}
+use Rattle.words.specs.Rows.{rowLength, cell, bothWays}
 use Rattle.scans.specs.Pairs.{wordAt, rowLooks, beforeLast, withLast, Alike, Parted}
 use Rattle.scans.proofs.Sets.{Has, join-at, join-of, union-left, union-right, less-more, less-apart}
 use Rattle.scans.proofs.Looks.{words-alike, word-plain, cell-column, looks-turn, turn-all, last-none, last-some}
@@ -166,8 +166,9 @@ module _ {adders live mates r besides spare : List ℕ} (A : Alike adders live m
       (λ x. let h : Has s rowLength (getD adders q 0) (λ w. cell r w p) = join-at (λ w. cell r w p) x in in-upper s (h .i) (h .below) (h .among) (h .holds))
       (or-at (sym (bit-union s _ _) ∙ t))
 
-  pub shown-all : (both : ℕ) {x y : ℕ} → getD adders p 0 < 2 ^ rowLength → getD adders q 0 < 2 ^ rowLength → x ≡ ones (getD adders p 0) + 1 → y ≡ ones (getD adders q 0) + 1
-      → (without both (union (cell spare p q) (cell spare q p)) ≡ 0 → ⊥) → x * y ≡ withLast (beforeLast live mates r (getD adders p 0) (getD adders q 0) p q both)
-  shown-all both hl hu ex ey some =
+  pub shown-all : (both shown : ℕ) {x y : ℕ} → getD adders p 0 < 2 ^ rowLength → getD adders q 0 < 2 ^ rowLength → x ≡ ones (getD adders p 0) + 1 → y ≡ ones (getD adders q 0) + 1
+      → shown ≡ bothWays spare p q → (without both shown ≡ 0 → ⊥) → x * y ≡ withLast (beforeLast live mates r (getD adders p 0) (getD adders q 0) p q both)
+  unfolding bothWays
+  shown-all both shown hl hu ex ey e some =
       ap₂ _*_ ex ey ∙ pair-all live mates r (getD adders p 0) (getD adders q 0) p q hl hu both (λ z.
-      some (less-more both (pairTakes live mates r (getD adders p 0) (getD adders q 0) p q) (union (cell spare p q) (cell spare q p)) takes-in z))
+      some (ap (without both) e ∙ less-more both (pairTakes live mates r (getD adders p 0) (getD adders q 0) p q) (union (cell spare p q) (cell spare q p)) takes-in z))

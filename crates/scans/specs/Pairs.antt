@@ -1,5 +1,5 @@
--- The scan of a pair of propositions by the tables of a step. That these are the looks of the rules is a law of `build`.
-use Prim.Native.Nat.{ℕ, suc, _+_, _-_, _*_, _≤_, _<_, _^_}
+-- The scan of a pair of propositions by the tables of a step. That these are the looks of the rules is a law of `layers`.
+use Prim.Native.Nat.{ℕ, suc, _+_, _-_, _*_, _≤_, _<_}
 use mathlib.Core.Path.{_≡_}
 use mathlib.Core.Bool.{So}
 use mathlib.Core.List.{List}
@@ -59,12 +59,11 @@ abbrev pub Parted : List ℕ → ℕ → ℕ → ℕ → Type 0
 Parted mates lower upper left = (v : ℕ) → So (bit v lower) → So (bit v upper) → common left (cell mates v v) ≡ 0
 
 -- what the code asks of the tables
-pub record Tables (live mates r besides spare : List ℕ) : Type 0 where
+pub record Tables (live mates r besides : List ℕ) : Type 0 where
   pub live-long : length live ≡ rowLength
   pub mates-long : length mates ≡ tableLength
   pub r-long : length r ≡ tableLength
   pub besides-long : length besides ≡ tableLength
-  pub spare-long : length spare ≡ tableLength
 
 -- of the adders, and of a list of how many vertices add each
 pub record Listed (adders sizes : List ℕ) : Type 0 where

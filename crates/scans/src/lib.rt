@@ -1,4 +1,4 @@
-// How many vertices and pairs the scans of a step look at, by the tables that the step leaves.
+// The end of a step: the next proposition layer by what its tables tell, and how many vertices and pairs its scans look at.
 use words::members::lowest;
 use words::members::others;
 use words::members::single;
@@ -11,8 +11,12 @@ ghost use lib.Count.{ones};
 ghost use lib.ListN.{length, getD};
 ghost use Rattle.rules.specs.Word as W;
 ghost use Rattle.rules.specs.Scan as S;
-ghost use Rattle.words.specs.Rows.{rowLength, tableLength, cell, Inside};
+ghost use Rattle.rules.specs.Lists.{listOver, runOver};
+ghost use Rattle.rules.specs.Layer.{size, rowOf};
+ghost use Rattle.words.specs.Memory.{putAt};
+ghost use Rattle.words.specs.Rows.{rowLength, tableLength, cell, bothWays, Inside};
 ghost use Rattle.scans.specs.Pairs as P;
+ghost use Rattle.scans.specs.Ends as E;
 
 // The start states that might still be mutex, and how many looks were made.
 struct Seen {
@@ -150,27 +154,27 @@ fn scan_pair(
     with_last(last.left, last.looked)
 }
 
-// The looks at p and q. Where something is left for the last look, all were made: as many as there are vertices that add p, times those that add q.
+// The looks at p and q, whose labels share `both`; `shown` is what takes away all that the scan takes away before its last look.
+// Where something is left for that look, all were made: as many as there are vertices that add p, times those that add q.
 fn pair_looks(
     p: usize,
     q: usize,
     both: u64,
+    shown: u64,
     adders: &[u64],
     sizes: &[usize],
     live: &[u64],
     mates: &[u64],
     r: &[u64],
     besides: &[u64],
-    spare: &[u64],
 ) -> usize
-    requires { ⌜ P.Tables (now live) (now mates) (now r) (now besides) (now spare) × P.Listed (now adders) (now sizes) × (p < length (now adders)) × (q < length (now adders)) ⌝ }
-    ensures { λ n. ⌜ (P.Alike (now (adders .entry)) (now (live .entry)) (now (mates .entry)) (now (r .entry)) (now (besides .entry)) (now (spare .entry))
+    requires { ⌜ P.Tables (now live) (now mates) (now r) (now besides) × P.Listed (now adders) (now sizes) × (p < length (now adders)) × (q < length (now adders)) ⌝ }
+    ensures { λ n. ⌜ ((spare : List ℕ) → P.Alike (now (adders .entry)) (now (live .entry)) (now (mates .entry)) (now (r .entry)) (now (besides .entry)) spare → shown ≡ bothWays spare p q
         → n ≡ P.withLast (P.beforeLast (now (live .entry)) (now (mates .entry)) (now (r .entry)) (getD (now (adders .entry)) p 0) (getD (now (adders .entry)) q 0) p q both)) × (n ≤ P.mostLooks) ⌝ }
 {
     if both == 0 {
         return 0;
     }
-    let shown = spare[p * ROW + q] | spare[q * ROW + p];
     if both ^ (both & shown) != 0 {
         return sizes[p] * sizes[q];
     }
@@ -188,60 +192,116 @@ fn pair_looks(
     )
 }
 
-// The looks at p with each later proposition.
-fn row_looks(
+// What changed in the table, and how many looks were made.
+pub struct Done {
+    pub fresh: u64,
+    pub looked: usize,
+}
+
+// The labels of the next layer, into the table, the row of labels and the memory; what changed.
+fn new_labels(words: &mut [u64], n: usize, labels: &mut [u64], t: &mut [u64], spare: &[u64]) -> u64
+    requires { ⌜ (n ≤ rowLength) × (n ≤ length (now words)) × (n ≤ length (now labels)) × (length (now t) ≡ tableLength) × (length (now spare) ≡ tableLength) ⌝ }
+    ensures { λ fresh. ⌜ E.Owned n (now (spare .entry)) (now (t .entry)) (now (t .exit)) fresh
+        × (now (labels .exit) ≡ putAt 0 (listOver n (E.own (now (spare .entry)) (now (t .entry)))) (now (labels .entry)))
+        × (now (words .exit) ≡ putAt 0 (listOver n (E.own (now (spare .entry)) (now (t .entry)))) (now (words .entry))) ⌝ }
+{
+    let mut fresh = 0;
+    for p in 0..n {
+        let old = t[p * ROW + p];
+        let word = spare[p * ROW + p] | old;
+        fresh = fresh | (word ^ old);
+        t[p * ROW + p] = word;
+        labels[p] = word;
+        words[p] = word;
+    }
+    fresh
+}
+
+// The pairs of p with each later proposition: into the table, either way round, and into the memory, that of p and q at `at + q`; and their looks.
+fn finish_row(
+    words: &mut [u64],
+    at: usize,
     p: usize,
     adders: &[u64],
     sizes: &[usize],
     labels: &[u64],
+    t: &mut [u64],
     live: &[u64],
     mates: &[u64],
     r: &[u64],
     besides: &[u64],
     spare: &[u64],
-) -> usize
-    requires { ⌜ P.Tables (now live) (now mates) (now r) (now besides) (now spare) × P.Listed (now adders) (now sizes) × (length (now labels) ≡ rowLength) × (p < length (now adders)) ⌝ }
-    ensures { λ n. ⌜ (P.Alike (now (adders .entry)) (now (live .entry)) (now (mates .entry)) (now (r .entry)) (now (besides .entry)) (now (spare .entry))
-        → n ≡ P.rowCount (length (now (adders .entry))) (now (adders .entry)) (now (labels .entry)) (now (live .entry)) (now (mates .entry)) (now (r .entry)) p) × (n ≤ rowLength * P.mostLooks) ⌝ }
+) -> Done
+    requires { ⌜ P.Tables (now live) (now mates) (now r) (now besides) × P.Listed (now adders) (now sizes) × E.Laid (now labels) (now t) (now spare) × (p < length (now adders)) × (at + length (now adders) ≤ length (now words)) ⌝ }
+    ensures { λ f. ⌜ E.Crossed p (length (now (adders .entry))) (now (spare .entry)) (now (t .entry)) (now (t .exit)) (f .fresh)
+        × (now (words .exit) ≡ putAt (at + p + 1) (rowOf (length (now (adders .entry))) (E.apartBy (now (labels .entry)) (now (spare .entry)) (now (t .entry))) p) (now (words .entry)))
+        × (P.Alike (now (adders .entry)) (now (live .entry)) (now (mates .entry)) (now (r .entry)) (now (besides .entry)) (now (spare .entry))
+        → f .looked ≡ P.rowCount (length (now (adders .entry))) (now (adders .entry)) (now (labels .entry)) (now (live .entry)) (now (mates .entry)) (now (r .entry)) p) × (f .looked ≤ rowLength * P.mostLooks) ⌝ }
 {
-    let mut sum = 0;
+    let mut fresh = 0;
+    let mut looked = 0;
     for q in p + 1..adders.len() {
-        sum += pair_looks(
+        let both = labels[p] & labels[q];
+        let shown = spare[p * ROW + q] | spare[q * ROW + p];
+        let old = t[p * ROW + q];
+        let word = shown | old;
+        fresh = fresh | (word ^ old);
+        t[p * ROW + q] = word;
+        t[q * ROW + p] = word;
+        words[at + q] = both ^ (both & word);
+        looked += pair_looks(p, q, both, shown, adders, sizes, live, mates, r, besides);
+    }
+    Done {
+        fresh: fresh,
+        looked: looked,
+    }
+}
+
+// All pairs, row by row, behind the labels.
+fn finish_rows(
+    words: &mut [u64],
+    adders: &[u64],
+    sizes: &[usize],
+    labels: &[u64],
+    t: &mut [u64],
+    live: &[u64],
+    mates: &[u64],
+    r: &[u64],
+    besides: &[u64],
+    spare: &[u64],
+) -> Done
+    requires { ⌜ P.Tables (now live) (now mates) (now r) (now besides) × P.Listed (now adders) (now sizes) × E.Laid (now labels) (now t) (now spare) × (size (length (now adders)) ≤ length (now words)) ⌝ }
+    ensures { λ f. ⌜ E.Joined (length (now (adders .entry))) (length (now (adders .entry))) (now (spare .entry)) (now (t .entry)) (now (t .exit)) (f .fresh)
+        × (now (words .exit) ≡ putAt (length (now (adders .entry))) (runOver (length (now (adders .entry))) (rowOf (length (now (adders .entry))) (E.apartBy (now (labels .entry)) (now (spare .entry)) (now (t .entry))))) (now (words .entry)))
+        × (P.Alike (now (adders .entry)) (now (live .entry)) (now (mates .entry)) (now (r .entry)) (now (besides .entry)) (now (spare .entry))
+        → f .looked ≡ P.tableLooks (length (now (adders .entry))) (now (adders .entry)) (now (labels .entry)) (now (live .entry)) (now (mates .entry)) (now (r .entry))) × (f .looked ≤ rowLength * (rowLength * P.mostLooks)) ⌝ }
+{
+    let mut fresh = 0;
+    let mut looked = 0;
+    let mut at = adders.len();
+    for p in 0..adders.len() {
+        let row = finish_row(
+            &mut *words,
+            at - p - 1,
             p,
-            q,
-            labels[p] & labels[q],
             adders,
             sizes,
+            labels,
+            &mut *t,
             live,
             mates,
             r,
             besides,
             spare,
         );
+        fresh = fresh | row.fresh;
+        looked += row.looked;
+        at += adders.len() - 1 - p;
     }
-    sum
-}
-
-// The looks at all pairs.
-fn all_looks(
-    adders: &[u64],
-    sizes: &[usize],
-    labels: &[u64],
-    live: &[u64],
-    mates: &[u64],
-    r: &[u64],
-    besides: &[u64],
-    spare: &[u64],
-) -> usize
-    requires { ⌜ P.Tables (now live) (now mates) (now r) (now besides) (now spare) × P.Listed (now adders) (now sizes) × (length (now labels) ≡ rowLength) ⌝ }
-    ensures { λ n. ⌜ (P.Alike (now (adders .entry)) (now (live .entry)) (now (mates .entry)) (now (r .entry)) (now (besides .entry)) (now (spare .entry))
-        → n ≡ P.tableLooks (length (now (adders .entry))) (now (adders .entry)) (now (labels .entry)) (now (live .entry)) (now (mates .entry)) (now (r .entry))) × (n ≤ rowLength * (rowLength * P.mostLooks)) ⌝ }
-{
-    let mut sum = 0;
-    for p in 0..adders.len() {
-        sum += row_looks(p, adders, sizes, labels, live, mates, r, besides, spare);
+    Done {
+        fresh: fresh,
+        looked: looked,
     }
-    sum
 }
 
 // How many vertices add each proposition: the effects, and its persistence.
@@ -254,21 +314,42 @@ fn count_adders(sizes: &mut [usize], adders: &[u64])
     }
 }
 
-// The looks of a step: `labels` are those of the next proposition layer, `adders` the effects that add each proposition, the tables what the step leaves.
-pub fn step_looks(
+// The end of a step, in one pass over the pairs: the table, its labels and the words become those of the next proposition layer, and the looks are counted.
+// `adders` has the effects that add each proposition, `spare` what these are together with; the other tables are what the step found.
+pub fn finish(
+    words: &mut [u64],
     adders: &[u64],
-    labels: &[u64],
+    labels: &mut [u64],
+    t: &mut [u64],
     live: &[u64],
     mates: &[u64],
     r: &[u64],
     besides: &[u64],
     spare: &[u64],
-) -> usize
-    requires { ⌜ P.Tables (now live) (now mates) (now r) (now besides) (now spare) × (length (now adders) ≤ rowLength) × Inside rowLength (now adders) × (length (now labels) ≡ rowLength) ⌝ }
-    ensures { λ n. ⌜ (P.Alike (now (adders .entry)) (now (live .entry)) (now (mates .entry)) (now (r .entry)) (now (besides .entry)) (now (spare .entry))
-        → n ≡ P.tableLooks (length (now (adders .entry))) (now (adders .entry)) (now (labels .entry)) (now (live .entry)) (now (mates .entry)) (now (r .entry))) × (n ≤ rowLength * (rowLength * P.mostLooks)) ⌝ }
+) -> Done
+    requires { ⌜ P.Tables (now live) (now mates) (now r) (now besides) × E.Laid (now labels) (now t) (now spare) × (length (now adders) ≤ rowLength) × Inside rowLength (now adders) × (size (length (now adders)) ≤ length (now words)) ⌝ }
+    ensures { λ f. ⌜ (E.Turns (length (now (adders .entry))) (now (t .entry))
+        → E.Finished (length (now (adders .entry))) (now (spare .entry)) (now (t .entry)) (now (labels .exit)) (now (t .exit)) (now (words .entry)) (now (words .exit)) (f .fresh))
+        × (P.Alike (now (adders .entry)) (now (live .entry)) (now (mates .entry)) (now (r .entry)) (now (besides .entry)) (now (spare .entry))
+        → f .looked ≡ P.tableLooks (length (now (adders .entry))) (now (adders .entry)) (now (labels .exit)) (now (live .entry)) (now (mates .entry)) (now (r .entry))) × (f .looked ≤ rowLength * (rowLength * P.mostLooks)) ⌝ }
 {
     let mut sizes = [0usize; ROW];
     count_adders(&mut sizes[..], adders);
-    all_looks(adders, &sizes[..], labels, live, mates, r, besides, spare)
+    let fresh = new_labels(&mut *words, adders.len(), &mut *labels, &mut *t, spare);
+    let rows = finish_rows(
+        words,
+        adders,
+        &sizes[..],
+        &*labels,
+        t,
+        live,
+        mates,
+        r,
+        besides,
+        spare,
+    );
+    Done {
+        fresh: fresh | rows.fresh,
+        looked: rows.looked,
+    }
 }

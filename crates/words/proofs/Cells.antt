@@ -30,6 +30,15 @@ pub cell-at : (table : List ℕ) (i col k : ℕ) {at : ℕ} → at ≡ i * rowLe
 unfolding cell
 cell-at table i col k {at} e = let p : at + k ≡ i * rowLength + (col + k) = omega arith in ap (λ (x : ℕ). getD table x 0) p
 
+-- a word that is written, and every other one
+pub cell-set : (w : List ℕ) (i j v : ℕ) {at : ℕ} → at ≡ i * rowLength + j → at < length w → cell (set w at v) i j ≡ v
+unfolding cell
+cell-set w i j v {at} e h = ap (λ (x : ℕ). getD (set w at v) x 0) (sym e) ∙ getD-set-same w at v 0 h
+
+pub cell-set-other : (w : List ℕ) (i j v : ℕ) {at : ℕ} → (i * rowLength + j ≡ at → ⊥) → cell (set w at v) i j ≡ cell w i j
+unfolding cell
+cell-set-other w i j v {at} d = getD-set-other w at (i * rowLength + j) v 0 d
+
 -- a word cut to all bits
 pub cut-none : (x : ℕ) → x < 2 ^ wordWidth → common x (first wordWidth) ≡ x
 cut-none x h = and-mask x wordWidth ∙ mod-eq-of-lt h

@@ -3,7 +3,7 @@
 use mathlib.Core.Path.{_≡_, refl, sym, ap, ap₂, _∙_}
 use mathlib.Core.List.{List, [], _∷_, _++_, append-assoc, append-nil}
 use Prim.Native.Nat.{ℕ, _+_, _-_, _≤_, _<_}
-use native.Mathlib.Nat.{add-assoc, add-zero}
+use native.Mathlib.Nat.{add-assoc, add-zero, zero-add}
 use native.Mathlib.Numerals.{add-one}
 use native.Mathlib.Omega.{arith}
 use borrow.Rule.Slice.PartMut.{putMid}
@@ -87,6 +87,19 @@ module _ (at : ℕ) (xs w : List ℕ) (room : at + length xs ≤ length w) where
   unfolding putAt
   put-over i v h =
       ap₂ (λ (l r : List ℕ). l ++ (xs ++ r)) (take-set-le at w (at + i) v (omega arith)) (drop-set-lt (at + length xs) w (at + i) v (omega arith))
+
+-- a list put at the front and another behind it
+pub put-behind : (at : ℕ) (xs ys w₀ w₁ w₂ : List ℕ) → length xs ≡ at → at + length ys ≤ length w₀ → w₁ ≡ putAt 0 xs w₀ → w₂ ≡ putAt at ys w₁
+    → w₂ ≡ putAt 0 (xs ++ ys) w₀
+put-behind at xs ys w₀ w₁ w₂ e room e₁ e₂ =
+    let here : at ≡ 0 + length xs = omega arith in
+    e₂ ∙ ap₂ (λ (x : ℕ) (l : List ℕ). putAt x ys l) here e₁ ∙ put-put 0 xs w₀ (omega arith) ys
+
+-- a word put at the front
+pub front-word : (m i : ℕ) (f : ℕ → ℕ) (w : List ℕ) → m ≤ length w → i < m → getD (putAt 0 (listOver m f) w) i 0 ≡ f i
+front-word m i f w room h =
+    ap (λ (x : ℕ). getD (putAt 0 (listOver m f) w) x 0) (sym (zero-add i))
+    ∙ put-word 0 (listOver m f) w (omega (arith, length-listOver m f)) i (omega (arith, length-listOver m f)) ∙ getD-listOver f h
 
 -- words put where they stand
 pub put-same : (at n : ℕ) (w : List ℕ) → at + n ≤ length w → putAt at (listOver n (λ k. getD w (at + k) 0)) w ≡ w

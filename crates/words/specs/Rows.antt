@@ -3,10 +3,8 @@ use Prim.Native.Nat.{ℕ, _+_, _*_, _<_, _^_}
 use mathlib.Core.Path.{_≡_}
 use mathlib.Core.Logic.{_⊎_}
 use mathlib.Core.List.{List}
-use lib.Bits.{bitXor}
 use lib.ListN.{length, getD}
 use Rattle.rules.specs.Word.{union}
-use Rattle.rules.specs.Over.{joinOver}
 use Rattle.rules.specs.Lists.{listOver}
 use Rattle.rules.specs.Shared.{startLabel}
 
@@ -32,10 +30,6 @@ bothWays table p q = union (cell table p q) (cell table q p)
 -- that joined to what another table has there
 unfoldable pub grown : List ℕ → List ℕ → ℕ → ℕ → ℕ
 grown table old p q = union (bothWays table p q) (cell old p q)
-
--- what that changes in n words of row p of the other
-unfoldable pub changesOf : ℕ → List ℕ → List ℕ → ℕ → ℕ
-changesOf n table old p = joinOver n (λ q. bitXor (grown table old p q) (cell old p q))
 
 -- a row of a table, to be written
 pub record Target (table : List ℕ) (row : ℕ) : Type 0 where

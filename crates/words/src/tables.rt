@@ -1,4 +1,4 @@
-// Tables of words: filled word by word, cleared, turned round and joined.
+// Tables of words: filled word by word, cleared and turned round.
 use crate::members::lowest;
 use crate::members::others;
 ghost use mathlib.Core.Path.{_≡_};
@@ -6,10 +6,9 @@ ghost use Prim.Native.Nat.{ℕ, _+_, _*_, _≤_, _<_, _^_};
 ghost use lib.ListN.{length, getD};
 ghost use Rattle.rules.specs.Test.{_and_, same, choose};
 ghost use Rattle.rules.specs.Word.{bit, common, without};
-ghost use Rattle.rules.specs.Over.{joinOver};
 ghost use Rattle.rules.specs.Lists.{listOver};
 ghost use Rattle.words.specs.Memory.{putAt};
-ghost use Rattle.words.specs.Rows.{rowLength, tableLength, cell, grown, changesOf};
+ghost use Rattle.words.specs.Rows.{rowLength, tableLength, cell};
 
 // From one row of a table to the next.
 pub const ROW: usize = 32;
@@ -78,31 +77,4 @@ pub fn turn(to: &mut [u64], from: &[u64], m: usize, n: usize)
     for j in 0..n {
         turn_column(&mut *to, from, m, j);
     }
-}
-
-// Joins row p of another table and its column p to row p of a table; what changed.
-fn join_turned_row(table: &mut [u64], one: &[u64], p: usize, n: usize) -> u64
-    requires { ⌜ (length (now table) ≡ tableLength) × (length (now one) ≡ tableLength) × (p < rowLength) × (n ≤ rowLength) ⌝ }
-    ensures { λ r. ⌜ (now (table .exit) ≡ putAt (p * rowLength) (listOver n (grown (now (one .entry)) (now (table .entry)) p)) (now (table .entry))) × (r ≡ changesOf n (now (one .entry)) (now (table .entry)) p) ⌝ }
-{
-    let mut fresh = 0;
-    for q in 0..n {
-        let old = table[p * ROW + q];
-        let word = one[p * ROW + q] | one[q * ROW + p] | old;
-        fresh = fresh | (word ^ old);
-        table[p * ROW + q] = word;
-    }
-    fresh
-}
-
-// Joins another table and the same turned round to a table, over n rows and columns; what changed.
-pub fn join_turned(table: &mut [u64], one: &[u64], n: usize) -> u64
-    requires { ⌜ (length (now table) ≡ tableLength) × (length (now one) ≡ tableLength) × (n ≤ rowLength) ⌝ }
-    ensures { λ r. ⌜ ((p q : ℕ) → p < n → q < n → cell (now (table .exit)) p q ≡ grown (now (one .entry)) (now (table .entry)) p q) × (r ≡ joinOver n (changesOf n (now (one .entry)) (now (table .entry)))) ⌝ }
-{
-    let mut fresh = 0;
-    for p in 0..n {
-        fresh = fresh | join_turned_row(&mut *table, one, p, n);
-    }
-    fresh
 }

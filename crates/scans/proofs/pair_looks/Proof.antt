@@ -3,44 +3,19 @@ use Prim.Native.Nat.{_*_, _≤_}
 use borrow.Author.Needs.{needs}
 use native.Mathlib.Omega.{arith}
 use lib.ListN.{getD}
-use Rattle.words.specs.Rows.{cell}
 use Rattle.scans.proofs.Wholes.{pair-none, shown-all, sizes-few}
 use Rattle.scans.proofs.pair_looks.Statement.{statement}
 use Rattle.scans.proofs.pair_looks.Tie as tie
 
 returns : tie.Need-returns
 returns c =
-    let start = c .before .before .before .before .before .before .before .before in
+    let start = c .before .before .before .before .before .before .before in
     let a = start .args in
     let inside = start .pre .1 .inside in (
-      λ A. pair-none (a .live .now) (a .mates .now) (a .r .now) (getD (a .adders .now) (a .p) 0) (getD (a .adders .now) (a .q) 0) (a .p) (a .q)
+      λ spare A e. pair-none (a .live .now) (a .mates .now) (a .r .now) (getD (a .adders .now) (a .p) 0) (getD (a .adders .now) (a .q) 0) (a .p) (a .q)
           (inside (a .p) (start .pre .2)) (inside (a .q) (start .pre .3)) (a .both) (c .if1 .taken),
       omega arith,
     )
-
-mul-shown : tie.Need-mul-shown
-mul-shown c = search needs
-
-add-shown : tie.Need-add-shown
-add-shown c = search needs
-
-mul-shown-2 : tie.Need-mul-shown-2
-mul-shown-2 c = search needs
-
-shared-slice-read-shown : tie.Need-shared-slice-read-shown
-shared-slice-read-shown c = search needs
-
-mul-shown-3 : tie.Need-mul-shown-3
-mul-shown-3 c = search needs
-
-add-shown-2 : tie.Need-add-shown-2
-add-shown-2 c = search needs
-
-mul-shown-4 : tie.Need-mul-shown-4
-mul-shown-4 c = search needs
-
-shared-slice-read-shown-2 : tie.Need-shared-slice-read-shown-2
-shared-slice-read-shown-2 c = search needs
 
 mul-result : tie.Need-mul-result
 mul-result c = search needs
@@ -64,16 +39,15 @@ few s =
     (l .sizes-are p (s .pre .2)) (l .sizes-are q (s .pre .3))
 
 mul-result-3 : tie.Need-mul-result-3
-mul-result-3 c = omega (arith, few (c .before .before .before .before .before .before .before .before .before .before .before .before .before))
+mul-result-3 c = omega (arith, few (c .before .before .before .before .before .before .before .before .before .before))
 
 returns-2 : tie.Need-returns-2
-unfolding cell
 returns-2 c =
-    let start = c .before .before .before .before .before .before .before .before .before .before .before .before .before in
+    let start = c .before .before .before .before .before .before .before .before .before .before in
     let a = start .args in
     let l = start .pre .1 in (
-      λ A. shown-all A (a .p) (a .q) (start .pre .2) (start .pre .3) (a .both) (l .inside (a .p) (start .pre .2)) (l .inside (a .q) (start .pre .3))
-          (l .sizes-are (a .p) (start .pre .2)) (l .sizes-are (a .q) (start .pre .3)) (c .before .before .if2 .taken),
+      λ spare A e. shown-all A (a .p) (a .q) (start .pre .2) (start .pre .3) (a .both) (a .shown) (l .inside (a .p) (start .pre .2)) (l .inside (a .q) (start .pre .3))
+          (l .sizes-are (a .p) (start .pre .2)) (l .sizes-are (a .q) (start .pre .3)) e (c .before .before .if2 .taken),
       omega (arith, few start),
     )
 
@@ -97,7 +71,7 @@ shared-slice-read-scan-pair-3 c = search needs
 
 scan-pair-requires : tie.Need-scan-pair-requires
 scan-pair-requires c κs =
-    let start = c .before .before .before .before .before .before .before .before .before .before .before .before .before .before in
+    let start = c .before .before .before .before .before .before .before .before .before .before .before in
     let t = start .pre .0 in
     let l = start .pre .1 in
     let p = start .args .p in
@@ -115,9 +89,9 @@ scan-pair-requires c κs =
 
 returns-3 : tie.Need-returns-3
 returns-3 c =
-    let start = c .before .before .before .before .before .before .before .before .before .before .before .before .before .before .before in
+    let start = c .before .before .before .before .before .before .before .before .before .before .before .before in
     let a = start .args in (
-      λ A. c .scan-pair .ensures .0
+      λ spare A e. c .scan-pair .ensures .0
           (record { is = λ v t. A .beside v (a .p) (a .q) (start .pre .2) (start .pre .3) t })
           (λ v t. A .own v (a .p) (start .pre .2) t),
       c .scan-pair .ensures .1,
@@ -128,14 +102,6 @@ pair-looks-spec =
     tie.close
     (tie.spec
     returns
-    mul-shown
-    add-shown
-    mul-shown-2
-    shared-slice-read-shown
-    mul-shown-3
-    add-shown-2
-    mul-shown-4
-    shared-slice-read-shown-2
     mul-result
     shared-slice-read-result
     mul-result-2

@@ -9,7 +9,8 @@ use lib.ListN.{length}
 use Rattle.rules.specs.Layer.{size, stride}
 use Rattle.together.proofs.Rows.{parts-le}
 use Rattle.graph.specs.Limits.{maxDepth}
-use Rattle.build.proofs.Builds.{mostOfStep, Stepping, stepping-none, room, ready, looks-fit, stepping-more, stepping-rest, stepping-all}
+use Rattle.layers.specs.Step.{mostOfStep}
+use Rattle.build.proofs.Builds.{Stepping, stepping-none, room, ready, looks-fit, stepping-more, stepping-rest, stepping-all}
 use Rattle.build.proofs.steps.steps_until.Statement.{statement}
 use Rattle.build.proofs.steps.steps_until.Tie as tie
 
@@ -40,23 +41,17 @@ to-loop c = c .before
 abbrev to-turn : tie.After-step Inv-loop μ-loop → tie.In-loop Inv-loop μ-loop
 to-turn c = c .before .before .before .before .before .before .before .before .before
 
-abbrev to-step : tie.After-step-looks Inv-loop μ-loop → tie.After-step Inv-loop μ-loop
-to-step c = c .before .before .before .before .before .before .before .before .before .before .before .before .before .before .before .before .before .before .before .before .before .before .before
-
-abbrev to-seen-of-Else1 : tie.Else1 Inv-loop μ-loop → tie.After-step-looks Inv-loop μ-loop
-to-seen-of-Else1 c = c .before
-
-abbrev to-seen-of-Then1 : tie.Then1 Inv-loop μ-loop → tie.After-step-looks Inv-loop μ-loop
-to-seen-of-Then1 c = c .before
+abbrev to-step : tie.After-struct-known Inv-loop μ-loop → tie.After-step Inv-loop μ-loop
+to-step c = c .before .before .before .before .before .before .before .before .before .before .before .before .before .before .before .before .before
 
 abbrev to-step-of-Else1 : tie.Else1 Inv-loop μ-loop → tie.After-step Inv-loop μ-loop
-to-step-of-Else1 c = to-step (to-seen-of-Else1 c)
+to-step-of-Else1 c = to-step (c .before)
 
 abbrev to-step-of-Then1 : tie.Then1 Inv-loop μ-loop → tie.After-step Inv-loop μ-loop
-to-step-of-Then1 c = to-step (to-seen-of-Then1 c)
+to-step-of-Then1 c = to-step (c .before)
 
-add-t29 : tie.Need-add-t29 Inv-loop μ-loop
-add-t29 c = let start = to-start c in
+add-t28 : tie.Need-add-t28 Inv-loop μ-loop
+add-t28 c = let start = to-start c in
     let w = start .pre .mating .wide in
     omega (arith, w .props, w .effects, parts-le (w .parts))
 
@@ -101,82 +96,63 @@ part-step-end c = search simple
 step-requires : tie.Need-step-requires Inv-loop μ-loop
 step-requires c κs = ready ((to-loop (c .before .before .before .before .before .before .before .before)) .loop .inv) ((c .before .before .before .before .before .before .before .before) .loop-test .taken) _ ((to-layer-size (to-stride (to-loop (c .before .before .before .before .before .before .before .before)))) .layer-size .ensures .0)
 
-step-looks-requires : tie.Need-step-looks-requires Inv-loop μ-loop
-step-looks-requires c κs =
-    let at-step = c .before .before .before .before .before .before .before .before .before .before .before .before .before .before .before .before .before .before .before .before .before .before in
-    let did = at-step .step in
-    let lent = (to-loop (to-turn at-step)) .loop .inv .lent in
-    let m = lent .mating in (
-      record {
-        live-long = did .kept .1 .1 .1 .1 .1 .1 .1 .1 .1 .1 .1 .1 .1 .0 ∙ m .live-long;
-        mates-long = did .kept .1 .1 .1 .1 .1 .1 .1 .1 .1 .1 .1 .1 .1 .1 .1 .1 .0 ∙ m .mates-long;
-        r-long = did .kept .1 .1 .1 .1 .1 .1 .1 .1 .1 .1 .1 .1 .1 .1 .1 .0 ∙ m .r-long;
-        besides-long = did .kept .1 .1 .1 .1 .1 .1 .1 .1 .1 .1 .1 .1 .1 .1 .1 .1 .1 .0 ∙ m .besides-long;
-        spare-long = did .kept .1 .1 .1 .1 .1 .1 .1 .1 .1 .1 .1 .1 .1 .1 .1 .1 .1 .1 .0 ∙ m .spare-long;
-      },
-      omega (arith, m .adders-long, m .wide .props, parts-le (m .wide .parts)),
-      m .adders-inside,
-      did .kept .1 .1 .1 .1 .1 .1 .1 .1 .1 .1 .1 .1 .0 ∙ lent .labels-long,
-    )
-
 -- the sums of the looks are small
-sums : (c : tie.After-step-looks Inv-loop μ-loop) → let s = to-loop (to-turn (to-step c)) in
-    (s .loop .looked + c .step-looks .result ≤ (s .loop .k + 1) * mostOfStep) × ((to-start (to-slice-known8 (to-layer-size (to-stride s))) .args .depth - (s .loop .k + 1)) * c .step-looks .result ≤ maxDepth * mostOfStep)
-sums c = let did = (to-step c) .step in
-    looks-fit ((to-loop (to-turn (to-step c))) .loop .inv) ((to-turn (to-step c)) .loop-test .taken) (did .last .1 .1 .1 .1 .1 .1 .1 .1 .1 .1 .1 .1 .0) (did .last .1 .1 .1 .1 .1 .1 .1 .1 .1 .1 .1 .1 .1 .0) (did .last .1 .1 .1 .1 .1 .1 .1 .1 .1 .1 .1 .1 .1 .1 .0) (did .last .1 .1 .1 .1 .1 .1 .1 .1 .1 .1 .1 .1 .1 .1 .1 .0) (did .last .1 .1 .1 .1 .1 .1 .1 .1 .1 .1 .1 .1 .1 .1 .1 .1 .0) (did .last .1 .1 .1 .1 .1 .1 .1 .1 .1 .1 .1 .1 .1 .1 .1 .1 .1 .0) (did .last .1 .1 .1 .1 .1 .1 .1 .1 .1 .1 .1 .1 .1 .1 .1 .1 .1 .1 .0) (did .last .0) _ _ (did .ensures .0) (did .ensures .1) (c .step-looks .ensures .0) (c .step-looks .ensures .1)
+sums : (c : tie.After-step Inv-loop μ-loop) → let s = to-loop (to-turn c) in
+    (s .loop .looked + c .step .result .looked ≤ (s .loop .k + 1) * mostOfStep) × ((to-start (to-slice-known8 (to-layer-size (to-stride s))) .args .depth - (s .loop .k + 1)) * c .step .result .looked ≤ maxDepth * mostOfStep)
+sums c = looks-fit ((to-loop (to-turn c)) .loop .inv) ((to-turn c) .loop-test .taken) _ (c .step .ensures .0)
 
 deep : (c : tie.After-step Inv-loop μ-loop) → let s = to-loop (to-turn c) in s .loop .k + 1 ≤ maxDepth
 deep c = let s = to-loop (to-turn c) in omega (arith, (to-turn c) .loop-test .taken, s .loop .inv .lent .deep)
 
 add-looked : tie.Need-add-looked Inv-loop μ-loop
-add-looked c = omega (arith, sums c, mul-le-mul-right mostOfStep (deep (to-step c)))
+add-looked c = omega (arith, sums (to-step c), mul-le-mul-right mostOfStep (deep (to-step c)))
 
-add-t62 : tie.Need-add-t62 Inv-loop μ-loop
-add-t62 c = omega (arith, deep (to-step-of-Then1 c))
+add-t49 : tie.Need-add-t49 Inv-loop μ-loop
+add-t49 c = omega (arith, deep (to-step-of-Then1 c))
 
-add-t63 : tie.Need-add-t63 Inv-loop μ-loop
-add-t63 c = omega (arith, deep (to-step-of-Then1 c))
+add-t50 : tie.Need-add-t50 Inv-loop μ-loop
+add-t50 c = omega (arith, deep (to-step-of-Then1 c))
 
-sub-t64 : tie.Need-sub-t64 Inv-loop μ-loop
-sub-t64 c = omega (arith, (to-turn (to-step-of-Then1 c)) .loop-test .taken)
+sub-t51 : tie.Need-sub-t51 Inv-loop μ-loop
+sub-t51 c = omega (arith, (to-turn (to-step-of-Then1 c)) .loop-test .taken)
 
-mul-t65 : tie.Need-mul-t65 Inv-loop μ-loop
-mul-t65 c = omega (arith, sums (to-seen-of-Then1 c))
+mul-t52 : tie.Need-mul-t52 Inv-loop μ-loop
+mul-t52 c = omega (arith, sums (to-step-of-Then1 (c .before)))
 
-add-t66 : tie.Need-add-t66 Inv-loop μ-loop
-add-t66 c = omega (arith, sums (to-seen-of-Then1 c), mul-le-mul-right mostOfStep (deep (to-step-of-Then1 c)))
+add-t53 : tie.Need-add-t53 Inv-loop μ-loop
+add-t53 c = omega (arith, sums (to-step-of-Then1 (c .before)), mul-le-mul-right mostOfStep (deep (to-step-of-Then1 (c .before))))
 
 same-length : tie.Need-same-length Inv-loop μ-loop
-same-length c = let at-loop = to-loop (to-turn (to-step-of-Then1 c)) in
-    same-len-mid (at-loop .loop .at) (length (at-loop .loop .words) - at-loop .loop .at) (at-loop .loop .words) ((to-step-of-Then1 c) .step .last .0) ((to-step-of-Then1 c) .step .kept .0) ∙ at-loop .loop .inv .long
+same-length c = let at-loop = to-loop (to-turn (to-step-of-Then1 (c .before))) in
+    same-len-mid (at-loop .loop .at) (length (at-loop .loop .words) - at-loop .loop .at) (at-loop .loop .words) ((to-step-of-Then1 (c .before)) .step .last .0) ((to-step-of-Then1 (c .before)) .step .kept .0) ∙ at-loop .loop .inv .long
 
 same-length-2 : tie.Need-same-length-2 Inv-loop μ-loop
-same-length-2 c = (to-step-of-Then1 c) .step .kept .1 .1 .1 .1 .1 .1 .1 .1 .1 .1 .1 .1 .0 ∙ (to-loop (to-turn (to-step-of-Then1 c))) .loop .inv .lent .labels-long ∙ sym ((to-start (to-slice-known8 (to-layer-size (to-stride (to-loop (to-turn (to-step-of-Then1 c))))))) .pre .labels-long)
+same-length-2 c = (to-step-of-Then1 (c .before)) .step .kept .1 .1 .1 .1 .1 .1 .1 .1 .1 .1 .1 .1 .0 ∙ (to-loop (to-turn (to-step-of-Then1 (c .before)))) .loop .inv .lent .labels-long ∙ sym ((to-start (to-slice-known8 (to-layer-size (to-stride (to-loop (to-turn (to-step-of-Then1 (c .before)))))))) .pre .labels-long)
 
 same-length-3 : tie.Need-same-length-3 Inv-loop μ-loop
-same-length-3 c = (to-step-of-Then1 c) .step .kept .1 .1 .1 .1 .1 .1 .1 .1 .1 .1 .1 .1 .1 .0 ∙ (to-loop (to-turn (to-step-of-Then1 c))) .loop .inv .lent .mating .live-long ∙ sym ((to-start (to-slice-known8 (to-layer-size (to-stride (to-loop (to-turn (to-step-of-Then1 c))))))) .pre .mating .live-long)
+same-length-3 c = (to-step-of-Then1 (c .before)) .step .kept .1 .1 .1 .1 .1 .1 .1 .1 .1 .1 .1 .1 .1 .0 ∙ (to-loop (to-turn (to-step-of-Then1 (c .before)))) .loop .inv .lent .mating .live-long ∙ sym ((to-start (to-slice-known8 (to-layer-size (to-stride (to-loop (to-turn (to-step-of-Then1 (c .before)))))))) .pre .mating .live-long)
 
 same-length-4 : tie.Need-same-length-4 Inv-loop μ-loop
-same-length-4 c = (to-step-of-Then1 c) .step .kept .1 .1 .1 .1 .1 .1 .1 .1 .1 .1 .1 .1 .1 .1 .0 ∙ (to-loop (to-turn (to-step-of-Then1 c))) .loop .inv .lent .t-long ∙ sym ((to-start (to-slice-known8 (to-layer-size (to-stride (to-loop (to-turn (to-step-of-Then1 c))))))) .pre .t-long)
+same-length-4 c = (to-step-of-Then1 (c .before)) .step .kept .1 .1 .1 .1 .1 .1 .1 .1 .1 .1 .1 .1 .1 .1 .0 ∙ (to-loop (to-turn (to-step-of-Then1 (c .before)))) .loop .inv .lent .t-long ∙ sym ((to-start (to-slice-known8 (to-layer-size (to-stride (to-loop (to-turn (to-step-of-Then1 (c .before)))))))) .pre .t-long)
 
 same-length-5 : tie.Need-same-length-5 Inv-loop μ-loop
-same-length-5 c = (to-step-of-Then1 c) .step .kept .1 .1 .1 .1 .1 .1 .1 .1 .1 .1 .1 .1 .1 .1 .1 .0 ∙ (to-loop (to-turn (to-step-of-Then1 c))) .loop .inv .lent .mating .r-long ∙ sym ((to-start (to-slice-known8 (to-layer-size (to-stride (to-loop (to-turn (to-step-of-Then1 c))))))) .pre .mating .r-long)
+same-length-5 c = (to-step-of-Then1 (c .before)) .step .kept .1 .1 .1 .1 .1 .1 .1 .1 .1 .1 .1 .1 .1 .1 .1 .0 ∙ (to-loop (to-turn (to-step-of-Then1 (c .before)))) .loop .inv .lent .mating .r-long ∙ sym ((to-start (to-slice-known8 (to-layer-size (to-stride (to-loop (to-turn (to-step-of-Then1 (c .before)))))))) .pre .mating .r-long)
 
 same-length-6 : tie.Need-same-length-6 Inv-loop μ-loop
-same-length-6 c = (to-step-of-Then1 c) .step .kept .1 .1 .1 .1 .1 .1 .1 .1 .1 .1 .1 .1 .1 .1 .1 .1 .0 ∙ (to-loop (to-turn (to-step-of-Then1 c))) .loop .inv .lent .mating .mates-long ∙ sym ((to-start (to-slice-known8 (to-layer-size (to-stride (to-loop (to-turn (to-step-of-Then1 c))))))) .pre .mating .mates-long)
+same-length-6 c = (to-step-of-Then1 (c .before)) .step .kept .1 .1 .1 .1 .1 .1 .1 .1 .1 .1 .1 .1 .1 .1 .1 .1 .0 ∙ (to-loop (to-turn (to-step-of-Then1 (c .before)))) .loop .inv .lent .mating .mates-long ∙ sym ((to-start (to-slice-known8 (to-layer-size (to-stride (to-loop (to-turn (to-step-of-Then1 (c .before)))))))) .pre .mating .mates-long)
 
 same-length-7 : tie.Need-same-length-7 Inv-loop μ-loop
-same-length-7 c = (to-step-of-Then1 c) .step .kept .1 .1 .1 .1 .1 .1 .1 .1 .1 .1 .1 .1 .1 .1 .1 .1 .1 .0 ∙ (to-loop (to-turn (to-step-of-Then1 c))) .loop .inv .lent .mating .besides-long ∙ sym ((to-start (to-slice-known8 (to-layer-size (to-stride (to-loop (to-turn (to-step-of-Then1 c))))))) .pre .mating .besides-long)
+same-length-7 c = (to-step-of-Then1 (c .before)) .step .kept .1 .1 .1 .1 .1 .1 .1 .1 .1 .1 .1 .1 .1 .1 .1 .1 .1 .0 ∙ (to-loop (to-turn (to-step-of-Then1 (c .before)))) .loop .inv .lent .mating .besides-long ∙ sym ((to-start (to-slice-known8 (to-layer-size (to-stride (to-loop (to-turn (to-step-of-Then1 (c .before)))))))) .pre .mating .besides-long)
 
 same-length-8 : tie.Need-same-length-8 Inv-loop μ-loop
-same-length-8 c = (to-step-of-Then1 c) .step .kept .1 .1 .1 .1 .1 .1 .1 .1 .1 .1 .1 .1 .1 .1 .1 .1 .1 .1 .0 ∙ (to-loop (to-turn (to-step-of-Then1 c))) .loop .inv .lent .mating .spare-long ∙ sym ((to-start (to-slice-known8 (to-layer-size (to-stride (to-loop (to-turn (to-step-of-Then1 c))))))) .pre .mating .spare-long)
+same-length-8 c = (to-step-of-Then1 (c .before)) .step .kept .1 .1 .1 .1 .1 .1 .1 .1 .1 .1 .1 .1 .1 .1 .1 .1 .1 .1 .0 ∙ (to-loop (to-turn (to-step-of-Then1 (c .before)))) .loop .inv .lent .mating .spare-long ∙ sym ((to-start (to-slice-known8 (to-layer-size (to-stride (to-loop (to-turn (to-step-of-Then1 (c .before)))))))) .pre .mating .spare-long)
 
 returns : tie.Need-returns Inv-loop μ-loop
-returns c = let did = (to-step-of-Then1 c) .step in (
-  omega (arith, (to-turn (to-step-of-Then1 c)) .loop-test .taken),
+returns c = let did = (to-step-of-Then1 (c .before)) .step in (
+  omega (arith, (to-turn (to-step-of-Then1 (c .before))) .loop-test .taken),
   λ h. omega arith,
-  stepping-rest ((to-loop (to-turn (to-step-of-Then1 c))) .loop .inv) ((to-turn (to-step-of-Then1 c)) .loop-test .taken) (did .last .1 .1 .1 .1 .1 .1 .1 .1 .1 .1 .1 .1 .0) (did .last .1 .1 .1 .1 .1 .1 .1 .1 .1 .1 .1 .1 .1 .0) (did .last .1 .1 .1 .1 .1 .1 .1 .1 .1 .1 .1 .1 .1 .1 .0) (did .last .1 .1 .1 .1 .1 .1 .1 .1 .1 .1 .1 .1 .1 .1 .1 .0) (did .last .1 .1 .1 .1 .1 .1 .1 .1 .1 .1 .1 .1 .1 .1 .1 .1 .0) (did .last .1 .1 .1 .1 .1 .1 .1 .1 .1 .1 .1 .1 .1 .1 .1 .1 .1 .0) (did .last .1 .1 .1 .1 .1 .1 .1 .1 .1 .1 .1 .1 .1 .1 .1 .1 .1 .1 .0)
-      (did .last .0) _ _ (did .ensures .0) (did .ensures .1) ((to-seen-of-Then1 c) .step-looks .ensures .0) ((to-seen-of-Then1 c) .step-looks .ensures .1) (c .if1 .taken),
+  stepping-rest ((to-loop (to-turn (to-step-of-Then1 (c .before)))) .loop .inv) ((to-turn (to-step-of-Then1 (c .before))) .loop-test .taken) (did .last .1 .1 .1 .1 .1 .1 .1 .1 .1 .1 .1 .1 .0) (did .last .1 .1 .1 .1 .1 .1 .1 .1 .1 .1 .1 .1 .1 .0) (did .last .1 .1 .1 .1 .1 .1 .1 .1 .1 .1 .1 .1 .1 .1 .0) (did .last .1 .1 .1 .1 .1 .1 .1 .1 .1 .1 .1 .1 .1 .1 .1 .0) (did .last .1 .1 .1 .1 .1 .1 .1 .1 .1 .1 .1 .1 .1 .1 .1 .1 .0) (did .last .1 .1 .1 .1 .1 .1 .1 .1 .1 .1 .1 .1 .1 .1 .1 .1 .1 .0) (did .last .1 .1 .1 .1 .1 .1 .1 .1 .1 .1 .1 .1 .1 .1 .1 .1 .1 .1 .0)
+      (did .last .0) _ _ (did .ensures .1) (did .ensures .0) (c .before .if1 .taken),
 )
 
 add-at : tie.Need-add-at Inv-loop μ-loop
@@ -192,7 +168,7 @@ loop-less c = omega (arith, (to-turn (to-step-of-Else1 c)) .loop-test .taken)
 loop-again : tie.Need-loop-again Inv-loop μ-loop
 loop-again c = let did = (to-step-of-Else1 c) .step in
     stepping-more ((to-loop (to-turn (to-step-of-Else1 c))) .loop .inv) ((to-turn (to-step-of-Else1 c)) .loop-test .taken) (did .last .1 .1 .1 .1 .1 .1 .1 .1 .1 .1 .1 .1 .0) (did .last .1 .1 .1 .1 .1 .1 .1 .1 .1 .1 .1 .1 .1 .0) (did .last .1 .1 .1 .1 .1 .1 .1 .1 .1 .1 .1 .1 .1 .1 .0) (did .last .1 .1 .1 .1 .1 .1 .1 .1 .1 .1 .1 .1 .1 .1 .1 .0) (did .last .1 .1 .1 .1 .1 .1 .1 .1 .1 .1 .1 .1 .1 .1 .1 .1 .0) (did .last .1 .1 .1 .1 .1 .1 .1 .1 .1 .1 .1 .1 .1 .1 .1 .1 .1 .0) (did .last .1 .1 .1 .1 .1 .1 .1 .1 .1 .1 .1 .1 .1 .1 .1 .1 .1 .1 .0)
-    (did .last .0) _ _ (did .ensures .0) (did .ensures .1) ((to-seen-of-Else1 c) .step-looks .ensures .0) ((to-seen-of-Else1 c) .step-looks .ensures .1) _ (omega (arith, far-is (to-stride (to-loop (to-turn (to-step-of-Else1 c)))))) (did .kept .0) (did .kept .1 .1 .1 .1 .1 .1 .1 .1 .1 .1 .1 .1 .0) (did .kept .1 .1 .1 .1 .1 .1 .1 .1 .1 .1 .1 .1 .1 .0) (did .kept .1 .1 .1 .1 .1 .1 .1 .1 .1 .1 .1 .1 .1 .1 .0) (did .kept .1 .1 .1 .1 .1 .1 .1 .1 .1 .1 .1 .1 .1 .1 .1 .0)
+    (did .last .0) _ _ (did .ensures .1) (did .ensures .0) _ (omega (arith, far-is (to-stride (to-loop (to-turn (to-step-of-Else1 c)))))) (did .kept .0) (did .kept .1 .1 .1 .1 .1 .1 .1 .1 .1 .1 .1 .1 .0) (did .kept .1 .1 .1 .1 .1 .1 .1 .1 .1 .1 .1 .1 .1 .0) (did .kept .1 .1 .1 .1 .1 .1 .1 .1 .1 .1 .1 .1 .1 .1 .0) (did .kept .1 .1 .1 .1 .1 .1 .1 .1 .1 .1 .1 .1 .1 .1 .1 .0)
     (did .kept .1 .1 .1 .1 .1 .1 .1 .1 .1 .1 .1 .1 .1 .1 .1 .1 .0) (did .kept .1 .1 .1 .1 .1 .1 .1 .1 .1 .1 .1 .1 .1 .1 .1 .1 .1 .0) (did .kept .1 .1 .1 .1 .1 .1 .1 .1 .1 .1 .1 .1 .1 .1 .1 .1 .1 .1 .0)
 
 same-length-9 : tie.Need-same-length-9 Inv-loop μ-loop
@@ -228,7 +204,7 @@ steps-until-spec =
     (tie.spec
     Inv-loop
     μ-loop
-    add-t29
+    add-t28
     layer-size-requires
     stride-requires
     layer-size-requires-2
@@ -238,13 +214,12 @@ steps-until-spec =
     part-step-start
     part-step-end
     step-requires
-    step-looks-requires
     add-looked
-    add-t62
-    add-t63
-    sub-t64
-    mul-t65
-    add-t66
+    add-t49
+    add-t50
+    sub-t51
+    mul-t52
+    add-t53
     same-length
     same-length-2
     same-length-3

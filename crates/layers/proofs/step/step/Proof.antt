@@ -1,5 +1,5 @@
 -- Each part does what the step's law asks of it.
-use mathlib.Core.Path.{_≡_, _∙_}
+use mathlib.Core.Path.{_≡_, ap, _∙_}
 use Prim.Native.Nat.{_+_, _-_, _≤_}
 use native.Mathlib.Omega.{arith}
 use borrow.Author.Needs.{needs}
@@ -26,14 +26,14 @@ to-mate c = c .before .before .before .before .before .before .before .before
 abbrev to-cut-rows : tie.After-put-actions → tie.After-cut-rows
 to-cut-rows c = c .before .before .before .before .before .before .before .before .before
 
-abbrev to-put-actions : tie.After-next → tie.After-put-actions
-to-put-actions c = c .before .before .before .before .before .before .before
+abbrev to-put-actions : tie.After-gather-rows → tie.After-put-actions
+to-put-actions c = c .before .before .before .before .before
 
-abbrev before-put-props : tie.After-slice-known18 → tie.After-next
-before-put-props c = c .before .before .before .before .before .before
+abbrev to-gather-rows : tie.After-finish → tie.After-gather-rows
+to-gather-rows c = c .before .before .before .before .before .before .before .before .before .before .before
 
-abbrev behind-put-props : tie.After-slice-known19 → tie.After-next
-behind-put-props c = c .before .before .before .before .before .before .before .before .before .before .before .before
+abbrev to-finish : tie.After-slice-known19 → tie.After-finish
+to-finish c = c .before .before .before .before .before .before
 
 abbrev entry : tie.After-put-actions → tie.Start
 entry c = to-start (to-admit (to-mate (to-cut-rows c)))
@@ -47,6 +47,15 @@ rows-long c = c .admit .kept .1 .1 .1 .1 .0 ∙ to-start c .pre .mating .r-long
 
 cut-long : (c : tie.After-cut-rows) → length (c .cut-rows .last .0) ≡ tableLength
 cut-long c = c .cut-rows .kept .0 ∙ rows-long (to-admit (to-mate c))
+
+mates-long : (c : tie.After-mate) → length (c .mate .last .1 .1 .1 .1 .1 .1 .1 .1 .1 .0) ≡ tableLength
+mates-long c = c .mate .kept .1 .1 .1 .1 .1 .1 .1 .1 .1 .0 ∙ to-start (to-admit c) .pre .mating .mates-long
+
+besides-long : (c : tie.After-mate) → length (c .mate .last .1 .1 .1 .1 .1 .1 .1 .1 .1 .1 .0) ≡ tableLength
+besides-long c = c .mate .kept .1 .1 .1 .1 .1 .1 .1 .1 .1 .1 .0 ∙ to-start (to-admit c) .pre .mating .besides-long
+
+spare-long : (c : tie.After-mate) → length (c .mate .last .1 .1 .1 .1 .1 .1 .1 .1 .1 .1 .1 .0) ≡ tableLength
+spare-long c = c .mate .kept .1 .1 .1 .1 .1 .1 .1 .1 .1 .1 .1 .0 ∙ to-start (to-admit c) .pre .mating .spare-long
 
 admit-requires : tie.Need-admit-requires
 admit-requires c κs = search needs
@@ -92,107 +101,104 @@ put-actions-requires c κs =
         labels-long = start .pre .labels-long;
       },
       start .pre .t-long,
-      at-mate .mate .kept .1 .1 .1 .1 .1 .1 .1 .1 .1 .0 ∙ m .mates-long,
+      mates-long at-mate,
       cut-long at-cut,
       omega (arith, start .pre .place, start .pre .room),
     )
 
-next-requires : tie.Need-next-requires
-next-requires c κs =
-    let at-cut = to-cut-rows (c .before .before .before .before .before .before) in
-    let at-mate = to-mate at-cut in
-    let start = to-start (to-admit at-mate) in
-    let m = start .pre .mating in
+gather-rows-requires : tie.Need-gather-rows-requires
+gather-rows-requires c κs =
+    let at-mate = to-mate (to-cut-rows (c .before .before .before .before)) in
+    let m = to-start (to-admit at-mate) .pre .mating in
     record {
+      to-long = spare-long at-mate;
+      table-long = besides-long at-mate;
+      few = omega (arith, m .adders-long, m .wide .props, parts-le (m .wide .parts));
+      rows = m .adders-inside;
       parts = m .wide .parts;
-      props = m .wide .props;
-      adders-long = m .adders-long;
-      adders-inside = m .adders-inside;
-      besides-long = at-mate .mate .kept .1 .1 .1 .1 .1 .1 .1 .1 .1 .1 .0 ∙ m .besides-long;
-      t-long = start .pre .t-long;
-      spare-long = at-mate .mate .kept .1 .1 .1 .1 .1 .1 .1 .1 .1 .1 .1 .0 ∙ m .spare-long;
-      labels-long = start .pre .labels-long;
     }
 
 -- the next proposition layer has room behind the action layer
 room : (c : tie.After-put-actions) → entry c .args .at + size (entry c .args .n) ≤ length (c .put-actions .last .0)
 room c = omega (arith, entry c .pre .room, c .put-actions .kept .0)
 
-mul-put-props : tie.Need-mul-put-props
-mul-put-props c = let start = entry (to-put-actions (before-put-props c)) in omega (arith, start .pre .room)
+mul-finish : tie.Need-mul-finish
+mul-finish c = let start = entry (to-put-actions (c .before .before)) in omega (arith, start .pre .room)
 
-sub-put-props : tie.Need-sub-put-props
-sub-put-props c = omega (arith, room (to-put-actions (before-put-props c)))
+sub-finish : tie.Need-sub-finish
+sub-finish c = omega (arith, room (to-put-actions (c .before .before)))
 
-part-put-props-start : tie.Need-part-put-props-start
-part-put-props-start c = omega (arith, room (to-put-actions (before-put-props c)))
+part-finish-start : tie.Need-part-finish-start
+part-finish-start c = omega (arith, room (to-put-actions (c .before .before)))
 
-part-put-props-end : tie.Need-part-put-props-end
-part-put-props-end c = search needs
+part-finish-end : tie.Need-part-finish-end
+part-finish-end c = search needs
 
-put-props-requires : tie.Need-put-props-requires
-put-props-requires c κs =
-    let at-next = c .before .before .before .before .before .before .before .before .before in
-    let at-put = to-put-actions at-next in
-    let start = entry at-put in
-    let m = start .pre .mating in
-    let few = parts-le (m .wide .parts) in (
-      record {
-        props = omega (arith, m .wide .props, few);
-        labels-long = at-next .next .kept .1 .1 .1 .1 .1 .0 ∙ start .pre .labels-long;
-        t-long = at-next .next .kept .1 .1 .1 .0 ∙ start .pre .t-long;
-      },
-      omega (arith, room at-put, tail-length (start .args .at) (at-put .put-actions .last .0) (omega (arith, room at-put))),
-      at-next .next .ensures .0,
-    )
-
-same-length : tie.Need-same-length
-same-length c =
-    let at-put = to-put-actions (behind-put-props c) in
-    let at = entry at-put .args .at in
-    let w = at-put .put-actions .last .0 in
-    let did = c .before .before .put-props in
-    same-len-mid at (length w - at) w (did .last .0) (did .kept .0) ∙ at-put .put-actions .kept .0
-
-same-length-2 : tie.Need-same-length-2
-same-length-2 c = behind-put-props c .next .kept .1 .1 .1 .1 .1 .0
-
-same-length-3 : tie.Need-same-length-3
-same-length-3 c = to-admit (to-mate (to-cut-rows (to-put-actions (behind-put-props c)))) .admit .kept .1 .1 .1 .1 .1 .0
-
-same-length-4 : tie.Need-same-length-4
-same-length-4 c = behind-put-props c .next .kept .1 .1 .1 .0
-
-same-length-5 : tie.Need-same-length-5
-same-length-5 c =
-    let at-cut = to-cut-rows (to-put-actions (behind-put-props c)) in
-    at-cut .cut-rows .kept .0 ∙ to-admit (to-mate at-cut) .admit .kept .1 .1 .1 .1 .0
-
-same-length-6 : tie.Need-same-length-6
-same-length-6 c = to-mate (to-cut-rows (to-put-actions (behind-put-props c))) .mate .kept .1 .1 .1 .1 .1 .1 .1 .1 .1 .0
-
-same-length-7 : tie.Need-same-length-7
-same-length-7 c = to-mate (to-cut-rows (to-put-actions (behind-put-props c))) .mate .kept .1 .1 .1 .1 .1 .1 .1 .1 .1 .1 .0
-
-same-length-8 : tie.Need-same-length-8
-same-length-8 c =
-    let at-next = behind-put-props c in
-    at-next .next .kept .1 .1 .1 .1 .0 ∙ to-mate (to-cut-rows (to-put-actions at-next)) .mate .kept .1 .1 .1 .1 .1 .1 .1 .1 .1 .1 .1 .0
-
-returns : tie.Need-returns
-returns c =
-    let at-next = behind-put-props c in
-    let at-put = to-put-actions at-next in
+finish-requires : tie.Need-finish-requires
+finish-requires c κs =
+    let at-rows = c .before .before .before .before .before .before .before .before .before .before in
+    let at-put = to-put-actions at-rows in
     let at-cut = to-cut-rows at-put in
     let at-mate = to-mate at-cut in
     let at-admit = to-admit at-mate in
     let start = to-start at-admit in
+    let m = start .pre .mating in (
+      record { live-long = live-long at-admit; mates-long = mates-long at-mate; r-long = cut-long at-cut; besides-long = besides-long at-mate },
+      record { labels-long = start .pre .labels-long; t-long = start .pre .t-long; spare-long = at-rows .gather-rows .kept .0 ∙ spare-long at-mate },
+      omega (arith, m .adders-long, m .wide .props, parts-le (m .wide .parts)),
+      m .adders-inside,
+      omega (arith, room at-put, tail-length (start .args .at) (at-put .put-actions .last .0) (omega (arith, room at-put)), ap size (m .adders-long)),
+    )
+
+same-length : tie.Need-same-length
+same-length c =
+    let did = to-finish (c .before) in
+    let at-put = to-put-actions (to-gather-rows did) in
+    let at = entry at-put .args .at in
+    let w = at-put .put-actions .last .0 in
+    same-len-mid at (length w - at) w (did .finish .last .0) (did .finish .kept .0) ∙ at-put .put-actions .kept .0
+
+same-length-2 : tie.Need-same-length-2
+same-length-2 c = to-finish (c .before) .finish .kept .1 .1 .0
+
+same-length-3 : tie.Need-same-length-3
+same-length-3 c = to-admit (to-mate (to-cut-rows (to-put-actions (to-gather-rows (to-finish (c .before)))))) .admit .kept .1 .1 .1 .1 .1 .0
+
+same-length-4 : tie.Need-same-length-4
+same-length-4 c = to-finish (c .before) .finish .kept .1 .1 .1 .0
+
+same-length-5 : tie.Need-same-length-5
+same-length-5 c =
+    let at-cut = to-cut-rows (to-put-actions (to-gather-rows (to-finish (c .before)))) in
+    at-cut .cut-rows .kept .0 ∙ to-admit (to-mate at-cut) .admit .kept .1 .1 .1 .1 .0
+
+same-length-6 : tie.Need-same-length-6
+same-length-6 c = to-mate (to-cut-rows (to-put-actions (to-gather-rows (to-finish (c .before))))) .mate .kept .1 .1 .1 .1 .1 .1 .1 .1 .1 .0
+
+same-length-7 : tie.Need-same-length-7
+same-length-7 c = to-mate (to-cut-rows (to-put-actions (to-gather-rows (to-finish (c .before))))) .mate .kept .1 .1 .1 .1 .1 .1 .1 .1 .1 .1 .0
+
+same-length-8 : tie.Need-same-length-8
+same-length-8 c =
+    let at-rows = to-gather-rows (to-finish (c .before)) in
+    at-rows .gather-rows .kept .0 ∙ to-mate (to-cut-rows (to-put-actions at-rows)) .mate .kept .1 .1 .1 .1 .1 .1 .1 .1 .1 .1 .1 .0
+
+returns : tie.Need-returns
+returns c =
+    let at-finish = to-finish (c .before) in
+    let at-rows = to-gather-rows at-finish in
+    let at-put = to-put-actions at-rows in
+    let at-cut = to-cut-rows at-put in
+    let at-mate = to-mate at-cut in
+    let at-admit = to-admit at-mate in
+    let start = to-start at-admit in
+    let did = at-finish .finish .ensures in
     let a = start .args in (
-      at-next .next .ensures .1,
-      λ A told del is. step-made A (a .all) (a .n) (a .width) (a .span) (a .at) _ (a .needs .now) (a .adds .now) (a .dels .now) (a .adders .now) (a .interferers .now) (a .labels .now)
-          (a .live .now) (a .t .now) (a .r .now) (a .mates .now) (a .besides .now) (a .spare .now) (a .words .now) _ _ _ _ _ _ _ _ _ (start .pre) told del is
+      did .2,
+      λ A told del is. step-made A (a .all) (a .n) (a .width) (a .span) (a .at) _ _ (a .needs .now) (a .adds .now) (a .dels .now) (a .adders .now) (a .interferers .now) (a .labels .now)
+          (a .live .now) (a .t .now) (a .r .now) (a .mates .now) (a .besides .now) (a .spare .now) (a .words .now) _ _ _ _ _ _ _ _ _ _ (start .pre) told del is
           (at-admit .admit .ensures .0) (at-admit .admit .ensures .1) (at-mate .mate .ensures) (at-cut .cut-rows .ensures) (at-put .put-actions .ensures)
-          (at-next .next .ensures .2) (c .before .before .put-props .ensures),
+          (at-rows .gather-rows .ensures) (did .0) (did .1),
     )
 
 pub step-spec : {M : Type 1} → statement M
@@ -203,12 +209,12 @@ step-spec =
     mate-requires
     cut-rows-requires
     put-actions-requires
-    next-requires
-    mul-put-props
-    sub-put-props
-    part-put-props-start
-    part-put-props-end
-    put-props-requires
+    gather-rows-requires
+    mul-finish
+    sub-finish
+    part-finish-start
+    part-finish-end
+    finish-requires
     same-length
     same-length-2
     same-length-3

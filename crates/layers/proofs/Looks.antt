@@ -1,6 +1,6 @@
 -- What the tables of a step tell of its scans: the looks counted by them are those of the rules.
 -- Assumes nothing.
-use Prim.Native.Nat.{ℕ, suc, _+_, _-_, _^_, _≤_, _<_}
+use Prim.Native.Nat.{ℕ, suc, _+_, _-_, _<_}
 use mathlib.Core.Path.{_≡_, refl, sym, ap, ap₂, subst, _∙_}
 use mathlib.Core.Bool.{Bool, So}
 use mathlib.Core.List.{List}
@@ -11,7 +11,7 @@ use Rattle.rules.specs.Word.{bit, common, union, without, single}
 use Rattle.rules.specs.Over.{joinOf}
 use Rattle.rules.specs.Domain.{Actions, persistence, addsOf, domain}
 use Rattle.rules.specs.Layer.{labelIn, freeIn}
-use Rattle.rules.specs.Shared.{startLabel, nextLabel, nextLayer}
+use Rattle.rules.specs.Shared.{nextLabel, nextLayer}
 use Rattle.rules.specs.Together.{layerBy}
 use Rattle.rules.specs.Scan.{Scan, scanAt, look, scanWhere, scanOf, scanned, sumOver, pairLooks, looksOf, stepLooks}
 use Rattle.rules.proofs.Words.{bit-below, common-lt, without-lt}
@@ -23,8 +23,15 @@ use Rattle.rules.proofs.Steps as S
 use Rattle.rules.proofs.Scans.{Adders, where-alike, sum-eq}
 use Rattle.rules.proofs.ScanSplits.{of-wider, looked-more, scanned-split}
 use Rattle.words.specs.Rows.{rowLength, cell}
-use Rattle.layers.specs.Step.{Told, Tells, Next, Shown, overOf}
 use Rattle.scans.specs.Pairs.{rowLooks, beforeLast, withLast, pairCount, rowCount, tableLooks, Alike}
+use Rattle.layers.specs.Step.{Told, Tells, Kept, Mated, Next, overOf}
+
+-- what a step finds of the action layer over the layer of t: the labels of the effects, each effect with each persistence, two effects,
+-- and each effect with the adders of each proposition
+pub record Shown (A : Actions) (all : ℕ) (t live r mates besides : List ℕ) : Type 0 where
+  pub label : (i : ℕ) → i < A .effects → getD live i 0 ≡ labelIn (overOf A all t) i
+  pub kept : Kept A all t r
+  pub mated : Mated A all t mates besides
 
 module _ {A : Actions} {all n : ℕ} {needs adds adders interferers t live r mates besides : List ℕ} (sets : Sets rowLength A)
     (told : Told A n needs adds adders interferers) (shown : Shown A all t live r mates besides) where
