@@ -154,7 +154,7 @@ fn scan_pair(
     with_last(last.left, last.looked)
 }
 
-// The looks at p and q, whose labels share `both`; `shown` is what takes away all that the scan takes away before its last look.
+// The looks at p and q, whose labels share `both`; `shown` has all that the scan takes away before its last look.
 // Where something is left for that look, all were made: as many as there are vertices that add p, times those that add q.
 fn pair_looks(
     p: usize,
