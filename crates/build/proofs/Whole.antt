@@ -19,7 +19,7 @@ use Rattle.rules.proofs.Layouts.{count-stride}
 use Rattle.words.specs.Memory.{putAt}
 use Rattle.words.specs.Rows.{rowLength, cell}
 use Rattle.layers.specs.Step.{Told, Deletes, Tells}
-use Rattle.graph.specs.Format.{actionsOf, domainOf, startOf, shapeIn}
+use Rattle.graph.specs.Format.{actionsOf, startOf, shapeIn}
 use Rattle.graph.specs.File.{Taken}
 use Rattle.graph.specs.Build.{graphOf, graphLooks}
 use Rattle.graph.specs.declared.format.Counts.{Counts}

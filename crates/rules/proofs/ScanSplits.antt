@@ -1,6 +1,6 @@
 -- The scan of a pair over effects and persistences apart: of the persistences only those of p and of q are looked at, each behind the effects.
 -- Assumes nothing.
-use mathlib.Core.Path.{_≡_, refl, sym, ap, ap₂, subst, _∙_}
+use mathlib.Core.Path.{_≡_, refl, sym, ap, ap₂, _∙_}
 use mathlib.Core.Bool.{Bool, true, false, So}
 use mathlib.Core.Logic.{⊎-elim}
 use mathlib.Core.List.{List}
@@ -9,14 +9,14 @@ use native.Mathlib.Nat.{add-zero, add-suc, eq-or-lt-of-le}
 use native.Mathlib.Omega.{arith}
 use Rattle.rules.specs.Test.{_and_, fails, same, choose}
 use Rattle.rules.specs.Word.{bit, common, without, single}
-use Rattle.rules.specs.Domain.{Actions, persistence, addsOf, domain}
+use Rattle.rules.specs.Domain.{Actions, persistence, addsOf}
 use Rattle.rules.specs.Layer.{labelIn, freeIn}
 use Rattle.rules.specs.Scan.{Scan, scanAt, look, scanOver, scanWhere, scanOf, lookOnes, lookWith, lookTwos, scanned}
-use Rattle.rules.proofs.Tests.{choose-held, holds-or, fails-at, same-of, same-at, same-not}
+use Rattle.rules.proofs.Tests.{choose-held, same-of, same-at, same-not}
 use Rattle.rules.proofs.Words.{bit-common, bit-single, bit-above}
 use Rattle.rules.proofs.Domains.{adds-effect, adds-persistence}
 use Rattle.rules.proofs.Togethers.{free-turn}
-use Rattle.rules.proofs.Scans.{Adders, where-alike, where-nobody, out-bit, out-other, other-passes, look-ended, look-some}
+use Rattle.rules.proofs.Scans.{Adders, where-alike, where-nobody, out-bit, out-other}
 
 -- ---- the turns of a + b indices: those of the first a, then those of the others
 

@@ -149,7 +149,7 @@ count-eq zero c d h = refl
 count-eq (suc n) c d h = ap₂ (λ (x : ℕ) (b : Bool). x + choose b 1 0) (count-eq n c d (λ i l. h i (omega arith))) (h n (omega arith))
 
 -- an index other than v passes as c says, v does not
-pub other-passes : (v w : ℕ) (b : Bool) → (v ≡ w → ⊥) → (fails (same v w) and b) ≡ b
+other-passes : (v w : ℕ) (b : Bool) → (v ≡ w → ⊥) → (fails (same v w) and b) ≡ b
 unfolding _and_ fails
 other-passes v w b h = rw (same-not h, fails, _and_)
 

@@ -2,22 +2,22 @@
 -- Assumes nothing.
 use mathlib.Core.Path.{_≡_, sym, ap, ap₂, _∙_}
 use mathlib.Core.List.{List}
-use Prim.Native.Nat.{ℕ, suc, _+_, _≤_, _<_}
+use Prim.Native.Nat.{ℕ, _+_, _≤_, _<_}
 use native.Mathlib.Numerals.{add-one}
 use native.Mathlib.Omega.{arith}
 use lib.ListN.{length}
 use Rattle.rules.specs.Word.{common, first}
-use Rattle.rules.specs.Domain.{shapeOf, domain}
+use Rattle.rules.specs.Domain.{shapeOf}
 use Rattle.rules.specs.Layer.{labelIn, mutexIn, propsIn, actionsIn}
-use Rattle.rules.specs.Shared.{nextLabel, nextMutex, nextLayer, propFrom, propLayer, vertexLayer}
+use Rattle.rules.specs.Shared.{nextLayer, propFrom, propLayer, vertexLayer}
 use Rattle.rules.specs.Scan.{scanned, sumOver, looksOf, stepLooks, looksFrom}
 use Rattle.rules.proofs.Layers.{label-back, mutex-back, paired-rising}
 use Rattle.rules.proofs.Layouts.{props-in, actions-in}
 use Rattle.rules.proofs.Rests.{rests}
 use Rattle.rules.proofs.Scans.{scanned-left, sum-eq}
 use Rattle.graph.specs.Verdict.{Verdict, accepted, refused}
-use Rattle.graph.specs.Format.{actionsOf, startOf, domainOf}
-use Rattle.graph.specs.Build.{graphLooks, counted, buildRule, Counted, countRule}
+use Rattle.graph.specs.Format.{startOf, domainOf}
+use Rattle.graph.specs.Build.{graphLooks, counted, buildRule, countRule}
 use Rattle.graph.specs.declared.format.Counts.{Counts}
 use Rattle.graph.proofs.Ladder.{taken-linked}
 use Rattle.theorems.specs.Setting.{Exactly, Found}
