@@ -356,6 +356,9 @@ static void runs(void) {
     CHECK(refused(run(DOOR, list, 3, 3), MOGZIFT_BAD_SEQUENCE, 2));
     CHECK(refused(run(BOTH, list, 1, 3), MOGZIFT_NO_PRECONDITION, 0));
     CHECK(refused(run(DOOR, longest, 2, 3), MOGZIFT_NO_PRECONDITION, 1));
+    file[28] = LIT; /* a light that deletes what it adds */
+    CHECK(run(DOOR, list, 2, 3) == 0 && sets_out[0] == (DESK | LIT) && sets_out[1] == DESK);
+    file[28] = 0;
 }
 
 static void plans(void) {
@@ -473,6 +476,12 @@ static void runs_2(void) {
     file[9] = 0;
     file[SECOND_EFFECT + 1] = DOOR; /* the light fires where one was at the door before the walk */
     CHECK(run(BOTH, list, 1, 3) == 0 && sets_out[0] == (DESK | LIT) && sets_out[1] == DESK);
+    file[FIRST_EFFECT + 9] = DOOR | LIT; /* and the walk deletes what it adds */
+    CHECK(run(BOTH, list, 1, 3) == 0 && sets_out[0] == (DESK | LIT) && sets_out[1] == DESK);
+    file[FIRST_EFFECT + 9] = DOOR;
+    file[SECOND_EFFECT + 9] = LIT; /* and it does so itself */
+    CHECK(run(BOTH, list, 1, 3) == 0 && sets_out[0] == (DESK | LIT) && sets_out[1] == DESK);
+    file[SECOND_EFFECT + 9] = 0;
     file[SECOND_EFFECT + 1] = DESK;
 }
 
@@ -530,8 +539,8 @@ static void interference(void) {
     CHECK(build(2, 49) == 0 && told(MOGZIFT_ANSWERED, 29, 2) && wrote(29, 0, 0, 0)); /* a look each step: at their pair */
     CHECK(words_out[3] == 1 && words_out[4] == 1 && words_out[7] == 0);    /* the effects at action layer 0 */
     CHECK(words_out[13] == 1 && words_out[14] == 1 && words_out[15] == 0); /* the propositions at layer 1 */
-    /* in a step of both, what is deleted is deleted */
-    CHECK(run(1, list, 1, 1) == 0 && told(MOGZIFT_ANSWERED, 1, 0) && wrote(0, 1, 0, 0) && sets_out[0] == 2);
+    /* in a step of both, the add of the one wins over the delete of the other */
+    CHECK(run(1, list, 1, 1) == 0 && told(MOGZIFT_ANSWERED, 1, 0) && wrote(0, 1, 0, 0) && sets_out[0] == 3);
 
     begin_2(2, 2, 1);
     add_effect(0, 0, 1, 0);

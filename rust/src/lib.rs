@@ -316,7 +316,8 @@ pub fn extract(file: &[u8], depth: usize, set: u64, words: &[u64], out: &mut [u6
 
 /// Runs a sequence of actions from each state of a set; answers the number of sets written, which is N.
 ///
-/// In version 2 a step fires, in each state, the action's effects whose antecedents held there before it.
+/// In version 2 a step fires, in each state, the action's effects whose antecedents held there before it. What a step
+/// deletes is removed before what it adds is joined, in both versions, so that an add wins over a delete.
 pub fn run(file: &[u8], set: u64, list: &[u8], out: &mut [u32]) -> Result<usize, Refusal> {
     told(|answer| unsafe {
         proved::mogzift_run(

@@ -150,7 +150,7 @@ impl Problem {
 /// each in the order of their numbers. Its file is of version 2.
 ///
 /// A step of an action needs the action's precondition in every state. Then each of its effects fires in the states in
-/// which the effect's antecedent held before the step: all that they add is joined, then all that they delete is removed.
+/// which the effect's antecedent held before the step: all that they delete is removed, then all that they add is joined.
 /// An action may have several effects, or none, and then its step changes nothing.
 ///
 /// What no problem file may have is turned away as with a [`Problem`]. An effect is of an action that is there by then.
@@ -653,6 +653,37 @@ mod tests {
         for (file, depth, looked) in scanned().unwrap() {
             let Err(Refusal::Memory(words)) = reference::build(&file, depth, &mut []) else { panic!("no words") };
             assert_eq!(reference::build(&file, depth, &mut vec![0; words]), Ok(Built { words, looked }));
+        }
+    }
+
+    /// A file, a list, and the states that it leads to from each state.
+    type Led = (Vec<u8>, &'static [u8], Vec<u32>);
+
+    /// Steps that add and delete one proposition: by one action, by one effect, by two effects in either order.
+    fn added_and_deleted() -> Result<Vec<Led>, Refusal> {
+        let both = Problem::new(2)?.action(0, 1, 1)?.action(1, 0, 1)?.state(0)?.state(3)?;
+        let effects = || ConditionalProblem::new(3)?.action(0)?.state(0)?.state(2)?.state(3);
+        Ok(vec![
+            (both.bytes()?, &[0], vec![1, 3]),
+            (both.bytes()?, &[0, 1], vec![0, 2]),
+            (ConditionalProblem::from(both.clone()).bytes()?, &[0], vec![1, 3]),
+            (ConditionalProblem::from(both).bytes()?, &[0, 1], vec![0, 2]),
+            // the second fires in states 1 and 2 only
+            (effects()?.effect(0, 0, 1, 0)?.effect(0, 2, 4, 1)?.bytes()?, &[0], vec![1, 7, 7]),
+            (effects()?.effect(0, 2, 4, 1)?.effect(0, 0, 1, 0)?.bytes()?, &[0], vec![1, 7, 7]),
+            (effects()?.effect(0, 0, 1, 2)?.effect(0, 0, 2, 1)?.bytes()?, &[0], vec![3, 3, 3]),
+            // only the first fires in state 2, only the second in state 1
+            (effects()?.effect(0, 1, 4, 0)?.effect(0, 2, 0, 4)?.bytes()?, &[0, 0], vec![0, 2, 7]),
+        ])
+    }
+
+    #[test]
+    fn an_add_wins_over_a_delete() {
+        for (file, list, ends) in added_and_deleted().unwrap() {
+            let (set, mut proved, mut plain) = ((1 << ends.len()) - 1, vec![9; ends.len()], vec![9; ends.len()]);
+            assert_eq!(crate::run(&file, set, list, &mut proved), Ok(ends.len()));
+            assert_eq!(reference::run(&file, set, list, &mut plain), Ok(ends.len()));
+            assert_eq!((proved, plain), (ends.clone(), ends));
         }
     }
 

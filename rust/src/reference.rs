@@ -1411,7 +1411,7 @@ fn run_actions(actions: &[u8], starts: &[u8], set: u64, list: &[u8], out: &mut [
     Ok(())
 }
 
-/// What a step keeps, adds for good, and does not ask for. A set stands in both halves of a word, so that two sets take
+/// What a step keeps, adds to that, and does not ask for. A set stands in both halves of a word, so that two sets take
 /// a step at once.
 #[derive(Clone, Copy, Default)]
 #[repr(align(32))]
@@ -1425,7 +1425,7 @@ impl Step {
     fn of(bytes: &[u8]) -> Step {
         let [pre, add, del] = three_sets(bytes);
         let twice = |set: u32| set as u64 | (set as u64) << 32;
-        Step { kept: twice(!del), added: twice(add & !del), unasked: !pre }
+        Step { kept: twice(!del), added: twice(add), unasked: !pre }
     }
 }
 
@@ -1530,13 +1530,13 @@ impl Steps {
             fired[e] = having(self.when[e], labels);
         }
         for e in Members::<32>(effects) {
-            for p in Members::<32>(self.add[e]) {
-                labels[p] |= fired[e];
+            for p in Members::<32>(self.del[e]) {
+                labels[p] &= !fired[e];
             }
         }
         for e in Members::<32>(effects) {
-            for p in Members::<32>(self.del[e]) {
-                labels[p] &= !fired[e];
+            for p in Members::<32>(self.add[e]) {
+                labels[p] |= fired[e];
             }
         }
         true

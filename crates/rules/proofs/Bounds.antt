@@ -8,7 +8,7 @@ use Prim.Native.Nat.{ℕ, suc, _≤_, _<_}
 use native.Mathlib.Omega.{arith}
 use lib.ListN.{length, getD}
 use Rattle.rules.specs.Test.{_and_, _or_, _implies_, fails}
-use Rattle.rules.specs.Word.{bit, union, within}
+use Rattle.rules.specs.Word.{bit, without, within}
 use Rattle.rules.specs.Over.{allBelow, anyBelow, firstBelow}
 use Rattle.rules.specs.Domain.{Actions, condition, persistence, needsOf, addsOf, clobbers, domain}
 use Rattle.rules.specs.Own.{admits, ownStart, ownFrom, ownProps}
@@ -35,18 +35,17 @@ module _ (A : Actions) (a x p : ℕ) (f : ℕ → ℕ) where
   pub fired-of : {e : ℕ} → e < A .effects → So (fires A a x e) → So (bit p (f e)) → So (bit p (fired A a x f))
   fired-of l t u = fired-bits ∙ any-of _ l (and-of t u)
 
-pub bit-after : (A : Actions) (a x p : ℕ) → bit p (after A a x) ≡ ((bit p x or bit p (fired A a x (A .add))) and fails (bit p (fired A a x (A .del))))
+pub bit-after : (A : Actions) (a x p : ℕ) → bit p (after A a x) ≡ ((bit p x and fails (bit p (fired A a x (A .del)))) or bit p (fired A a x (A .add)))
 unfolding after
 bit-after A a x p =
-    bit-without p (union x (fired A a x (A .add))) (fired A a x (A .del))
-    ∙ ap (λ (b : Bool). b and fails (bit p (fired A a x (A .del)))) (bit-union p x (fired A a x (A .add)))
+    bit-union p (without x (fired A a x (A .del))) (fired A a x (A .add))
+    ∙ ap (λ (b : Bool). b or bit p (fired A a x (A .add))) (bit-without p x (fired A a x (A .del)))
 
 -- what is there after the step, though no fired effect adds it, was there before and none deletes it
 pub after-kept : (A : Actions) (a x p : ℕ) → So (bit p (after A a x)) → So (fails (bit p (fired A a x (A .add))))
     → So (bit p x) × So (fails (bit p (fired A a x (A .del))))
 after-kept A a x p t f =
-    let u = sym (bit-after A a x p) ∙ t in
-    (⊎-elim (λ h. h) (λ h. absurd (fails-at f h)) (or-at (and-left _ u)), and-right _ u)
+    ⊎-elim (λ u. (and-left _ u, and-right _ u)) (λ u. absurd (fails-at f u)) (or-at (sym (bit-after A a x p) ∙ t))
 
 -- no fired effect adds p and v is its persistence, or v is a fired effect that adds p
 abbrev Picked : Actions → ℕ → ℕ → ℕ → ℕ → Type 0
@@ -107,7 +106,7 @@ module _ (A : Actions) (a x : ℕ) (can : So (within (A .pre a) x)) where
 
 module _ (A : Actions) (n set : ℕ) where
   -- one state after one step
-  stepped-inside : (a : ℕ) (xs : List ℕ) {s : ℕ} → s < n → So (bit s set) → getD (stepped A n set a xs) s 0 ≡ after A a (getD xs s 0)
+  pub stepped-inside : (a : ℕ) (xs : List ℕ) {s : ℕ} → s < n → So (bit s set) → getD (stepped A n set a xs) s 0 ≡ after A a (getD xs s 0)
   unfolding stepped
   stepped-inside a xs h t = getD-listOver _ h ∙ choose-held _ t
 

@@ -53,7 +53,7 @@ module _ {A : Actions} (plain : Plain A) where
       let u = and-right _ s in
       ne (sym (plain .owner v (below-at (and-left _ s))) ∙ same-at (and-right _ u) ∙ plain .owner w (below-at (and-left _ u))))))
 
-  -- ---- a run: 'its adds are joined and after that its deletes removed'
+  -- ---- a run: the action's deletes are removed and after that its adds joined
 
   plain-fired : {a : ℕ} (x : ℕ) (f : ℕ → ℕ) → a < A .count → fired A a x f ≡ f a
   unfolding fires
@@ -63,9 +63,9 @@ module _ {A : Actions} (plain : Plain A) where
       subst (λ (i : ℕ). So (bit p (f i))) (sym (plain .owner e l) ∙ same-at (and-left _ k)) b)
       (fired-of A a x p f (effect-of h) (and-of (same-of (plain .owner a (effect-of h))) (none-within x (plain .when a (effect-of h))))))
 
-  pub plain-after : {a : ℕ} (x : ℕ) → a < A .count → after A a x ≡ without (union x (A .add a)) (A .del a)
+  pub plain-after : {a : ℕ} (x : ℕ) → a < A .count → after A a x ≡ union (without x (A .del a)) (A .add a)
   unfolding after
-  plain-after x h = ap₂ (λ (u w : ℕ). without (union x u) w) (plain-fired x (A .add) h) (plain-fired x (A .del) h)
+  plain-after x h i = union (without x (plain-fired x (A .del) h i)) (plain-fired x (A .add) h i)
 
   -- ---- a plan: 'all actions of a word whose preconditions held before it join their adds'
 

@@ -28,7 +28,7 @@ module _ {A A' : Actions} (same : SameActions A A') where
 
   pub after-same : (a x : ℕ) → after A a x ≡ after A' a x
   unfolding after
-  after-same a x = ap₂ (λ (u w : ℕ). without (union x u) w) (fired-same a x (same .add)) (fired-same a x (same .del))
+  after-same a x i = union (without x (fired-same a x (same .del) i)) (fired-same a x (same .add) i)
 
   -- ---- the vertices
 

@@ -21,9 +21,9 @@ fires A a x e = same (A .owner e) a and within (A .when e) x
 unfoldable pub fired : Actions → ℕ → ℕ → (ℕ → ℕ) → ℕ
 fired A a x f = joinOver (A .effects) (λ e. keep (fires A a x e) (f e))
 
--- 'all adds joined, then all deletes removed'
+-- request Five: 'Deletes are removed first, adds joined after', 'over all fired effects'
 unfoldable pub after : Actions → ℕ → ℕ → ℕ
-after A a x = without (union x (fired A a x (A .add))) (fired A a x (A .del))
+after A a x = union (without x (fired A a x (A .del))) (fired A a x (A .add))
 
 -- 'states outside S keep their start'
 unfoldable pub stepped : Actions → ℕ → ℕ → ℕ → List ℕ → List ℕ

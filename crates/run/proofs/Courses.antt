@@ -22,7 +22,7 @@ use Rattle.rules.proofs.Plains.{plain-after}
 use Rattle.rules.proofs.Layers.{length-listOver, getD-listOver, listOver-eq}
 use Rattle.words.specs.Width.{propWidth, stateWidth, wordWidth}
 use Rattle.words.proofs.MemberLoops.{lowest-in, lowest-lt}
-use Rattle.run.specs.Course.{Some, came, spareOf, stayOf, plusOf, further, setsOf}
+use Rattle.run.specs.Course.{Some, came, spareOf, stayOf, further, setsOf}
 use Rattle.run.specs.declared.step.Course.{Course}
 
 -- ---- one state
@@ -63,27 +63,19 @@ came-further stay plus w x = ext-all (λ p.
     ∙ ap₂ (λ (y z : Bool). (bit p x and y) or z) (bit-common p (w .kept) stay)
     (bit-union p (common (w .now) stay) plus ∙ ap (λ (b : Bool). b or bit p plus) (bit-common p (w .now) stay))))
 
--- 'its adds are joined and after that its deletes removed'
-deletes-last : (x l a d : Bool) → (So x → So l) → ((x and (l and fails d)) or (a and fails d)) ≡ ((x or a) and fails d)
-unfolding _and_ _or_ fails
-deletes-last false l a d h = refl
-deletes-last true true a false h = refl
-deletes-last true true true true h = refl
-deletes-last true true false true h = refl
-deletes-last true false a d h = absurd (fails-at refl (h refl))
+-- what stays of a set of propositions once the deletes are removed
+stay-is : (A : Actions) (a x : ℕ) → x < 2 ^ propWidth → common x (stayOf A a) ≡ without x (A .del a)
+unfolding stayOf
+stay-is A a x h = ext-all (λ p.
+    bit-common p x (without (first propWidth) (A .del a))
+    ∙ ap (λ (b : Bool). bit p x and b) (bit-without p (first propWidth) (A .del a)) ∙ test-eq
+    (λ t. and-of (and-left _ t) (and-right _ (and-right _ t)))
+    (λ t. and-of (and-left _ t) (and-of (bit-first p propWidth ∙ below-of (bit-below h (and-left _ t))) (and-right _ t)))
+    ∙ sym (bit-without p x (A .del a)))
 
-moved-is : {A : Actions} → Plain A → (a x : ℕ) → a < A .count → x < 2 ^ propWidth → moved (stayOf A a) (plusOf A a) x ≡ after A a x
-unfolding stayOf plusOf moved
-moved-is {A} plain a x l h = ext-all (λ p.
-    bit-union p (common x (without (first propWidth) (A .del a))) (without (A .add a) (A .del a))
-    ∙ ap₂ _or_
-    (bit-common p x (without (first propWidth) (A .del a))
-    ∙ ap (λ (b : Bool). bit p x and b) (bit-without p (first propWidth) (A .del a)
-    ∙ ap (λ (b : Bool). b and fails (bit p (A .del a))) (bit-first p propWidth)))
-    (bit-without p (A .add a) (A .del a))
-    ∙ deletes-last (bit p x) (below p propWidth) (bit p (A .add a)) (bit p (A .del a)) (λ t. below-of (bit-below h t))
-    ∙ sym (bit-without p (union x (A .add a)) (A .del a) ∙ ap (λ (b : Bool). b and fails (bit p (A .del a))) (bit-union p x (A .add a))))
-    ∙ sym (plain-after plain x l)
+moved-is : {A : Actions} → Plain A → (a x : ℕ) → a < A .count → x < 2 ^ propWidth → moved (stayOf A a) (A .add a) x ≡ after A a x
+unfolding moved
+moved-is {A} plain a x l h = ap (λ (u : ℕ). union u (A .add a)) (stay-is A a x h) ∙ sym (plain-after plain x l)
 
 -- what all have, and how it stays small
 pub now-further : (stay plus : ℕ) (w : Course) (sure : ℕ) → came w sure ≡ w .now → came (further stay plus w) sure ≡ further stay plus w .now
@@ -142,15 +134,15 @@ module _ (n : ℕ) (start : ℕ → ℕ) (set : ℕ) (narrow : (s : ℕ) → s <
       go s l false t = refl
 
   pub sets-further : {A : Actions} → Plain A → (a : ℕ) (w : Course) → a < A .count → w .now < 2 ^ propWidth
-      → stepped A n set a (setsOf n start set w) ≡ setsOf n start set (further (stayOf A a) (plusOf A a) w)
+      → stepped A n set a (setsOf n start set w) ≡ setsOf n start set (further (stayOf A a) (A .add a) w)
   unfolding stepped setsOf choose
   sets-further {A} plain a w k h = listOver-eq (λ s l.
       ap (λ (x : ℕ). choose (bit s set) (after A a x) x) (getD-listOver _ l) ∙ go (start s) (narrow s l) (bit s set))
     where
       go : (x : ℕ) → x < 2 ^ propWidth → (b : Bool)
           → choose b (after A a (choose b (came w x) x)) (choose b (came w x) x)
-          ≡ choose b (came (further (stayOf A a) (plusOf A a) w) x) x
-      go x l true = sym (moved-is plain a (came w x) k (came-lt w x h l)) ∙ came-further (stayOf A a) (plusOf A a) w x
+          ≡ choose b (came (further (stayOf A a) (A .add a) w) x) x
+      go x l true = sym (moved-is plain a (came w x) k (came-lt w x h l)) ∙ came-further (stayOf A a) (A .add a) w x
       go x l false = refl
 
   -- the set of a state of the set

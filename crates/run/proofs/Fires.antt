@@ -32,7 +32,7 @@ use Rattle.graph.specs.Format.{actionsOf, startOf}
 use Rattle.graph.specs.declared.format.Counts.{Counts}
 use Rattle.run.specs.Course.{Known, Checked}
 use Rattle.run.specs.Run.{ranVerdict, endRule}
-use Rattle.run.specs.Fire.{labelsOf, setIn, effectsOf, having, firedIn, touched, joinedBy, removedBy, applied}
+use Rattle.run.specs.Fire.{labelsOf, setIn, effectsOf, having, firedIn, touched, removedBy, joinedBy, applied}
 use Rattle.run.specs.Fire.{steppedIn, readyIn, labelsAt, readyAt, firstLack}
 use Rattle.run.proofs.Runs.{Narrow, narrow-of, run-turn, run-end}
 
@@ -110,28 +110,29 @@ module _ (n : ℕ) (xs : List ℕ) where
           (bit-keep s (bit p (sets e)) _ ∙ and-of v (ap (bit s) (word l) ∙ having-bit (A .when e) h (when e l) ∙ and-of (and-left _ t) (and-right _ u)))))
 
       -- a state outside of the set is in none of these words
-      moved : (i x y z : Bool) → ((x or (i and y)) and fails (i and z)) ≡ choose i ((x or y) and fails z) x
+      moved : (i x y z : Bool) → ((x and fails (i and y)) or (i and z)) ≡ choose i ((x and fails y) or z) x
       unfolding _and_ _or_ fails choose
       moved true x y z = refl
       moved false true y z = refl
       moved false false y z = refl
 
-      -- the words once the adds are joined
-      joined-is : {p : ℕ} → p < rowLength
-          → getD (joinedBy A (effectsOf A a) fires-in (labelsOf n xs)) p 0 ≡ union (getD (labelsOf n xs) p 0) (concerned (A .add) p)
-      unfolding joinedBy
-      joined-is l = getD-listOver _ l
+      -- the words once the deletes are removed
+      removed-is : {p : ℕ} → p < rowLength
+          → getD (removedBy A (effectsOf A a) fires-in (labelsOf n xs)) p 0 ≡ without (getD (labelsOf n xs) p 0) (concerned (A .del) p)
+      unfolding removedBy
+      removed-is l = getD-listOver _ l
 
       stepped-bit : {s p : ℕ} → s < n → p < rowLength
-          → bit s (without (getD (joinedBy A (effectsOf A a) fires-in (labelsOf n xs)) p 0) (concerned (A .del) p)) ≡ bit p (getD (stepped A n set a xs) s 0)
+          → bit s (union (getD (removedBy A (effectsOf A a) fires-in (labelsOf n xs)) p 0) (concerned (A .add) p)) ≡ bit p (getD (stepped A n set a xs) s 0)
       unfolding stepped
       stepped-bit {s} {p} h l =
           let x = getD xs s 0 in
-          bit-without s (getD (joinedBy A (effectsOf A a) fires-in (labelsOf n xs)) p 0) (concerned (A .del) p)
-          ∙ ap₂ (λ (y z : Bool). y and fails z)
-          (ap (bit s) (joined-is l) ∙ bit-union s (getD (labelsOf n xs) p 0) (concerned (A .add) p) ∙ ap₂ _or_ (label-bit h l) (concerned-bit (A .add) p h))
-          (concerned-bit (A .del) p h)
-          ∙ moved (bit s set) (bit p x) (bit p (fired A a x (A .add))) (bit p (fired A a x (A .del)))
+          bit-union s (getD (removedBy A (effectsOf A a) fires-in (labelsOf n xs)) p 0) (concerned (A .add) p)
+          ∙ ap₂ _or_
+          (ap (bit s) (removed-is l) ∙ bit-without s (getD (labelsOf n xs) p 0) (concerned (A .del) p)
+          ∙ ap₂ (λ (y z : Bool). y and fails z) (label-bit h l) (concerned-bit (A .del) p h))
+          (concerned-bit (A .add) p h)
+          ∙ moved (bit s set) (bit p x) (bit p (fired A a x (A .del))) (bit p (fired A a x (A .add)))
           ∙ ap (λ (b : Bool). choose (bit s set) b (bit p x)) (sym (bit-after A a x p))
           ∙ choose-bit (bit s set) (after A a x) x
           ∙ ap (bit p) (sym (getD-listOver _ h))
@@ -142,13 +143,12 @@ module _ (n : ℕ) (xs : List ℕ) where
               (λ t. choose-failed _ _ t ∙ ap (bit p) (sym (choose-failed _ _ t))) (holds-or i)
 
       stepped-lt : {p : ℕ} → p < rowLength
-          → without (getD (joinedBy A (effectsOf A a) fires-in (labelsOf n xs)) p 0) (concerned (A .del) p) < 2 ^ n
-      stepped-lt {p} l =
-          without-lt n _ (subst (λ (w : ℕ). w < 2 ^ n) (sym (joined-is l)) (union-lt n (label-lt l) (concerned-lt (A .add) p)))
+          → union (getD (removedBy A (effectsOf A a) fires-in (labelsOf n xs)) p 0) (concerned (A .add) p) < 2 ^ n
+      stepped-lt {p} l = union-lt n (subst (λ (w : ℕ). w < 2 ^ n) (sym (removed-is l)) (without-lt n _ (label-lt l))) (concerned-lt (A .add) p)
 
-      -- 'all adds joined, then all deletes removed'
+      -- 'Deletes are removed first, adds joined after', in each state
       pub stepped-is : steppedIn A set a (labelsOf n xs) ≡ labelsOf n (stepped A n set a xs)
-      unfolding steppedIn applied removedBy labelsOf
+      unfolding steppedIn applied joinedBy labelsOf
       stepped-is = listOver-eq (λ p l. ext (stepped-lt l) (startLabel-lt n _ p) (λ s h.
           stepped-bit h l ∙ sym (bit-startLabel (λ i. getD (stepped A n set a xs) i 0) p h)))
 
@@ -162,7 +162,7 @@ pub stepped-narrow : (A : Actions) (n set a : ℕ) (xs : List ℕ) → ((e : ℕ
     → ((s : ℕ) → s < n → getD xs s 0 < 2 ^ propWidth) → (s : ℕ) → s < n → getD (stepped A n set a xs) s 0 < 2 ^ propWidth
 unfolding stepped after fired
 stepped-narrow A n set a xs add small s h = subst (λ (x : ℕ). x < 2 ^ propWidth) (sym (getD-listOver _ h))
-    (choose-lt (λ t. without-lt propWidth _ (union-lt propWidth (small s h) (joinOver-lt propWidth _ (λ e l. keep-lt propWidth (λ u. add e l))))) (small s h))
+    (choose-lt (λ t. union-lt propWidth (without-lt propWidth _ (small s h)) (joinOver-lt propWidth _ (λ e l. keep-lt propWidth (λ u. add e l)))) (small s h))
 
 -- ---- the steps of a list
 

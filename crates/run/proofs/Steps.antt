@@ -20,14 +20,14 @@ use Rattle.rules.specs.Domain.{Actions, Plain}
 use Rattle.rules.specs.Run.{ready, stepped, ended, lacks, runFrom, runOf}
 use Rattle.rules.proofs.Tests.{test-eq, same-of, same-at, and-left, and-right, or-right, or-at, choose-held, choose-failed, is-fails}
 use Rattle.rules.proofs.Overs.{all-at, bit-meetOver, meetOver-lt}
-use Rattle.rules.proofs.Words.{bit-common, bit-union, ext-all, without-lt, first-lt}
+use Rattle.rules.proofs.Words.{bit-common, bit-union, ext-all, first-lt}
 use Rattle.rules.proofs.Layers.{length-listOver, getD-listOver}
 use Rattle.words.specs.Width.{propWidth}
 use Rattle.graph.specs.Format.{plain, actionsOf, startOf}
 use Rattle.graph.specs.File.{Taken}
 use Rattle.graph.specs.declared.format.Counts.{Counts}
 use Rattle.graph.proofs.Places.{actions-plain}
-use Rattle.run.specs.Course.{Known, Some, came, spareOf, stayOf, plusOf, further, courseAt, heldAt, Tables, Walks, Stops, setsOf}
+use Rattle.run.specs.Course.{Known, Some, came, spareOf, stayOf, further, courseAt, heldAt, Tables, Walks, Stops, setsOf}
 use Rattle.run.specs.declared.step.Course.{Course}
 use Rattle.run.specs.declared.step.Walked.{Walked}
 use Rattle.run.proofs.Runs.{Narrow, narrow-of, run-turn, run-end}
@@ -41,10 +41,6 @@ union-part x y = ext-all (λ p. bit-union p (common x y) x ∙ test-eq (λ t. �
 meet-lt : (n set : ℕ) (start : ℕ → ℕ) → meetOf n set start (first propWidth) < 2 ^ propWidth
 unfolding meetOf
 meet-lt n set start = meetOver-lt propWidth _ n (first-lt propWidth)
-
-plus-lt : (A : Actions) (a : ℕ) → A .add a < 2 ^ propWidth → plusOf A a < 2 ^ propWidth
-unfolding plusOf
-plus-lt A a h = without-lt propWidth (A .del a) h
 
 -- ---- at step i, what is left of the run is a run of the rest of the list from what the steps so far have made of the states
 
@@ -78,11 +74,11 @@ module _ {A : Actions} {n : ℕ} {start : ℕ → ℕ} {set : ℕ} {list : List 
         ∙ ap (within (A .pre a)) (g .now-is)
 
     pub go-more : Plain A → {i : ℕ} {w : Course} (a : ℕ) → Going A n start set list i w → i < length list → a ≡ getD list i 0 → a < A .count
-        → So (within (A .pre a) (w .now)) → Going A n start set list (i + 1) (further (stayOf A a) (plusOf A a) w)
+        → So (within (A .pre a) (w .now)) → Going A n start set list (i + 1) (further (stayOf A a) (A .add a) w)
     go-more plain {i} {w} a g h e l t = record {
       inside = omega arith;
-      small = small-further (stayOf A a) (plusOf A a) w (g .small) (plus-lt A a (narrow .add a (subst (λ (m : ℕ). a < m) (sym (plain .effects)) l)));
-      now-is = now-further (stayOf A a) (plusOf A a) w _ (g .now-is);
+      small = small-further (stayOf A a) (A .add a) w (g .small) (narrow .add a (subst (λ (m : ℕ). a < m) (sym (plain .effects)) l));
+      now-is = now-further (stayOf A a) (A .add a) w _ (g .now-is);
       is = turn a g h e ∙ choose-held _ (asked a g l ∙ t)
           ∙ ap₂ (λ (k : ℕ) (xs : List ℕ). runFrom A n set k xs (drop k list)) (sym (add-one i))
           (sets-further n start set (narrow .starts) plain a w l (g .small));
@@ -106,7 +102,7 @@ meet-full (suc m) f h = ap₂ common (meet-full m f (λ k l. h k (omega arith)))
 pub record Words (A : Actions) (spares stays pluses : List ℕ) : Type 0 where
   pub spare : spares ≡ listOver (A .count) (spareOf A)
   pub stay : stays ≡ listOver (A .count) (stayOf A)
-  pub plus : pluses ≡ listOver (A .count) (plusOf A)
+  pub plus : pluses ≡ listOver (A .count) (A .add)
 
 word-at : (m : ℕ) (f : ℕ → ℕ) (l : List ℕ) (a : ℕ) → l ≡ listOver m f → a < m → getD l a 0 ≡ f a
 word-at m f l a e h = ap (λ (x : List ℕ). getD x a 0) e ∙ getD-listOver f h
@@ -155,7 +151,7 @@ module _ {A : Actions} {n : ℕ} {start : ℕ → ℕ} {set : ℕ} {list : List 
       (spare-bits A a (v .now) (narrow .pre a l) (λ p q. ap (bit p) (sym (spared m h)) ∙ full m (omega arith) p q)) in
       subst (λ (x : ℕ). Going A n start set list x (further (getD stays a 0) (getD pluses a 0) v)) e
       (subst (λ (x : ℕ). Going A n start set list (at + m + 1) (further x (getD pluses a 0) v)) (sym (word-at (A .count) (stayOf A) stays a (words .stay) l))
-      (subst (λ (x : ℕ). Going A n start set list (at + m + 1) (further (stayOf A a) x v)) (sym (word-at (A .count) (plusOf A) pluses a (words .plus) l)) r))
+      (subst (λ (x : ℕ). Going A n start set list (at + m + 1) (further (stayOf A a) x v)) (sym (word-at (A .count) (A .add) pluses a (words .plus) l)) r))
 
   -- all had
   pub block-full : (held : ℕ) → held ≡ meetOver (length block) (heldAt spares stays pluses block w) (first propWidth) → held ≡ first propWidth
@@ -210,7 +206,7 @@ pub record Running (file : List ℕ) (c : Counts) (set : ℕ) (list spares stays
 module _ {file : List ℕ} {c : Counts} {set : ℕ} {list spares stays pluses out : List ℕ} where
   pub run-none : {w : Course} → Taken file c → So (plain c) → Some (c .states) set → Known (c .actions) list → c .states ≤ length out
       → (spares ≡ listOver (c .actions) (spareOf (actionsOf file c))) × (stays ≡ listOver (c .actions) (stayOf (actionsOf file c)))
-      × (pluses ≡ listOver (c .actions) (plusOf (actionsOf file c)))
+      × (pluses ≡ listOver (c .actions) (actionsOf file c .add))
       → w .kept ≡ first propWidth → w .now ≡ meetOf (c .states) set (startOf file c) (first propWidth)
       → Running file c set list spares stays pluses out w 0
   unfolding actionsOf

@@ -30,7 +30,7 @@ use Rattle.words.proofs.MemberLoops.{lowest-in, lowest-lt}
 use Rattle.words.proofs.Spreads.{bit-left, stays}
 use Rattle.words.proofs.Writes.{list-all}
 use Rattle.graph.specs.Limits.{maxEffects}
-use Rattle.run.specs.Fire.{effectsOf, firedIn, firedBy, touched, joinedBy, removedBy, applied}
+use Rattle.run.specs.Fire.{effectsOf, firedIn, firedBy, touched, removedBy, joinedBy, applied}
 
 -- ---- the word of each member of a set is changed: g j x is what becomes of word j, if that is x
 
@@ -177,6 +177,12 @@ without-twice x y z = ext-all (λ i.
         (λ t. let u = and-right _ t in
         and-of (and-of (and-left _ t) (fails-of (λ v. fails-at u (or-left _ v)))) (fails-of (λ v. fails-at u (or-right _ v))))
 
+-- first the one, then the other
+pub applied-of : (A : Actions) (by : ℕ) (fired labels₀ : List ℕ) {labels₁ labels : List ℕ} → labels₁ ≡ removedBy A by fired labels₀
+    → labels ≡ joinedBy A by fired labels₁ → labels ≡ applied A by fired labels₀
+unfolding applied
+applied-of A by fired labels₀ e f = f ∙ ap (joinedBy A by fired) e
+
 fired-word : (A : Actions) (those by : ℕ) (labels fired : List ℕ) {e : ℕ} → e < maxEffects → So (bit e by)
     → getD (firedBy A those by labels fired) e 0 ≡ firedIn A those labels e
 unfolding firedBy
@@ -187,9 +193,9 @@ pub applied-is : (A : Actions) (those by : ℕ) (labels fired : List ℕ) → A 
     → applied A by (firedBy A those by labels fired) labels ≡ applied A by (listOver maxEffects (firedIn A those labels)) labels
 unfolding applied joinedBy removedBy touched
 applied-is A those by labels fired few =
-    ap (λ (x : List ℕ). listOver rowLength (λ p. without (getD x p 0) (touched (A .effects) (A .del) by (firedBy A those by labels fired) p)))
-    (listOver-eq (λ p l. ap (union (getD labels p 0)) (only (A .add) p)))
-    ∙ listOver-eq (λ p l. ap (without (getD (joinedBy A by (listOver maxEffects (firedIn A those labels)) labels) p 0)) (only (A .del) p))
+    ap (λ (x : List ℕ). listOver rowLength (λ p. union (getD x p 0) (touched (A .effects) (A .add) by (firedBy A those by labels fired) p)))
+    (listOver-eq (λ p l. ap (without (getD labels p 0)) (only (A .del) p)))
+    ∙ listOver-eq (λ p l. ap (union (getD (removedBy A by (listOver maxEffects (firedIn A those labels)) labels) p 0)) (only (A .add) p))
   where
     only : (sets : ℕ → ℕ) (p : ℕ)
         → touched (A .effects) sets by (firedBy A those by labels fired) p ≡ touched (A .effects) sets by (listOver maxEffects (firedIn A those labels)) p

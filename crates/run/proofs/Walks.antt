@@ -18,7 +18,7 @@ use Rattle.words.proofs.Writes.{Lists, list-none, list-more}
 use Rattle.graph.specs.Format.{plain, actionsOf}
 use Rattle.graph.specs.File.{Taken}
 use Rattle.graph.specs.declared.format.Counts.{Counts}
-use Rattle.run.specs.Course.{spareOf, stayOf, plusOf, further, stepAnswer, courseAt, heldAt, Tables, Walks, Stops}
+use Rattle.run.specs.Course.{spareOf, stayOf, further, stepAnswer, courseAt, heldAt, Tables, Walks, Stops}
 use Rattle.run.specs.declared.step.Course.{Course}
 use Rattle.run.specs.declared.step.Stepped.the-variants as did
 
@@ -125,7 +125,7 @@ pub record Told (file : List ℕ) (c : Counts) (spares₀ stays₀ pluses₀ spa
   pub all : length spares₀ ≡ c .actions
   pub spare : Lists (spareOf (actionsOf file c)) 0 (c .actions) spares₀ i spares
   pub stay : Lists (stayOf (actionsOf file c)) 0 (c .actions) stays₀ i stays
-  pub plus : Lists (plusOf (actionsOf file c)) 0 (c .actions) pluses₀ i pluses
+  pub plus : Lists (actionsOf file c .add) 0 (c .actions) pluses₀ i pluses
 
 pub told-none : {file : List ℕ} {c : Counts} {spares stays pluses : List ℕ} → Taken file c → So (plain c) → length spares ≡ c .actions
     → length stays ≡ c .actions → length pluses ≡ c .actions → Told file c spares stays pluses spares stays pluses 0
@@ -147,19 +147,15 @@ stay-word : (A : Actions) (a all del x : ℕ) → all ≡ first propWidth → de
 unfolding stayOf
 stay-word A a all del x e f g = g ∙ ap₂ (λ (u v : ℕ). without u v) e f
 
-plus-word : (A : Actions) (a add del x : ℕ) → add ≡ A .add a → del ≡ A .del a → x ≡ without add del → x ≡ plusOf A a
-unfolding plusOf
-plus-word A a add del x e f g = g ∙ ap₂ (λ (u v : ℕ). without u v) e f
-
-pub told-more : {file : List ℕ} {c : Counts} {spares₀ stays₀ pluses₀ spares stays pluses : List ℕ} {i x y z : ℕ} (all pre add del : ℕ)
+pub told-more : {file : List ℕ} {c : Counts} {spares₀ stays₀ pluses₀ spares stays pluses : List ℕ} {i x y z : ℕ} (all pre del : ℕ)
     → Told file c spares₀ stays₀ pluses₀ spares stays pluses i → i < c .actions → all ≡ first propWidth → pre ≡ actionsOf file c .pre i
-    → add ≡ actionsOf file c .add i → del ≡ actionsOf file c .del i → x ≡ without all pre → y ≡ without all del → z ≡ without add del
+    → del ≡ actionsOf file c .del i → x ≡ without all pre → y ≡ without all del → z ≡ actionsOf file c .add i
     → Told file c spares₀ stays₀ pluses₀ (set spares i x) (set stays i y) (set pluses i z) (i + 1)
-told-more {file} {c} {i = i} all pre add del t h e p a d x y z = record {
+told-more {file} {c} {i = i} all pre del t h e p d x y z = record {
   taken = t .taken;
   own = t .own;
   all = t .all;
   spare = list-more (t .spare) h (sym (zero-add i)) (spare-word (actionsOf file c) i all pre _ e p x);
   stay = list-more (t .stay) h (sym (zero-add i)) (stay-word (actionsOf file c) i all del _ e d y);
-  plus = list-more (t .plus) h (sym (zero-add i)) (plus-word (actionsOf file c) i add del _ a d z);
+  plus = list-more (t .plus) h (sym (zero-add i)) z;
 }

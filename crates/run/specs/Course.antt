@@ -47,14 +47,11 @@ came w x = union (common x (w .kept)) (w .now)
 unfoldable pub spareOf : Actions → ℕ → ℕ
 spareOf A a = without (first propWidth) (A .pre a)
 
--- 'its adds are joined and after that its deletes removed', of the one effect that an action has: what stays, and what it adds to that
+-- what stays of all there is once its deletes are removed, of the one effect that an action has
 unfoldable pub stayOf : Actions → ℕ → ℕ
 stayOf A a = without (first propWidth) (A .del a)
 
-unfoldable pub plusOf : Actions → ℕ → ℕ
-plusOf A a = without (A .add a) (A .del a)
-
--- one step more
+-- one step more: 'Deletes are removed first, adds joined after'
 unfoldable pub further : ℕ → ℕ → Course → Course
 further stay plus w = record { now = union (common (w .now) stay) plus; kept = common (w .kept) stay }
 

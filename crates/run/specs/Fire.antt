@@ -48,17 +48,17 @@ firedBy A set by labels fired = listOver maxEffects (λ e. choose (bit e by) (fi
 unfoldable pub touched : ℕ → (ℕ → ℕ) → ℕ → List ℕ → ℕ → ℕ
 touched n sets by fired p = joinOf n by (λ e. keep (bit p (sets e)) (getD fired e 0))
 
--- 'all adds joined'
-unfoldable pub joinedBy : Actions → ℕ → List ℕ → List ℕ → List ℕ
-joinedBy A by fired labels = listOver rowLength (λ p. union (getD labels p 0) (touched (A .effects) (A .add) by fired p))
-
--- 'then all deletes removed'
+-- request Five: 'Deletes are removed first'
 unfoldable pub removedBy : Actions → ℕ → List ℕ → List ℕ → List ℕ
 removedBy A by fired labels = listOver rowLength (λ p. without (getD labels p 0) (touched (A .effects) (A .del) by fired p))
 
--- both, by the words that `fired` has
+-- 'adds joined after'
+unfoldable pub joinedBy : Actions → ℕ → List ℕ → List ℕ → List ℕ
+joinedBy A by fired labels = listOver rowLength (λ p. union (getD labels p 0) (touched (A .effects) (A .add) by fired p))
+
+-- both, by the words that `fired` has: 'over all fired effects'
 unfoldable pub applied : Actions → ℕ → List ℕ → List ℕ → List ℕ
-applied A by fired labels = removedBy A by fired (joinedBy A by fired labels)
+applied A by fired labels = joinedBy A by fired (removedBy A by fired labels)
 
 -- a step of action a, in every state of the set: each effect fires by what held before it
 unfoldable pub steppedIn : Actions → ℕ → ℕ → List ℕ → List ℕ

@@ -32,7 +32,7 @@ ghost use Rattle.graph.specs.Format.{actionsOf};
 ghost use Rattle.graph.specs.File.{Taken};
 ghost use Rattle.run.specs.Course.{Known};
 ghost use Rattle.run.specs.Fire as F;
-ghost use Rattle.run.specs.Fire.{Empty, Rooms, setIn, effectsOf, firedBy, joinedBy, removedBy, applied, steppedIn, readyIn, labelsAt, firstLack};
+ghost use Rattle.run.specs.Fire.{Empty, Rooms, setIn, effectsOf, firedBy, removedBy, joinedBy, applied, steppedIn, readyIn, labelsAt, firstLack};
 
 // The effects of each action, in a row of empty words.
 pub fn read_owned(file: &[u8], c: Counts, owned: &mut [u64])
@@ -61,19 +61,6 @@ fn fire(file: &[u8], c: Counts, by: u64, set: States, labels: &[u64], fired: &mu
     while 0 < left {
         let e = lowest(left);
         fired[e] = having(labels, set, Props(antecedent(file, c, e)));
-        left = others(left);
-    }
-}
-
-// Joins the adds of these effects, each in the states in which it fires.
-fn join_adds(file: &[u8], c: Counts, by: u64, fired: &[u64], labels: &mut [u64])
-    requires { ⌜ Taken (now file) c × (by < 2 ^ c .effects) × (length (now fired) ≡ maxEffects) × (length (now labels) ≡ rowLength) ⌝ }
-    ensures { λ r. ⌜ now (labels .exit) ≡ joinedBy (actionsOf (now (file .entry)) c) by (now (fired .entry)) (now (labels .entry)) ⌝ }
-{
-    let mut left = by;
-    while 0 < left {
-        let e = lowest(left);
-        spread(&mut *labels, Props(added(file, c, e)), fired[e]);
         left = others(left);
     }
 }
@@ -107,15 +94,28 @@ fn remove_deletes(file: &[u8], c: Counts, by: u64, fired: &[u64], labels: &mut [
     }
 }
 
-// These effects in every state of the set: each fires by what held before them all, all adds are joined, then all deletes removed.
+// Joins the adds of these effects, each in the states in which it fires.
+fn join_adds(file: &[u8], c: Counts, by: u64, fired: &[u64], labels: &mut [u64])
+    requires { ⌜ Taken (now file) c × (by < 2 ^ c .effects) × (length (now fired) ≡ maxEffects) × (length (now labels) ≡ rowLength) ⌝ }
+    ensures { λ r. ⌜ now (labels .exit) ≡ joinedBy (actionsOf (now (file .entry)) c) by (now (fired .entry)) (now (labels .entry)) ⌝ }
+{
+    let mut left = by;
+    while 0 < left {
+        let e = lowest(left);
+        spread(&mut *labels, Props(added(file, c, e)), fired[e]);
+        left = others(left);
+    }
+}
+
+// These effects in every state of the set: each fires by what held before them all, all deletes are removed, then all adds joined.
 fn apply(file: &[u8], c: Counts, by: u64, set: States, labels: &mut [u64], fired: &mut [u64])
     requires { ⌜ Taken (now file) c × (by < 2 ^ c .effects) × (length (now labels) ≡ rowLength) × (length (now fired) ≡ maxEffects) ⌝ }
     ensures { λ r. ⌜ (now (fired .exit) ≡ firedBy (actionsOf (now (file .entry)) c) (set .0) by (now (labels .entry)) (now (fired .entry)))
         × (now (labels .exit) ≡ applied (actionsOf (now (file .entry)) c) by (now (fired .exit)) (now (labels .entry))) ⌝ }
 {
     fire(file, c, by, set, &*labels, &mut *fired);
-    join_adds(file, c, by, &*fired, &mut *labels);
     remove_deletes(file, c, by, &*fired, &mut *labels);
+    join_adds(file, c, by, &*fired, &mut *labels);
 }
 
 // An action in every state of the set, or in none, where some state of the set lacks its precondition.

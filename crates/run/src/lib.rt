@@ -47,7 +47,7 @@ ghost use Rattle.graph.specs.File.{Taken};
 ghost use Rattle.graph.specs.Checks.{checkVerdict};
 ghost use Rattle.graph.specs.Limits.{maxEffects};
 ghost use Rattle.run.specs.Fire.{Empty};
-ghost use Rattle.run.specs.Course.{Some, Checked, PerAction, came, spareOf, stayOf, plusOf, setsOf};
+ghost use Rattle.run.specs.Course.{Some, Checked, PerAction, came, spareOf, stayOf, setsOf};
 ghost use Rattle.run.specs.Run.{numbersRule, sequenceRule, endRule, runTaken, runRule, runVerdict};
 
 // The longest list that a run takes.
@@ -146,19 +146,18 @@ fn lay(file: &[u8], c: Counts, set: States, course: Course, out: &mut [u32])
     }
 }
 
-// Version 1: of each action what the steps go by, all that it does not need, what it lets stay, and what it adds to that.
+// Version 1: of each action what the steps go by, all that it does not need, what it lets stay, and what it adds.
 fn read_steps(file: &[u8], c: Counts, spares: &mut [u32], stays: &mut [u32], pluses: &mut [u32])
     requires { ⌜ Taken (now file) c × So (plain c) × PerAction (c .actions) (now spares) (now stays) (now pluses) ⌝ }
     ensures { λ r. ⌜ (now (spares .exit) ≡ listOver (c .actions) (spareOf (actionsOf (now (file .entry)) c)))
         × (now (stays .exit) ≡ listOver (c .actions) (stayOf (actionsOf (now (file .entry)) c)))
-        × (now (pluses .exit) ≡ listOver (c .actions) (plusOf (actionsOf (now (file .entry)) c))) ⌝ }
+        × (now (pluses .exit) ≡ listOver (c .actions) (actionsOf (now (file .entry)) c .add)) ⌝ }
 {
     for a in 0..spares.len() {
         let all = Props::first(PROP_WIDTH);
-        let del = Props(deleted(file, c, a));
         spares[a] = all.without(Props(precondition(file, c, a))).0;
-        stays[a] = all.without(del).0;
-        pluses[a] = Props(added(file, c, a)).without(del).0;
+        stays[a] = all.without(Props(deleted(file, c, a))).0;
+        pluses[a] = added(file, c, a);
     }
 }
 

@@ -31,7 +31,7 @@ impl Course {
         x.common(Props(self.kept)).union(Props(self.now))
     }
 
-    // One step more, of an action that lets `stay` stay and then adds `plus`.
+    // One step more, of an action that lets `stay` stay and then adds `plus`: an add wins over a delete.
     pub fn further(self, stay: u32, plus: u32) -> Course
         ensures { λ r. ⌜ r ≡ C.further stay plus self ⌝ }
     {

@@ -33,9 +33,10 @@ use Rattle.run.specs.Run.{maxSteps, runRule}
 use Rattle.plan.specs.Plan.{planRule}
 use Rattle.plan.proofs.Built.{plan-accepted}
 use Rattle.theorems.specs.Setting.{Exactly, Found, StatesOf, GoalOf, Each, alone, Largest, EndsWith, Reaches, saidBy, EqualPair, FirstPair}
-use Rattle.theorems.specs.Setting.{FirstStray, Passes}
+use Rattle.theorems.specs.Setting.{ByFired, Makes, Carries, FirstStray, Passes}
 use Rattle.theorems.proofs.Founds as founds
 use Rattle.theorems.proofs.Levels as levels
+use Rattle.theorems.proofs.Carried as carried
 use Rattle.theorems.proofs.Bounds as bounds
 use Rattle.theorems.proofs.Extracts as extracts
 use Rattle.theorems.proofs.Plans as plans
@@ -92,7 +93,8 @@ module _ (file : List ℕ) (c : Counts) (depth : ℕ) (found : List ℕ) (built 
 
     -- ---- 3: the bound
 
-    -- No list of actions, of any length, that runs from each state of S and ends with the goal is shorter than the level.
+    -- No list of actions, of any length, that is carried out from each state of S, adds winning over deletes in each step (Makes), and ends with the goal
+    -- is shorter than the level.
     pub level-bound : (t : ℕ) → levelRule file depth set goal found ≡ accepted (level t) → (list : List ℕ) → Reaches file c set goal list → t ≤ length list
     level-bound t e list r = bounds.level-bound built some over r t e
 
@@ -108,8 +110,8 @@ module _ (file : List ℕ) (c : Counts) (depth : ℕ) (found : List ℕ) (built 
     pub run-exactly : (list : List ℕ) (room : ℕ) → length list ≤ maxSteps → c .states ≤ room
         → Exactly (Reaches file c set goal list) ((ends : List ℕ) × (runRule file set list room ≡ accepted ends) × EndsWith set goal ends)
     run-exactly list room short enough = (
-      λ r. (r .ends, bounds.run-accepts (built .taken) some r room enough short, r .goals),
-      λ (ends, e, goals). bounds.run-reaches (built .taken) room e goals,
+      λ r. bounds.run-accepts (built .taken) some r room enough short,
+      λ (ends, e, goals). bounds.run-reaches file (built .taken) set list room e goals,
     )
 
     -- ---- 4: the relaxed plan, with room for as many words as the depth
@@ -230,9 +232,9 @@ module _ (file : List ℕ) (c : Counts) (taken : fileRule file ≡ accepted c) (
   pub version-1-needs : (e : ℕ) → e < c .effects → condition (actionsOf file c) e ≡ actionsOf file c .pre e
   version-1-needs = effects.needs file c taken one
 
-  -- In a step the action's adds are joined and after that its deletes removed.
+  -- In a step the action's deletes are removed and after that its adds joined (request Five; document 01 had it the other way round).
   pub version-1-step : (a x : ℕ) → a < c .actions
-      → after (actionsOf file c) a x ≡ without (union x (actionsOf file c .add a)) (actionsOf file c .del a)
+      → after (actionsOf file c) a x ≡ union (without x (actionsOf file c .del a)) (actionsOf file c .add a)
   version-1-step = effects.steps file c taken one
 
   -- Any two different vertices interfere when one deletes something the other needs or adds.
@@ -285,3 +287,20 @@ module _ (file : List ℕ) (c : Counts) (depth : ℕ) (found : List ℕ) (built 
   -- A step behind the layer at which the graph rests looks as often as the one at it, whose layers it copies.
   pub copies-look : (r : ℕ) → r < depth → props r ≡ props (r + 1) → (t : ℕ) → r ≤ t → t < depth → looks t ≡ looks r
   copies-look = scans.as-copied built
+
+-- ---- 10: adds win over deletes
+
+-- In files of either version. Part 3 speaks of lists that are carried out in such steps.
+module _ (file : List ℕ) (c : Counts) (a x : ℕ) where
+  -- The run's step makes of x what a fired effect adds, and what held and no fired effect deletes; and nothing else does.
+  pub step-exactly : (y : ℕ) → Exactly (y ≡ after (actionsOf file c) a x) (Makes (actionsOf file c) a x y)
+  step-exactly = carried.makes-exactly (actionsOf file c) a x
+
+  -- So what a fired effect adds is there after the step, whatever it or another one deletes.
+  pub add-wins : (p : ℕ) → ByFired (actionsOf file c) a x (actionsOf file c .add) p → So (bit p (after (actionsOf file c) a x))
+  add-wins = carried.adds-win (actionsOf file c) a x
+
+-- The sets that a run writes for the states of S are where its list is carried out to from each of them.
+pub run-carries : (file : List ℕ) (c : Counts) → fileRule file ≡ accepted c → (set : ℕ) (list ends : List ℕ) (room : ℕ)
+    → runRule file set list room ≡ accepted ends → Each set (λ s. Carries (actionsOf file c) list (startOf file c s) (getD ends s 0))
+run-carries file c taken set list ends room = bounds.run-carries file taken set list room

@@ -29,7 +29,7 @@ module _ (file : List ℕ) (c : Counts) (taken : fileRule file ≡ accepted c) w
     unfolding actionsOf
     needs e h = plains.plain-condition plain h
 
-    pub steps : (a x : ℕ) → a < c .actions → after (actionsOf file c) a x ≡ without (union x (actionsOf file c .add a)) (actionsOf file c .del a)
+    pub steps : (a x : ℕ) → a < c .actions → after (actionsOf file c) a x ≡ union (without x (actionsOf file c .del a)) (actionsOf file c .add a)
     unfolding actionsOf
     steps a x h = plains.plain-after plain x h
 

@@ -1,6 +1,7 @@
 -- Demand.antt states what the calls promise together; the others define its setting and prove it.
 pub mod Founds
 pub mod Levels
+pub mod Carried
 pub mod Bounds
 pub mod Extracts
 pub mod Plans

@@ -2,13 +2,14 @@
 use mathlib.Core.Path.{_≡_}
 use mathlib.Core.Bool.{So}
 use mathlib.Core.List.{List, _++_}
-use Prim.Native.Nat.{ℕ, _^_, _≤_, _<_}
+use mathlib.Core.Logic.{_⊎_}
+use Prim.Native.Nat.{ℕ, suc, _^_, _≤_, _<_}
 use lib.ListN.{length, getD}
 use Rattle.rules.specs.Test.{same, choose}
 use Rattle.rules.specs.Word.{bit, within}
+use Rattle.rules.specs.Domain.{Actions}
 use Rattle.rules.specs.Level.{Level, level, never, notByDepth}
 use Rattle.rules.specs.Own.{ownLevel}
-use Rattle.rules.specs.Run.{ended, runOf}
 use Rattle.graph.specs.Verdict.{Verdict, accepted, refused}
 use Rattle.graph.specs.Format.{plain, effectAt, preAt, countsIn, actionsOf, startOf, domainOf}
 use Rattle.graph.specs.File.{headRule, versionRule, countsRule, lengthRule, setsRule, fileRule}
@@ -58,11 +59,34 @@ pub record Largest (file : List ℕ) (c : Counts) (depth set goal t : ℕ) : Typ
 abbrev pub EndsWith : ℕ → ℕ → List ℕ → Type 0
 EndsWith set goal ends = Each set (λ s. So (within goal (getD ends s 0)))
 
--- 'lists of action numbers below A of any length under this same rule': one that runs from each state of S and ends with the goal
+-- an effect of action a whose antecedent holds in x: it fires in a step of the action from there
+pub record Fires (A : Actions) (a x e : ℕ) : Type 0 where
+  pub effect : e < A .effects
+  pub own : A .owner e ≡ a
+  pub held : So (within (A .when e) x)
+
+-- p is added by an effect that fires, if `sets` are the add sets, or deleted, if they are the delete sets
+abbrev pub ByFired : Actions → ℕ → ℕ → (ℕ → ℕ) → ℕ → Type 0
+ByFired A a x sets p = (e : ℕ) × Fires A a x e × So (bit p (sets e))
+
+-- Request Five: 'Deletes are removed first, adds joined after', 'over all fired effects'. So p holds in y, which a step of action a makes of x, exactly
+-- when a fired effect adds it, or it held and no fired effect deletes it.
+abbrev pub Makes : Actions → ℕ → ℕ → ℕ → Type 0
+Makes A a x y = (p : ℕ) → Exactly (So (bit p y)) (ByFired A a x (A .add) p ⊎ (So (bit p x) × (ByFired A a x (A .del) p → ⊥)))
+
+-- a list carried out that way from x to y: what the state has before each step, where the step's precondition is to hold, and at the end
+pub record Carries (A : Actions) (list : List ℕ) (x y : ℕ) : Type 0 where
+  pub sets : ℕ → ℕ
+  pub start : sets 0 ≡ x
+  pub needs : (i : ℕ) → i < length list → So (within (A .pre (getD list i 0)) (sets i))
+  pub steps : (i : ℕ) → i < length list → Makes A (getD list i 0) (sets i) (sets (suc i))
+  pub end : sets (length list) ≡ y
+
+-- 'lists of action numbers below A of any length under this same rule': one that is carried out from each state of S and ends with the goal
 pub record Reaches (file : List ℕ) (c : Counts) (set goal : ℕ) (list : List ℕ) : Type 0 where
   pub known : (i : ℕ) → i < length list → getD list i 0 < c .actions
   pub ends : List ℕ
-  pub ran : runOf (actionsOf file c) (c .states) (startOf file c) set list ≡ ended ends
+  pub carried : Each set (λ s. Carries (actionsOf file c) list (startOf file c s) (getD ends s 0))
   pub goals : EndsWith set goal ends
 
 -- what an entry of a page says, read the other way round: 'the level, 256 for never, 257 for not by depth, 258 for its refusal 8'

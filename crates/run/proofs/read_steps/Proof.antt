@@ -19,14 +19,9 @@ loop-holds c = let p = c .before .before .before .before .pre in told-none (p .0
 first-requires : tie.Need-first-requires Inv-loop μ-loop
 first-requires c κs = omega arith
 
-deleted-requires : tie.Need-deleted-requires Inv-loop μ-loop
-deleted-requires c κs =
-    let at-loop = c .before .before in
-    (at-loop .loop .inv .taken, omega (arith, at-loop .loop .inv .all, at-loop .loop .inv .own))
-
 precondition-requires : tie.Need-precondition-requires Inv-loop μ-loop
 precondition-requires c κs =
-    let at-loop = c .before .before .before in
+    let at-loop = c .before .before in
     (at-loop .loop .inv .taken, omega (arith, at-loop .loop .inv .all))
 
 without-requires : tie.Need-without-requires Inv-loop μ-loop
@@ -37,8 +32,13 @@ mul-spares c = omega arith
 
 slice-write-spares : tie.Need-slice-write-spares Inv-loop μ-loop
 slice-write-spares c =
-    let at-loop = c .before .before .before .before .before in
+    let at-loop = c .before .before .before .before in
     omega (arith, at-loop .loop .inv .spare .long, at-loop .loop .inv .spare .room, at-loop .loop .inv .all)
+
+deleted-requires : tie.Need-deleted-requires Inv-loop μ-loop
+deleted-requires c κs =
+    let at-loop = c .before .before .before .before in
+    (at-loop .loop .inv .taken, omega (arith, at-loop .loop .inv .all, at-loop .loop .inv .own))
 
 without-requires-2 : tie.Need-without-requires-2 Inv-loop μ-loop
 without-requires-2 c κs = tt
@@ -56,15 +56,12 @@ added-requires c κs =
     let at-loop = c .before .before .before .before .before .before in
     (at-loop .loop .inv .taken, omega (arith, at-loop .loop .inv .all, at-loop .loop .inv .own))
 
-without-requires-3 : tie.Need-without-requires-3 Inv-loop μ-loop
-without-requires-3 c κs = tt
-
 mul-pluses : tie.Need-mul-pluses Inv-loop μ-loop
 mul-pluses c = omega arith
 
 slice-write-pluses : tie.Need-slice-write-pluses Inv-loop μ-loop
 slice-write-pluses c =
-    let at-loop = c .before .before .before .before .before .before .before .before in
+    let at-loop = c .before .before .before .before .before .before .before in
     omega (arith, at-loop .loop .inv .plus .long, at-loop .loop .inv .plus .room, at-loop .loop .inv .all)
 
 add-a : tie.Need-add-a Inv-loop μ-loop
@@ -75,13 +72,13 @@ loop-less c = omega arith
 
 loop-again : tie.Need-loop-again Inv-loop μ-loop
 loop-again c =
-    let at-precondition = c .before .before .before .before in
-    let at-deleted = at-precondition .before in
-    let at-first = at-deleted .before in
+    let at-deleted = c .before .before in
+    let at-precondition = at-deleted .before .before in
+    let at-first = at-precondition .before in
     let at-loop = at-first .before .before in
-    told-more (at-first .first .result .0) (at-precondition .precondition .result) (c .before .added .result) (at-deleted .deleted .result)
-    (at-loop .loop .inv) (omega (arith, at-loop .loop .inv .all)) (at-first .first .ensures) (at-precondition .precondition .ensures) (c .before .added .ensures)
-    (at-deleted .deleted .ensures) (c .before .before .before .without .ensures) (c .before .before .without2 .ensures) (c .without3 .ensures)
+    told-more (at-first .first .result .0) (at-precondition .precondition .result) (at-deleted .deleted .result) (at-loop .loop .inv)
+    (omega (arith, at-loop .loop .inv .all)) (at-first .first .ensures) (at-precondition .precondition .ensures) (at-deleted .deleted .ensures)
+    (at-deleted .before .without .ensures) (c .before .without2 .ensures) (c .added .ensures)
 
 same-length : tie.Need-same-length Inv-loop μ-loop
 same-length c = c .before .loop .inv .spare .long
@@ -105,16 +102,15 @@ read-steps-spec =
     μ-loop
     loop-holds
     first-requires
-    deleted-requires
     precondition-requires
     without-requires
     mul-spares
     slice-write-spares
+    deleted-requires
     without-requires-2
     mul-stays
     slice-write-stays
     added-requires
-    without-requires-3
     mul-pluses
     slice-write-pluses
     add-a

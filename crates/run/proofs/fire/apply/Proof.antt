@@ -1,7 +1,6 @@
 -- The words of the effects are written before the labels change.
-use mathlib.Core.Path.{ap, _∙_}
 use borrow.Author.Needs.{needs}
-use Rattle.run.specs.Fire.{removedBy, applied}
+use Rattle.run.proofs.Touches.{applied-of}
 use Rattle.graph.specs.Format.{actionsOf}
 use Rattle.run.proofs.fire.apply.Statement.{statement}
 use Rattle.run.proofs.fire.apply.Tie as tie
@@ -9,11 +8,11 @@ use Rattle.run.proofs.fire.apply.Tie as tie
 fire-requires : tie.Need-fire-requires
 fire-requires c κs = search needs
 
-join-adds-requires : tie.Need-join-adds-requires
-join-adds-requires c κs = search needs
-
 remove-deletes-requires : tie.Need-remove-deletes-requires
 remove-deletes-requires c κs = search needs
+
+join-adds-requires : tie.Need-join-adds-requires
+join-adds-requires c κs = search needs
 
 same-length : tie.Need-same-length
 same-length c = search needs
@@ -22,10 +21,10 @@ same-length-2 : tie.Need-same-length-2
 same-length-2 c = search needs
 
 returns : tie.Need-returns
-unfolding actionsOf applied
+unfolding actionsOf
 returns c = (
   search needs,
-  c .before .before .remove-deletes .ensures ∙ ap (removedBy _ _ _) (c .before .before .before .before .before .before .before .join-adds .ensures),
+  applied-of _ _ _ _ (c .before .before .before .before .before .before .before .remove-deletes .ensures) (c .before .before .join-adds .ensures),
 )
 
 pub apply-spec : {M : Type 1} → statement M
@@ -33,8 +32,8 @@ apply-spec =
     tie.close
     (tie.spec
     fire-requires
-    join-adds-requires
     remove-deletes-requires
+    join-adds-requires
     same-length
     same-length-2
     returns)
