@@ -32,7 +32,7 @@ use Rattle.graph.specs.Format.{actionsOf, startOf}
 use Rattle.graph.specs.declared.format.Counts.{Counts}
 use Rattle.run.specs.Course.{Known, Checked}
 use Rattle.run.specs.Run.{ranVerdict, endRule}
-use Rattle.run.specs.Fire.{labelsOf, setIn, effectsOf, having, firedIn, touched, removedBy, joinedBy, applied}
+use Rattle.run.specs.Fire.{labelsOf, setIn, effectsOf, having, firedIn, touched, applied}
 use Rattle.run.specs.Fire.{steppedIn, readyIn, labelsAt, readyAt, firstLack}
 use Rattle.run.proofs.Runs.{Narrow, narrow-of, run-turn, run-end}
 
@@ -116,20 +116,14 @@ module _ (n : ℕ) (xs : List ℕ) where
       moved false true y z = refl
       moved false false y z = refl
 
-      -- the words once the deletes are removed
-      removed-is : {p : ℕ} → p < rowLength
-          → getD (removedBy A (effectsOf A a) fires-in (labelsOf n xs)) p 0 ≡ without (getD (labelsOf n xs) p 0) (concerned (A .del) p)
-      unfolding removedBy
-      removed-is l = getD-listOver _ l
-
       stepped-bit : {s p : ℕ} → s < n → p < rowLength
-          → bit s (union (getD (removedBy A (effectsOf A a) fires-in (labelsOf n xs)) p 0) (concerned (A .add) p)) ≡ bit p (getD (stepped A n set a xs) s 0)
+          → bit s (union (without (getD (labelsOf n xs) p 0) (concerned (A .del) p)) (concerned (A .add) p)) ≡ bit p (getD (stepped A n set a xs) s 0)
       unfolding stepped
       stepped-bit {s} {p} h l =
           let x = getD xs s 0 in
-          bit-union s (getD (removedBy A (effectsOf A a) fires-in (labelsOf n xs)) p 0) (concerned (A .add) p)
+          bit-union s (without (getD (labelsOf n xs) p 0) (concerned (A .del) p)) (concerned (A .add) p)
           ∙ ap₂ _or_
-          (ap (bit s) (removed-is l) ∙ bit-without s (getD (labelsOf n xs) p 0) (concerned (A .del) p)
+          (bit-without s (getD (labelsOf n xs) p 0) (concerned (A .del) p)
           ∙ ap₂ (λ (y z : Bool). y and fails z) (label-bit h l) (concerned-bit (A .del) p h))
           (concerned-bit (A .add) p h)
           ∙ moved (bit s set) (bit p x) (bit p (fired A a x (A .del))) (bit p (fired A a x (A .add)))
@@ -142,13 +136,12 @@ module _ (n : ℕ) (xs : List ℕ) where
               (λ t. choose-held _ t ∙ ap (bit p) (sym (choose-held _ t)))
               (λ t. choose-failed _ _ t ∙ ap (bit p) (sym (choose-failed _ _ t))) (holds-or i)
 
-      stepped-lt : {p : ℕ} → p < rowLength
-          → union (getD (removedBy A (effectsOf A a) fires-in (labelsOf n xs)) p 0) (concerned (A .add) p) < 2 ^ n
-      stepped-lt {p} l = union-lt n (subst (λ (w : ℕ). w < 2 ^ n) (sym (removed-is l)) (without-lt n _ (label-lt l))) (concerned-lt (A .add) p)
+      stepped-lt : {p : ℕ} → p < rowLength → union (without (getD (labelsOf n xs) p 0) (concerned (A .del) p)) (concerned (A .add) p) < 2 ^ n
+      stepped-lt {p} l = union-lt n (without-lt n _ (label-lt l)) (concerned-lt (A .add) p)
 
       -- 'Deletes are removed first, adds joined after', in each state
       pub stepped-is : steppedIn A set a (labelsOf n xs) ≡ labelsOf n (stepped A n set a xs)
-      unfolding steppedIn applied joinedBy labelsOf
+      unfolding steppedIn applied labelsOf
       stepped-is = listOver-eq (λ p l. ext (stepped-lt l) (startLabel-lt n _ p) (λ s h.
           stepped-bit h l ∙ sym (bit-startLabel (λ i. getD (stepped A n set a xs) i 0) p h)))
 

@@ -7,22 +7,22 @@ use mathlib.Core.Logic.{⊎-elim}
 use mathlib.Core.List.{List}
 use native.Mathlib.Nat.{mod-lt, zero-lt-suc, zero-mul}
 use native.Mathlib.Omega.{arith}
-use lib.Bits.{bitXor, and-zero-r, xor-zero-r}
+use lib.Bits.{bitXor, and-zero-r, or-zero-r, xor-zero-r}
 use lib.Count.{trailingZeros}
 use lib.ListN.{length, getD, set, length-set}
 use lib.Seq.{getD-set-same, getD-set-other}
 use Rattle.rules.specs.Test.{_and_, _or_, fails, same, choose}
 use Rattle.rules.specs.Word.{bit, common, union, without, single, first}
-use Rattle.rules.specs.Over.{keep}
+use Rattle.rules.specs.Over.{keep, joinOf}
 use Rattle.rules.specs.Lists.{listOver}
 use Rattle.rules.specs.Layer.{labelIn}
 use Rattle.rules.specs.Domain.{Actions}
 use Rattle.rules.specs.Shared.{startLabel}
 use Rattle.rules.proofs.Tests.{choose-held, choose-failed, holds-or, fails-of, fails-at, and-of, and-left, and-right, or-left, or-right, or-at}
 use Rattle.rules.proofs.Tests.{same-of, same-at, below-of, test-eq}
-use Rattle.rules.proofs.Overs.{joinOver-eq, joinOver-lt, keep-lt}
+use Rattle.rules.proofs.Overs.{any-of, any-at, bit-keep, joinOver-eq, joinOver-lt, keep-lt}
 use Rattle.rules.proofs.Words.{bit-common, bit-union, bit-without, bit-single, bit-first, no-bit-zero, without-lt, single-lt, shift-single, ext-all}
-use Rattle.rules.proofs.Members.{join-empty, join-pick, join-only}
+use Rattle.rules.proofs.Members.{bit-joinOf, join-empty, join-pick}
 use Rattle.rules.proofs.Layers.{length-listOver, getD-listOver, listOver-eq}
 use Rattle.words.specs.Width.{propWidth, wordWidth}
 use Rattle.words.specs.Rows.{rowLength}
@@ -30,7 +30,8 @@ use Rattle.words.proofs.MemberLoops.{lowest-in, lowest-lt}
 use Rattle.words.proofs.Spreads.{bit-left, stays}
 use Rattle.words.proofs.Writes.{list-all}
 use Rattle.graph.specs.Limits.{maxEffects}
-use Rattle.run.specs.Fire.{effectsOf, firedIn, firedBy, touched, removedBy, joinedBy, applied}
+use Rattle.run.specs.Fire.{effectsOf, firedIn, firedBy, partly, ofEffect, joinFired, ofEffects, touched, removedBy, joinedBy, applied}
+use Rattle.run.specs.declared.fire.Fired.{Fired}
 
 -- ---- the word of each member of a set is changed: g j x is what becomes of word j, if that is x
 
@@ -177,29 +178,218 @@ without-twice x y z = ext-all (λ i.
         (λ t. let u = and-right _ t in
         and-of (and-of (and-left _ t) (fails-of (λ v. fails-at u (or-left _ v)))) (fails-of (λ v. fails-at u (or-right _ v))))
 
--- first the one, then the other
-pub applied-of : (A : Actions) (by : ℕ) (fired labels₀ : List ℕ) {labels₁ labels : List ℕ} → labels₁ ≡ removedBy A by fired labels₀
-    → labels ≡ joinedBy A by fired labels₁ → labels ≡ applied A by fired labels₀
-unfolding applied
-applied-of A by fired labels₀ e f = f ∙ ap (joinedBy A by fired) e
+-- ---- what the effects of a step do: those that fire in every state of the set, and those that fire in some of them
 
-fired-word : (A : Actions) (those by : ℕ) (labels fired : List ℕ) {e : ℕ} → e < maxEffects → So (bit e by)
-    → getD (firedBy A those by labels fired) e 0 ≡ firedIn A those labels e
-unfolding firedBy
-fired-word A those by labels fired h t = getD-listOver _ h ∙ choose-held _ t
+abbrev pub made : ℕ → ℕ → ℕ → Fired
+made d a e = record { del = d; add = a; some = e }
 
--- of the words of the effects only those of `by` count: it does not matter what stands there of the others
-pub applied-is : (A : Actions) (those by : ℕ) (labels fired : List ℕ) → A .effects ≤ maxEffects
-    → applied A by (firedBy A those by labels fired) labels ≡ applied A by (listOver maxEffects (firedIn A those labels)) labels
-unfolding applied joinedBy removedBy touched
-applied-is A those by labels fired few =
-    ap (λ (x : List ℕ). listOver rowLength (λ p. union (getD x p 0) (touched (A .effects) (A .add) by (firedBy A those by labels fired) p)))
-    (listOver-eq (λ p l. ap (without (getD labels p 0)) (only (A .del) p)))
-    ∙ listOver-eq (λ p l. ap (union (getD (removedBy A by (listOver maxEffects (firedIn A those labels)) labels) p 0)) (only (A .add) p))
-  where
-    only : (sets : ℕ → ℕ) (p : ℕ)
-        → touched (A .effects) sets by (firedBy A those by labels fired) p ≡ touched (A .effects) sets by (listOver maxEffects (firedIn A those labels)) p
-    only sets p = join-only by (λ e l t. ap (keep (bit p (sets e))) (fired-word A those by labels fired (omega arith) t ∙ sym (getD-listOver _ (omega arith))))
+same-fired : {d d' a a' e e' : ℕ} → d ≡ d' → a ≡ a' → e ≡ e' → made d a e ≡ made d' a' e'
+same-fired p q r i = record { del = p i; add = q i; some = r i }
+
+kept : {b : Bool} (w : ℕ) → So b → keep b w ≡ w
+unfolding keep
+kept w t = choose-held 0 t
+
+joined-kept : {b : Bool} (x w : ℕ) → So b → union x w ≡ union x (keep b w)
+joined-kept x w t = ap (union x) (sym (kept w t))
+
+joined-none : (b : Bool) (x w : ℕ) → So (fails b) → x ≡ union x (keep b w)
+unfolding keep
+joined-none b x w f = sym (ap (union x) (choose-failed b w f) ∙ or-zero-r x)
+
+-- one effect more, by the states in which it fires
+module _ (A : Actions) (those e t : ℕ) (did : Fired) where
+  pub fires-all : t ≡ those → made (union (did .del) (A .del e)) (union (did .add) (A .add e)) (did .some) ≡ joinFired did (ofEffect A those e t)
+  unfolding joinFired ofEffect partly
+  fires-all h = same-fired (joined-kept (did .del) _ (same-of h)) (joined-kept (did .add) _ (same-of h))
+      (joined-none _ (did .some) _ (fails-of (λ u. fails-at (and-left _ u) (same-of h))))
+
+  pub fires-none : (t ≡ those → ⊥) → t ≡ 0 → did ≡ joinFired did (ofEffect A those e t)
+  unfolding joinFired ofEffect partly
+  fires-none f h = same-fired (joined-none _ (did .del) _ (fails-of (λ u. f (same-at u)))) (joined-none _ (did .add) _ (fails-of (λ u. f (same-at u))))
+      (joined-none _ (did .some) _ (fails-of (λ u. fails-at (and-right _ u) (same-of h))))
+
+  pub fires-some : (t ≡ those → ⊥) → (t ≡ 0 → ⊥) → made (did .del) (did .add) (union (did .some) (single e)) ≡ joinFired did (ofEffect A those e t)
+  unfolding joinFired ofEffect partly
+  fires-some f g = same-fired (joined-none _ (did .del) _ (fails-of (λ u. f (same-at u)))) (joined-none _ (did .add) _ (fails-of (λ u. f (same-at u))))
+      (joined-kept (did .some) _ (and-of (fails-of (λ u. f (same-at u))) (fails-of (λ u. g (same-at u)))))
+
+-- one effect after the other: what those did that are done, with what those do that are left
+pub record Firing (A : Actions) (those by : ℕ) (labels fired₀ : List ℕ) (left : ℕ) (did : Fired) (fired : List ℕ) : Type 0 where
+  pub changes : Changes (λ e x. firedIn A those labels e) (A .effects) by fired₀ left fired
+  pub joined : joinFired did (ofEffects A those left labels) ≡ ofEffects A those by labels
+
+pub firing-none : {A : Actions} {those by : ℕ} {labels fired : List ℕ} → A .effects ≤ wordWidth → A .effects ≤ length fired → by < 2 ^ A .effects
+    → Firing A those by labels fired by (made 0 0 0) fired
+unfolding joinFired
+firing-none f r h = record { changes = changes-none f r h; joined = same-fired refl refl refl }
+
+-- words joined, one member of a set after the other
+gather-more : {n : ℕ} (acc left : ℕ) {all : ℕ} (g : ℕ → ℕ) {e left' : ℕ} → e < n → So (bit e left) → left' ≡ without left (single e)
+    → union acc (joinOf n left g) ≡ all → union (union acc (g e)) (joinOf n left' g) ≡ all
+gather-more {n} acc left g {e} l t r h =
+    union-twice acc (g e) _ ∙ ap (union acc) (ap (λ (x : ℕ). union (g e) (joinOf n x g)) r ∙ sym (join-pick left g l t)) ∙ h
+
+gather-done : (n acc : ℕ) {left all : ℕ} (g : ℕ → ℕ) → left ≡ 0 → union acc (joinOf n left g) ≡ all → acc ≡ all
+gather-done n acc g e h = sym (ap (λ (x : ℕ). union acc (joinOf n x g)) e ∙ ap (union acc) (join-empty n g) ∙ or-zero-r acc) ∙ h
+
+module _ {A : Actions} {those by : ℕ} {labels fired₀ : List ℕ} {left : ℕ} {did : Fired} {fired : List ℕ}
+    (m : Firing A those by labels fired₀ left did fired) where
+  pub firing-more : {left' e t : ℕ} {did' : Fired} → 0 < left → e ≡ trailingZeros wordWidth left → t ≡ firedIn A those labels e
+      → did' ≡ joinFired did (ofEffect A those e t) → left' ≡ without left (single (trailingZeros wordWidth left))
+      → Firing A those by labels fired₀ left' did' (set fired e t)
+  unfolding joinFired ofEffects
+  firing-more {left'} {e} {t} {did'} some at one next rest =
+      let rest' : left' ≡ without left (single e) = rest ∙ ap (λ (i : ℕ). without left (single i)) (sym at) in
+      let low : e < A .effects = subst (λ (i : ℕ). i < A .effects) (sym at) (lowest-lt _ left (m .changes .few) (m .changes .inside) some) in
+      let has : So (bit e left) = subst (λ (i : ℕ). So (bit i left)) (sym at) (lowest-in _ left (m .changes .few) (m .changes .inside) some) in
+      let next' : did' ≡ joinFired did (ofEffect A those e (firedIn A those labels e)) = next ∙ ap (λ (x : ℕ). joinFired did (ofEffect A those e x)) one in
+      record {
+        changes = changes-more (m .changes) some at one rest;
+        joined = ap (λ (x : Fired). joinFired x (ofEffects A those left' labels)) next' ∙ same-fired
+            (gather-more (did .del) left _ low has rest' (ap (λ (x : Fired). x .del) (m .joined)))
+            (gather-more (did .add) left _ low has rest' (ap (λ (x : Fired). x .add) (m .joined)))
+            (gather-more (did .some) left _ low has rest' (ap (λ (x : Fired). x .some) (m .joined)));
+      }
+
+  pub firing-done : left ≤ 0 → did ≡ ofEffects A those by labels
+  unfolding joinFired ofEffects
+  firing-done h =
+      let e : left ≡ 0 = omega arith in
+      same-fired
+      (gather-done (A .effects) (did .del) _ e (ap (λ (x : Fired). x .del) (m .joined)))
+      (gather-done (A .effects) (did .add) _ e (ap (λ (x : Fired). x .add) (m .joined)))
+      (gather-done (A .effects) (did .some) _ e (ap (λ (x : Fired). x .some) (m .joined)))
+
+-- ---- all effects of a step, from what fires everywhere and what fires in part
+
+module _ (A : Actions) (those by : ℕ) (labels fired : List ℕ) (few : A .effects ≤ maxEffects) where
+  abbrev fires-in : ℕ → ℕ
+  fires-in = firedIn A those labels
+
+  abbrev part : ℕ
+  part = ofEffects A those by labels .some
+
+  pub part-lt : part < 2 ^ A .effects
+  unfolding ofEffects ofEffect joinOf
+  part-lt = joinOver-lt (A .effects) _ (λ e h. keep-lt (A .effects) (λ t. keep-lt (A .effects) (λ u. single-lt h)))
+
+  part-of : {e : ℕ} → e < A .effects → So (bit e by) → So (partly those (fires-in e)) → So (bit e part)
+  unfolding ofEffects ofEffect
+  part-of {e} l t u = bit-joinOf e (A .effects) by _ ∙ any-of _ l (and-of t (bit-keep e _ (single e) ∙ and-of u (bit-single e e ∙ same-of refl)))
+
+  part-by : (e : ℕ) → So (bit e part) → So (bit e by)
+  unfolding ofEffects ofEffect
+  part-by e t =
+      let (i, l, u) = any-at (sym (bit-joinOf e (A .effects) by _) ∙ t) in
+      let v = sym (bit-keep e (partly those (fires-in i)) (single i)) ∙ and-right _ u in
+      subst (λ (j : ℕ). So (bit j by)) (sym (same-at (sym (bit-single e i) ∙ and-right _ v))) (and-left _ u)
+
+  listed : {e : ℕ} → e < A .effects → getD (listOver maxEffects fires-in) e 0 ≡ fires-in e
+  listed l = getD-listOver _ (omega arith)
+
+  written : {e : ℕ} → e < A .effects → So (bit e by) → getD (firedBy A those by labels fired) e 0 ≡ fires-in e
+  unfolding firedBy
+  written l t = getD-listOver _ (omega arith) ∙ choose-held _ t
+
+  -- where an effect fires that has p in its set: in every state of the set, or where one fires that fires in part
+  module _ (sets : ℕ → ℕ) (all : ℕ) (is : all ≡ joinOf (A .effects) by (λ e. keep (same (fires-in e) those) (sets e))) (p s : ℕ) where
+    split-to : So (bit s (touched (A .effects) sets by (listOver maxEffects fires-in) p))
+        → So ((bit p all and bit s those) or bit s (touched (A .effects) sets part (firedBy A those by labels fired) p))
+    unfolding touched partly
+    split-to t =
+        let (e, l, u) = any-at (sym (bit-joinOf s (A .effects) by _) ∙ t) in
+        let v = sym (bit-keep s (bit p (sets e)) _) ∙ and-right _ u in
+        let here : So (bit s (fires-in e)) = ap (bit s) (sym (listed l)) ∙ and-right _ v in
+        ⊎-elim
+        (λ k. or-left _ (and-of
+        (ap (bit p) is ∙ bit-joinOf p (A .effects) by _ ∙ any-of _ l (and-of (and-left _ u) (bit-keep p _ (sets e) ∙ and-of k (and-left _ v))))
+        (subst (λ (w : ℕ). So (bit s w)) (same-at k) here)))
+        (λ f. or-right _ (bit-joinOf s (A .effects) part _ ∙ any-of _ l (and-of
+        (part-of l (and-left _ u) (and-of f (fails-of (λ z. no-bit-zero s (ap (bit s) (sym (same-at z)) ∙ here)))))
+        (bit-keep s (bit p (sets e)) _ ∙ and-of (and-left _ v) (ap (bit s) (written l (and-left _ u)) ∙ here)))))
+        (holds-or (same (fires-in e) those))
+
+    split-from : So ((bit p all and bit s those) or bit s (touched (A .effects) sets part (firedBy A those by labels fired) p))
+        → So (bit s (touched (A .effects) sets by (listOver maxEffects fires-in) p))
+    unfolding touched
+    split-from t = ⊎-elim
+        (λ b.
+        let (e, l, u) = any-at (sym (ap (bit p) is ∙ bit-joinOf p (A .effects) by _) ∙ and-left _ b) in
+        let v = sym (bit-keep p _ (sets e)) ∙ and-right _ u in
+        bit-joinOf s (A .effects) by _ ∙ any-of _ l (and-of (and-left _ u)
+        (bit-keep s (bit p (sets e)) _ ∙ and-of (and-right _ v) (ap (bit s) (listed l ∙ same-at (and-left _ v)) ∙ and-right _ b))))
+        (λ b.
+        let (e, l, u) = any-at (sym (bit-joinOf s (A .effects) part _) ∙ b) in
+        let v = sym (bit-keep s (bit p (sets e)) _) ∙ and-right _ u in
+        let m = part-by e (and-left _ u) in
+        bit-joinOf s (A .effects) by _ ∙ any-of _ l (and-of m
+        (bit-keep s (bit p (sets e)) _ ∙ and-of (and-left _ v) (ap (bit s) (listed l ∙ sym (written l m)) ∙ and-right _ v))))
+        (or-at t)
+
+    split : bit s (touched (A .effects) sets by (listOver maxEffects fires-in) p)
+        ≡ ((bit p all and bit s those) or bit s (touched (A .effects) sets part (firedBy A those by labels fired) p))
+    split = test-eq split-to split-from
+
+  -- x held; what fires everywhere deletes p or adds it, in the states of the set; what fires in part deletes it or adds it
+  lost : (x del add here minus plus : Bool)
+      → ((((x and fails ((del and fails add) and here)) and fails minus) or (add and here)) or plus)
+      ≡ ((x and fails ((del and here) or minus)) or ((add and here) or plus))
+  unfolding _and_ _or_ fails
+  lost false del add here minus plus = refl
+  lost true false add here false plus = refl
+  lost true false add here true plus = refl
+  lost true true false false false plus = refl
+  lost true true false false true plus = refl
+  lost true true false true minus plus = refl
+  lost true true true true false plus = refl
+  lost true true true true true plus = refl
+  lost true true true false false plus = refl
+  lost true true true false true plus = refl
+
+  word-bits : (x del add minus plus p s : ℕ)
+      → bit s (union (union (without (without x (keep (bit p (without del add)) those)) minus) (keep (bit p add) those)) plus)
+      ≡ ((bit s x and fails ((bit p del and bit s those) or bit s minus)) or ((bit p add and bit s those) or bit s plus))
+  word-bits x del add minus plus p s =
+      bit-union s _ plus
+      ∙ ap (λ (b : Bool). b or bit s plus) (bit-union s _ (keep (bit p add) those) ∙ ap₂ _or_
+      (bit-without s _ minus ∙ ap (λ (b : Bool). b and fails (bit s minus)) (bit-without s x _
+      ∙ ap (λ (b : Bool). bit s x and fails b) (bit-keep s (bit p (without del add)) those ∙ ap (λ (b : Bool). b and bit s those) (bit-without p del add))))
+      (bit-keep s (bit p add) those))
+      ∙ lost (bit s x) (bit p del) (bit p add) (bit s those) (bit s minus) (bit s plus)
+
+  -- what fires everywhere is removed and joined at once, its deletes without its adds
+  module _ {did : Fired} {now : List ℕ} (e : did ≡ ofEffects A those by labels) (f : now ≡ firedBy A those by labels fired) where
+    parted : (sets : ℕ → ℕ) (p : ℕ) → touched (A .effects) sets part (firedBy A those by labels fired) p ≡ touched (A .effects) sets (did .some) now p
+    parted sets p = sym (ap₂ (λ (g : Fired) (l : List ℕ). touched (A .effects) sets (g .some) l p) e f)
+
+    applied-bit : (x p s : ℕ)
+        → bit s (union (union (without (without x (keep (bit p (without (did .del) (did .add))) those)) (touched (A .effects) (A .del) (did .some) now p))
+        (keep (bit p (did .add)) those)) (touched (A .effects) (A .add) (did .some) now p))
+        ≡ bit s (union (without x (touched (A .effects) (A .del) by (listOver maxEffects fires-in) p)) (touched (A .effects) (A .add) by (listOver maxEffects fires-in) p))
+    unfolding ofEffects ofEffect
+    applied-bit x p s =
+        word-bits x (did .del) (did .add) _ _ p s
+        ∙ sym (bit-union s _ _ ∙ ap₂ _or_
+        (bit-without s x _ ∙ ap (λ (b : Bool). bit s x and fails b) (split (A .del) (did .del) (ap (λ (g : Fired). g .del) e) p s
+        ∙ ap (λ (w : ℕ). (bit p (did .del) and bit s those) or bit s w) (parted (A .del) p)))
+        (split (A .add) (did .add) (ap (λ (g : Fired). g .add) e) p s ∙ ap (λ (w : ℕ). (bit p (did .add) and bit s those) or bit s w) (parted (A .add) p)))
+
+    pub applied-of : {cut : ℕ} {labels₁ labels₂ labels₃ labels₄ : List ℕ} → length labels ≡ rowLength → cut ≡ without (did .del) (did .add)
+        → labels₁ ≡ listOver (length labels) (λ q. without (labelIn labels q) (keep (bit q cut) those)) → labels₂ ≡ removedBy A (did .some) now labels₁
+        → labels₃ ≡ listOver (length labels₂) (λ q. union (labelIn labels₂ q) (keep (bit q (did .add)) those)) → labels₄ ≡ joinedBy A (did .some) now labels₃
+        → labels₄ ≡ applied A by (listOver maxEffects fires-in) labels
+    unfolding applied joinedBy removedBy labelIn
+    applied-of {cut} {labels₁} {labels₂} {labels₃} long g one two three four =
+        let long₂ : length labels₂ ≡ rowLength = ap length two ∙ length-listOver rowLength _ in
+        four ∙ listOver-eq (λ p k.
+        let minus = touched (A .effects) (A .del) (did .some) now p in
+        let plus = touched (A .effects) (A .add) (did .some) now p in
+        let at₁ = ap (λ (l : List ℕ). getD l p 0) one ∙ getD-listOver _ (omega (arith, long))
+        ∙ ap (λ (w : ℕ). without (getD labels p 0) (keep (bit p w) those)) g in
+        let at₂ = ap (λ (l : List ℕ). getD l p 0) two ∙ getD-listOver _ k ∙ ap (λ (w : ℕ). without w minus) at₁ in
+        let at₃ = ap (λ (l : List ℕ). getD l p 0) three ∙ getD-listOver _ (omega (arith, long₂)) ∙ ap (λ (w : ℕ). union w (keep (bit p (did .add)) those)) at₂ in
+        ap (λ (w : ℕ). union w plus) at₃ ∙ ext-all (applied-bit (getD labels p 0) p))
 
 -- ---- the effects of each action
 

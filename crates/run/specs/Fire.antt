@@ -4,7 +4,7 @@ use mathlib.Core.Path.{_≡_}
 use mathlib.Core.Bool.{Bool}
 use mathlib.Core.List.{List}
 use lib.ListN.{length, getD}
-use Rattle.rules.specs.Test.{fails, same, choose}
+use Rattle.rules.specs.Test.{_and_, fails, same, choose}
 use Rattle.rules.specs.Word.{bit, union, without, single}
 use Rattle.rules.specs.Over.{keep, joinOver, joinOf, meetOf, firstBelow}
 use Rattle.rules.specs.Lists.{listOver}
@@ -15,6 +15,7 @@ use Rattle.graph.specs.Limits.{maxEffects}
 use Rattle.graph.specs.Format.{actionsOf}
 use Rattle.graph.specs.File.{Taken}
 use Rattle.graph.specs.declared.format.Counts.{Counts}
+use Rattle.run.specs.declared.fire.Fired.{Fired}
 
 -- a row of empty words
 abbrev pub Empty : List ℕ → Type 0
@@ -44,21 +45,41 @@ firedIn A set labels e = having labels set (A .when e)
 unfoldable pub firedBy : Actions → ℕ → ℕ → List ℕ → List ℕ → List ℕ
 firedBy A set by labels fired = listOver maxEffects (λ e. choose (bit e by) (firedIn A set labels e) (getD fired e 0))
 
+-- the states t are some states of the set, and not all of them
+unfoldable pub partly : ℕ → ℕ → Bool
+partly set t = fails (same t set) and fails (same t 0)
+
+-- of an effect that fires in the states t: what it deletes and adds, if these are all states of the set; itself, if they are some of them
+unfoldable pub ofEffect : Actions → ℕ → ℕ → ℕ → Fired
+ofEffect A set e t = record { del = keep (same t set) (A .del e); add = keep (same t set) (A .add e); some = keep (partly set t) (single e) }
+
+-- both together
+unfoldable pub joinFired : Fired → Fired → Fired
+joinFired f g = record { del = union (f .del) (g .del); add = union (f .add) (g .add); some = union (f .some) (g .some) }
+
+-- of all effects in the word `by`
+unfoldable pub ofEffects : Actions → ℕ → ℕ → List ℕ → Fired
+ofEffects A set by labels = record {
+  del = joinOf (A .effects) by (λ e. ofEffect A set e (firedIn A set labels e) .del);
+  add = joinOf (A .effects) by (λ e. ofEffect A set e (firedIn A set labels e) .add);
+  some = joinOf (A .effects) by (λ e. ofEffect A set e (firedIn A set labels e) .some);
+}
+
 -- of n effects those of the word `by`, with the sets of propositions that are given: the states in which one of them fires that has p in its set
 unfoldable pub touched : ℕ → (ℕ → ℕ) → ℕ → List ℕ → ℕ → ℕ
 touched n sets by fired p = joinOf n by (λ e. keep (bit p (sets e)) (getD fired e 0))
 
--- request Five: 'Deletes are removed first'
+-- the labels without what these effects delete, and with what they add
 unfoldable pub removedBy : Actions → ℕ → List ℕ → List ℕ → List ℕ
 removedBy A by fired labels = listOver rowLength (λ p. without (getD labels p 0) (touched (A .effects) (A .del) by fired p))
 
--- 'adds joined after'
 unfoldable pub joinedBy : Actions → ℕ → List ℕ → List ℕ → List ℕ
 joinedBy A by fired labels = listOver rowLength (λ p. union (getD labels p 0) (touched (A .effects) (A .add) by fired p))
 
--- both, by the words that `fired` has: 'over all fired effects'
+-- request Five: 'Deletes are removed first, adds joined after', 'over all fired effects'
 unfoldable pub applied : Actions → ℕ → List ℕ → List ℕ → List ℕ
-applied A by fired labels = joinedBy A by fired (removedBy A by fired labels)
+applied A by fired labels =
+    listOver rowLength (λ p. union (without (getD labels p 0) (touched (A .effects) (A .del) by fired p)) (touched (A .effects) (A .add) by fired p))
 
 -- a step of action a, in every state of the set: each effect fires by what held before it
 unfoldable pub steppedIn : Actions → ℕ → ℕ → List ℕ → List ℕ

@@ -32,7 +32,7 @@ ghost use Rattle.graph.specs.Format.{actionsOf};
 ghost use Rattle.graph.specs.File.{Taken};
 ghost use Rattle.run.specs.Course.{Known};
 ghost use Rattle.run.specs.Fire as F;
-ghost use Rattle.run.specs.Fire.{Empty, Rooms, setIn, effectsOf, firedBy, removedBy, joinedBy, applied, steppedIn, readyIn, labelsAt, firstLack};
+ghost use Rattle.run.specs.Fire.{Empty, Rooms, setIn, effectsOf, firedIn, firedBy, ofEffect, joinFired, ofEffects, removedBy, joinedBy, applied, steppedIn, readyIn, labelsAt, firstLack};
 
 // The effects of each action, in a row of empty words.
 pub fn read_owned(file: &[u8], c: Counts, owned: &mut [u64])
@@ -52,17 +52,55 @@ fn having(labels: &[u64], set: States, props: Props) -> u64
     meet_at(labels, wide(props.0), set.0)
 }
 
-// In what states of the set each effect of the word `by` fires.
-fn fire(file: &[u8], c: Counts, by: u64, set: States, labels: &[u64], fired: &mut [u64])
+// What the effects of a step do: the deletes and the adds of those that fire in every state of the set, and which ones fire in some of its states only.
+pub struct Fired {
+    pub del: u32,
+    pub add: u32,
+    pub some: u64,
+}
+
+// The same with one effect more, which fires in the states t.
+fn with_effect(did: Fired, file: &[u8], c: Counts, e: usize, t: u64, set: States) -> Fired
+    requires { ⌜ Taken (now file) c × (e < c .effects) ⌝ }
+    ensures { λ r. ⌜ r ≡ joinFired did (ofEffect (actionsOf (now (file .entry)) c) (set .0) e t) ⌝ }
+{
+    if t == set.0 {
+        return Fired {
+            del: did.del | deleted(file, c, e),
+            add: did.add | added(file, c, e),
+            some: did.some,
+        };
+    }
+    if t == 0 {
+        return did;
+    }
+    Fired {
+        del: did.del,
+        add: did.add,
+        some: did.some | single(e),
+    }
+}
+
+// In what states of the set each effect of the word `by` fires, and what they do by that.
+fn fire(file: &[u8], c: Counts, by: u64, set: States, labels: &[u64], fired: &mut [u64]) -> Fired
     requires { ⌜ Taken (now file) c × (by < 2 ^ c .effects) × (length (now labels) ≡ rowLength) × (length (now fired) ≡ maxEffects) ⌝ }
-    ensures { λ r. ⌜ now (fired .exit) ≡ firedBy (actionsOf (now (file .entry)) c) (set .0) by (now (labels .entry)) (now (fired .entry)) ⌝ }
+    ensures { λ r. ⌜ (r ≡ ofEffects (actionsOf (now (file .entry)) c) (set .0) by (now (labels .entry)))
+        × (now (fired .exit) ≡ firedBy (actionsOf (now (file .entry)) c) (set .0) by (now (labels .entry)) (now (fired .entry))) ⌝ }
 {
     let mut left = by;
+    let mut did = Fired {
+        del: 0,
+        add: 0,
+        some: 0,
+    };
     while 0 < left {
         let e = lowest(left);
-        fired[e] = having(labels, set, Props(antecedent(file, c, e)));
+        let t = having(labels, set, Props(antecedent(file, c, e)));
+        fired[e] = t;
+        did = with_effect(did, file, c, e, t, set);
         left = others(left);
     }
+    did
 }
 
 // Takes `t` away from the word of each member. Only the members cost time, and where `t` is empty they do not.
@@ -107,15 +145,17 @@ fn join_adds(file: &[u8], c: Counts, by: u64, fired: &[u64], labels: &mut [u64])
     }
 }
 
-// These effects in every state of the set: each fires by what held before them all, all deletes are removed, then all adds joined.
+// These effects in every state of the set: each fires by what held before them all, all deletes are removed, then all adds joined. Those that fire in every
+// state are done at once, and what they add need not be removed before.
 fn apply(file: &[u8], c: Counts, by: u64, set: States, labels: &mut [u64], fired: &mut [u64])
     requires { ⌜ Taken (now file) c × (by < 2 ^ c .effects) × (length (now labels) ≡ rowLength) × (length (now fired) ≡ maxEffects) ⌝ }
-    ensures { λ r. ⌜ (now (fired .exit) ≡ firedBy (actionsOf (now (file .entry)) c) (set .0) by (now (labels .entry)) (now (fired .entry)))
-        × (now (labels .exit) ≡ applied (actionsOf (now (file .entry)) c) by (now (fired .exit)) (now (labels .entry))) ⌝ }
+    ensures { λ r. ⌜ now (labels .exit) ≡ applied (actionsOf (now (file .entry)) c) by (listOver maxEffects (firedIn (actionsOf (now (file .entry)) c) (set .0) (now (labels .entry)))) (now (labels .entry)) ⌝ }
 {
-    fire(file, c, by, set, &*labels, &mut *fired);
-    remove_deletes(file, c, by, &*fired, &mut *labels);
-    join_adds(file, c, by, &*fired, &mut *labels);
+    let did = fire(file, c, by, set, &*labels, &mut *fired);
+    strip(&mut *labels, Props(did.del).without(Props(did.add)), set.0);
+    remove_deletes(file, c, did.some, &*fired, &mut *labels);
+    spread(&mut *labels, Props(did.add), set.0);
+    join_adds(file, c, did.some, &*fired, &mut *labels);
 }
 
 // An action in every state of the set, or in none, where some state of the set lacks its precondition.

@@ -1,5 +1,5 @@
--- The loop writes the word of one effect after the other.
-use Rattle.run.proofs.Touches.{Changes, changes-none, changes-more, changes-done}
+-- The loop writes the word of one effect after the other, and joins what they do.
+use Rattle.run.proofs.Touches.{Firing, firing-none, firing-more, firing-done, changes-done}
 use Rattle.run.specs.Fire.{having, firedIn, firedBy}
 use Rattle.graph.specs.Format.{actionsOf}
 use Rattle.words.proofs.MemberLoops.{lowest-lt}
@@ -14,23 +14,26 @@ use Rattle.run.proofs.fire.fire.Statement.{statement}
 use Rattle.run.proofs.fire.fire.Tie as tie
 
 abbrev Inv-loop : tie.InvT-loop
-Inv-loop file c by set labels fired₀ left₀ fired left = Changes (λ e x. firedIn (actionsOf file c) (set .0) labels e) (c .effects) by fired₀ left fired
+Inv-loop file c by set labels fired₀ left₀ did₀ fired left did = Firing (actionsOf file c) (set .0) by labels fired₀ left did fired
 
 abbrev μ-loop : tie.MeasureT-loop
-μ-loop file c by set labels fired₀ left₀ fired left = left
+μ-loop file c by set labels fired₀ left₀ did₀ fired left did = left
 
 loop-holds : tie.Need-loop-holds Inv-loop μ-loop
+unfolding actionsOf
 loop-holds c = let p = c .before .before .before .pre in
-    changes-none (omega (arith, p .0 .ranged .effects)) (omega (arith, p .0 .ranged .effects, p .3)) (p .1)
+    firing-none (omega (arith, p .0 .ranged .effects)) (omega (arith, p .0 .ranged .effects, p .3)) (p .1)
 
 lowest-requires : tie.Need-lowest-requires Inv-loop μ-loop
 lowest-requires c κs = tt
 
 -- the lowest effect that is left is one of the file's
 named : (c : tie.After-lowest Inv-loop μ-loop) → c .lowest .result < c .before .before .before .before .before .before .args .c .effects
+unfolding actionsOf
 named c =
     let at-loop = c .before .before in
-    omega (arith, c .lowest .ensures, lowest-lt _ (at-loop .loop .left) (at-loop .loop .inv .few) (at-loop .loop .inv .inside) (c .before .loop-test .taken))
+    let m = at-loop .loop .inv .changes in
+    omega (arith, c .lowest .ensures, lowest-lt _ (at-loop .loop .left) (m .few) (m .inside) (c .before .loop-test .taken))
 
 antecedent-requires : tie.Need-antecedent-requires Inv-loop μ-loop
 antecedent-requires c κs = (c .before .before .before .before .before .before .pre .0, named c)
@@ -39,13 +42,18 @@ having-requires : tie.Need-having-requires Inv-loop μ-loop
 having-requires c κs = c .before .before .before .before .before .before .before .pre .2
 
 mul-fired : tie.Need-mul-fired Inv-loop μ-loop
-mul-fired c = let l = c .before .before .before .before .loop in omega (arith, named (c .before .before), l .inv .room, l .inv .long)
+unfolding actionsOf
+mul-fired c = let m = c .before .before .before .before .loop .inv .changes in omega (arith, named (c .before .before), m .room, m .long)
 
 slice-write-fired : tie.Need-slice-write-fired Inv-loop μ-loop
-slice-write-fired c = let l = c .before .before .before .before .loop in omega (arith, named (c .before .before), l .inv .room, l .inv .long)
+unfolding actionsOf
+slice-write-fired c = let m = c .before .before .before .before .loop .inv .changes in omega (arith, named (c .before .before), m .room, m .long)
+
+with-effect-requires : tie.Need-with-effect-requires Inv-loop μ-loop
+with-effect-requires c κs = (c .before .before .before .before .before .before .before .before .pre .0, named (c .before .before))
 
 others-requires : tie.Need-others-requires Inv-loop μ-loop
-others-requires c κs = c .before .before .before .loop-test .taken
+others-requires c κs = c .before .before .before .before .loop-test .taken
 
 loop-less : tie.Need-loop-less Inv-loop μ-loop
 loop-less c = c .others .ensures .1
@@ -53,13 +61,15 @@ loop-less c = c .others .ensures .1
 loop-again : tie.Need-loop-again Inv-loop μ-loop
 unfolding firedIn
 loop-again c =
-    let a = c .before .before .before .before .before .before .before .before .before .args in
-    let at-loop = c .before .before .before .before .before in
-    changes-more (at-loop .loop .inv) (c .before .before .before .before .loop-test .taken) (c .before .before .before .lowest .ensures)
-    (c .before .having .ensures ∙ ap (having (a .labels .now) (a .set .0)) (c .before .before .antecedent .ensures)) (c .others .ensures .0)
+    let a = c .before .before .before .before .before .before .before .before .before .before .args in
+    let at-having = c .before .before in
+    let at-lowest = at-having .before .before in
+    firing-more (at-lowest .before .before .loop .inv) (at-lowest .before .loop-test .taken) (at-lowest .lowest .ensures)
+    (at-having .having .ensures ∙ ap (having (a .labels .now) (a .set .0)) (at-having .before .antecedent .ensures)) (c .before .with-effect .ensures)
+    (c .others .ensures .0)
 
 same-length : tie.Need-same-length Inv-loop μ-loop
-same-length c = c .before .loop .inv .long
+same-length c = c .before .loop .inv .changes .long
 
 returns : tie.Need-returns Inv-loop μ-loop
 unfolding firedBy
@@ -67,8 +77,11 @@ returns c =
     let s = c .before .before .before .before .before in
     let a = s .args in
     let A = actionsOf (a .file .now) (a .c) in
-    changes-done (c .before .loop .inv) (omega arith)
-    ∙ ap (λ (m : ℕ). listOver m (λ e. choose (bit e (a .by)) (firedIn A (a .set .0) (a .labels .now) e) (getD (a .fired .now) e 0))) (s .pre .3)
+    let m = c .before .loop .inv in (
+      firing-done m (omega arith),
+      changes-done (m .changes) (omega arith)
+          ∙ ap (λ (n : ℕ). listOver n (λ e. choose (bit e (a .by)) (firedIn A (a .set .0) (a .labels .now) e) (getD (a .fired .now) e 0))) (s .pre .3),
+    )
 
 pub fire-spec : {M : Type 1} → statement M
 fire-spec =
@@ -82,6 +95,7 @@ fire-spec =
     having-requires
     mul-fired
     slice-write-fired
+    with-effect-requires
     others-requires
     loop-less
     loop-again

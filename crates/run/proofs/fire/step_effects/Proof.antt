@@ -3,7 +3,6 @@ use Prim.Native.Nat.{ℕ, _<_, _^_}
 use mathlib.Core.Path.{_≡_, refl, sym, ap, subst, _∙_}
 use native.Mathlib.Omega.{arith}
 use borrow.Author.Needs.{needs}
-use mathlib.Core.List.{List}
 use lib.ListN.{length, getD}
 use Rattle.rules.specs.Lists.{listOver}
 use Rattle.graph.specs.Limits.{maxEffects}
@@ -13,7 +12,7 @@ use Rattle.rules.proofs.Layers.{length-listOver}
 use Rattle.words.specs.Rows.{rowLength}
 use Rattle.graph.specs.Format.{actionsOf}
 use Rattle.run.specs.Fire.{effectsOf, firedIn, applied, steppedIn}
-use Rattle.run.proofs.Touches.{effects-lt, owned-at, applied-is}
+use Rattle.run.proofs.Touches.{effects-lt, owned-at}
 use Rattle.run.proofs.Fires.{asked}
 use Rattle.run.proofs.fire.step_effects.Statement.{statement}
 use Rattle.run.proofs.fire.step_effects.Tie as tie
@@ -81,14 +80,11 @@ returns-2 c =
     let s = c .before .before .before .before .before .before .before .before .before .before .before .before .before .before .before .before .before in
     let a = s .args in
     let A = actionsOf (a .file .now) (a .c) in
-    let by = getD (a .owned .now) (a .a) 0 in
     let at-having = c .before .before .before .before .before .before .before .before .before .before in
-    let at-word = c .before .before .before .before .before .before .before in
-    let did = c .before .before .before .before .apply .ensures in (
+    let at-word = c .before .before .before .before .before .before .before in (
       sym (same-of (c .before .before .before .before .before .before .before .before .if1 .left))
           ∙ asked _ (a .set .0) (a .a) (a .labels .now) (at-having .before .precondition .ensures) (at-having .having .ensures),
-      did .1 ∙ ap (λ (x : List ℕ). applied A by x (a .labels .now)) (did .0)
-          ∙ applied-is A (a .set .0) by (a .labels .now) (a .fired .now) (s .pre .0 .taken .ranged .effects)
+      c .before .before .before .before .apply .ensures
           ∙ ap (λ (x : ℕ). applied A x (listOver maxEffects (firedIn A (a .set .0) (a .labels .now))) (a .labels .now)) (word at-word),
     )
 
