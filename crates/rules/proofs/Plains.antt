@@ -1,4 +1,4 @@
--- Version 1 as a case of the one record of actions: needs, interference, step and word of the relaxed run are those of document 01.
+-- Version 1 as a case of the one record of actions: needs, interference and word of the relaxed run are those of document 01, the step that of request Five.
 -- Assumes nothing.
 use mathlib.Core.Path.{_≡_, sym, ap, ap₂, subst, subst₂, _∙_}
 use mathlib.Core.Bool.{So}

@@ -6,7 +6,7 @@ use mathlib.Core.Bool.{Bool, true, false, So}
 use mathlib.Core.Logic.{⊎-elim}
 use lib.Count.{trailingZeros}
 use lib.ListN.{length, getD}
-use Rattle.rules.specs.Test.{_and_, _or_, fails, same, below, choose}
+use Rattle.rules.specs.Test.{_and_, _or_, same, choose}
 use Rattle.rules.specs.Word.{bit, common, union, without, within, first}
 use Rattle.rules.specs.Over.{meetOf}
 use Rattle.rules.specs.Lists.{listOver}

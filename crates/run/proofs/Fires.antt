@@ -32,7 +32,7 @@ use Rattle.graph.specs.Format.{actionsOf, startOf}
 use Rattle.graph.specs.declared.format.Counts.{Counts}
 use Rattle.run.specs.Course.{Known, Checked}
 use Rattle.run.specs.Run.{ranVerdict, endRule}
-use Rattle.run.specs.Fire.{labelsOf, setIn, effectsOf, having, firedIn, touched, applied}
+use Rattle.run.specs.Fire.{labelsOf, setIn, effectsOf, having, firedIn, touched, appliedIn}
 use Rattle.run.specs.Fire.{steppedIn, readyIn, labelsAt, readyAt, firstLack}
 use Rattle.run.proofs.Runs.{Narrow, narrow-of, run-turn, run-end}
 
@@ -141,7 +141,7 @@ module _ (n : ℕ) (xs : List ℕ) where
 
       -- 'Deletes are removed first, adds joined after', in each state
       pub stepped-is : steppedIn A set a (labelsOf n xs) ≡ labelsOf n (stepped A n set a xs)
-      unfolding steppedIn applied labelsOf
+      unfolding steppedIn appliedIn labelsOf
       stepped-is = listOver-eq (λ p l. ext (stepped-lt l) (startLabel-lt n _ p) (λ s h.
           stepped-bit h l ∙ sym (bit-startLabel (λ i. getD (stepped A n set a xs) i 0) p h)))
 

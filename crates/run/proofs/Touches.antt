@@ -7,7 +7,7 @@ use mathlib.Core.Logic.{⊎-elim}
 use mathlib.Core.List.{List}
 use native.Mathlib.Nat.{mod-lt, zero-lt-suc, zero-mul}
 use native.Mathlib.Omega.{arith}
-use lib.Bits.{bitXor, and-zero-r, or-zero-r, xor-zero-r}
+use lib.Bits.{bitXor, and-zero-r, and-self, or-zero-r, or-comm, xor-zero-r, xor-self}
 use lib.Count.{trailingZeros}
 use lib.ListN.{length, getD, set, length-set}
 use lib.Seq.{getD-set-same, getD-set-other}
@@ -30,7 +30,7 @@ use Rattle.words.proofs.MemberLoops.{lowest-in, lowest-lt}
 use Rattle.words.proofs.Spreads.{bit-left, stays}
 use Rattle.words.proofs.Writes.{list-all}
 use Rattle.graph.specs.Limits.{maxEffects}
-use Rattle.run.specs.Fire.{effectsOf, firedIn, firedBy, partly, ofEffect, joinFired, ofEffects, touched, removedBy, joinedBy, applied}
+use Rattle.run.specs.Fire.{effectsOf, firedIn, firedBy, partly, ofEffect, joinFired, ofEffects, touched, removedBy, joinedBy, appliedIn}
 use Rattle.run.specs.declared.fire.Fired.{Fired}
 
 -- ---- the word of each member of a set is changed: g j x is what becomes of word j, if that is x
@@ -261,7 +261,41 @@ module _ {A : Actions} {those by : ℕ} {labels fired₀ : List ℕ} {left : ℕ
       (gather-done (A .effects) (did .add) _ e (ap (λ (x : Fired). x .add) (m .joined)))
       (gather-done (A .effects) (did .some) _ e (ap (λ (x : Fired). x .some) (m .joined)))
 
+-- what is joined need not be removed before
+module _ (x del add p t : ℕ) where
+  cut-bits : (x del add here : Bool) → ((x and fails ((del and fails add) and here)) or (add and here)) ≡ ((x and fails (del and here)) or (add and here))
+  unfolding _and_ _or_ fails
+  cut-bits false del add here = refl
+  cut-bits true false add here = refl
+  cut-bits true true false here = refl
+  cut-bits true true true true = refl
+  cut-bits true true true false = refl
+
+  cut-joined : union (without x (keep (bit p (without del add)) t)) (keep (bit p add) t) ≡ union (without x (keep (bit p del) t)) (keep (bit p add) t)
+  cut-joined = ext-all (λ s.
+      bits s (bit p (without del add))
+      ∙ ap (λ (b : Bool). (bit s x and fails (b and bit s t)) or (bit p add and bit s t)) (bit-without p del add)
+      ∙ cut-bits (bit s x) (bit p del) (bit p add) (bit s t) ∙ sym (bits s (bit p del)))
+    where
+      bits : (s : ℕ) (c : Bool) → bit s (union (without x (keep c t)) (keep (bit p add) t)) ≡ ((bit s x and fails (c and bit s t)) or (bit p add and bit s t))
+      bits s c = bit-union s _ _ ∙ ap₂ _or_ (bit-without s x _ ∙ ap (λ (b : Bool). bit s x and fails b) (bit-keep s c t)) (bit-keep s (bit p add) t)
+
+-- with something else removed between
+uncut : (x del add minus p t : ℕ)
+    → union (without (without x (keep (bit p (without del add)) t)) minus) (keep (bit p add) t)
+    ≡ union (without x (union (keep (bit p del) t) minus)) (keep (bit p add) t)
+uncut x del add minus p t =
+    ap (λ (w : ℕ). union w (keep (bit p add) t)) (without-swap x _ minus) ∙ cut-joined (without x minus) del add p t
+    ∙ ap (λ (w : ℕ). union w (keep (bit p add) t)) (without-swap x minus _ ∙ without-twice x _ minus)
+  where
+    without-swap : (x y z : ℕ) → without (without x y) z ≡ without (without x z) y
+    without-swap x y z = without-twice x y z ∙ ap (without x) (or-comm y z) ∙ sym (without-twice x z y)
+
 -- ---- all effects of a step, from what fires everywhere and what fires in part
+
+word-of : (A : Actions) (those : ℕ) (labels : List ℕ) → A .effects ≤ maxEffects → {e : ℕ} → e < A .effects
+    → getD (listOver maxEffects (firedIn A those labels)) e 0 ≡ firedIn A those labels e
+word-of A those labels few l = getD-listOver _ (omega arith)
 
 module _ (A : Actions) (those by : ℕ) (labels fired : List ℕ) (few : A .effects ≤ maxEffects) where
   abbrev fires-in : ℕ → ℕ
@@ -286,7 +320,7 @@ module _ (A : Actions) (those by : ℕ) (labels fired : List ℕ) (few : A .effe
       subst (λ (j : ℕ). So (bit j by)) (sym (same-at (sym (bit-single e i) ∙ and-right _ v))) (and-left _ u)
 
   listed : {e : ℕ} → e < A .effects → getD (listOver maxEffects fires-in) e 0 ≡ fires-in e
-  listed l = getD-listOver _ (omega arith)
+  listed = word-of A those labels few
 
   written : {e : ℕ} → e < A .effects → So (bit e by) → getD (firedBy A those by labels fired) e 0 ≡ fires-in e
   unfolding firedBy
@@ -327,69 +361,86 @@ module _ (A : Actions) (those by : ℕ) (labels fired : List ℕ) (few : A .effe
         (bit-keep s (bit p (sets e)) _ ∙ and-of (and-left _ v) (ap (bit s) (listed l ∙ sym (written l m)) ∙ and-right _ v))))
         (or-at t)
 
-    split : bit s (touched (A .effects) sets by (listOver maxEffects fires-in) p)
-        ≡ ((bit p all and bit s those) or bit s (touched (A .effects) sets part (firedBy A those by labels fired) p))
-    split = test-eq split-to split-from
+  split : (sets : ℕ → ℕ) {all : ℕ} → all ≡ joinOf (A .effects) by (λ e. keep (same (fires-in e) those) (sets e)) → (p : ℕ)
+      → touched (A .effects) sets by (listOver maxEffects fires-in) p
+      ≡ union (keep (bit p all) those) (touched (A .effects) sets part (firedBy A those by labels fired) p)
+  split sets {all} is p = ext-all (λ s.
+      test-eq (split-to sets all is p s) (split-from sets all is p s)
+      ∙ sym (bit-union s (keep (bit p all) those) _ ∙ ap (λ (b : Bool). b or bit s (touched (A .effects) sets part (firedBy A those by labels fired) p))
+      (bit-keep s (bit p all) those)))
 
-  -- x held; what fires everywhere deletes p or adds it, in the states of the set; what fires in part deletes it or adds it
-  lost : (x del add here minus plus : Bool)
-      → ((((x and fails ((del and fails add) and here)) and fails minus) or (add and here)) or plus)
-      ≡ ((x and fails ((del and here) or minus)) or ((add and here) or plus))
-  unfolding _and_ _or_ fails
-  lost false del add here minus plus = refl
-  lost true false add here false plus = refl
-  lost true false add here true plus = refl
-  lost true true false false false plus = refl
-  lost true true false false true plus = refl
-  lost true true false true minus plus = refl
-  lost true true true true false plus = refl
-  lost true true true true true plus = refl
-  lost true true true false false plus = refl
-  lost true true true false true plus = refl
-
-  word-bits : (x del add minus plus p s : ℕ)
-      → bit s (union (union (without (without x (keep (bit p (without del add)) those)) minus) (keep (bit p add) those)) plus)
-      ≡ ((bit s x and fails ((bit p del and bit s those) or bit s minus)) or ((bit p add and bit s those) or bit s plus))
-  word-bits x del add minus plus p s =
-      bit-union s _ plus
-      ∙ ap (λ (b : Bool). b or bit s plus) (bit-union s _ (keep (bit p add) those) ∙ ap₂ _or_
-      (bit-without s _ minus ∙ ap (λ (b : Bool). b and fails (bit s minus)) (bit-without s x _
-      ∙ ap (λ (b : Bool). bit s x and fails b) (bit-keep s (bit p (without del add)) those ∙ ap (λ (b : Bool). b and bit s those) (bit-without p del add))))
-      (bit-keep s (bit p add) those))
-      ∙ lost (bit s x) (bit p del) (bit p add) (bit s those) (bit s minus) (bit s plus)
-
-  -- what fires everywhere is removed and joined at once, its deletes without its adds
+  -- what fires everywhere is removed and joined at once
   module _ {did : Fired} {now : List ℕ} (e : did ≡ ofEffects A those by labels) (f : now ≡ firedBy A those by labels fired) where
-    parted : (sets : ℕ → ℕ) (p : ℕ) → touched (A .effects) sets part (firedBy A those by labels fired) p ≡ touched (A .effects) sets (did .some) now p
-    parted sets p = sym (ap₂ (λ (g : Fired) (l : List ℕ). touched (A .effects) sets (g .some) l p) e f)
-
-    applied-bit : (x p s : ℕ)
-        → bit s (union (union (without (without x (keep (bit p (without (did .del) (did .add))) those)) (touched (A .effects) (A .del) (did .some) now p))
-        (keep (bit p (did .add)) those)) (touched (A .effects) (A .add) (did .some) now p))
-        ≡ bit s (union (without x (touched (A .effects) (A .del) by (listOver maxEffects fires-in) p)) (touched (A .effects) (A .add) by (listOver maxEffects fires-in) p))
-    unfolding ofEffects ofEffect
-    applied-bit x p s =
-        word-bits x (did .del) (did .add) _ _ p s
-        ∙ sym (bit-union s _ _ ∙ ap₂ _or_
-        (bit-without s x _ ∙ ap (λ (b : Bool). bit s x and fails b) (split (A .del) (did .del) (ap (λ (g : Fired). g .del) e) p s
-        ∙ ap (λ (w : ℕ). (bit p (did .del) and bit s those) or bit s w) (parted (A .del) p)))
-        (split (A .add) (did .add) (ap (λ (g : Fired). g .add) e) p s ∙ ap (λ (w : ℕ). (bit p (did .add) and bit s those) or bit s w) (parted (A .add) p)))
+    parted : (sets : ℕ → ℕ) {all : ℕ} → all ≡ joinOf (A .effects) by (λ e. keep (same (fires-in e) those) (sets e)) → (p : ℕ)
+        → union (keep (bit p all) those) (touched (A .effects) sets (did .some) now p) ≡ touched (A .effects) sets by (listOver maxEffects fires-in) p
+    parted sets {all} is p =
+        ap₂ (λ (g : Fired) (l : List ℕ). union (keep (bit p all) those) (touched (A .effects) sets (g .some) l p)) e f ∙ sym (split sets is p)
 
     pub applied-of : {cut : ℕ} {labels₁ labels₂ labels₃ labels₄ : List ℕ} → length labels ≡ rowLength → cut ≡ without (did .del) (did .add)
         → labels₁ ≡ listOver (length labels) (λ q. without (labelIn labels q) (keep (bit q cut) those)) → labels₂ ≡ removedBy A (did .some) now labels₁
         → labels₃ ≡ listOver (length labels₂) (λ q. union (labelIn labels₂ q) (keep (bit q (did .add)) those)) → labels₄ ≡ joinedBy A (did .some) now labels₃
-        → labels₄ ≡ applied A by (listOver maxEffects fires-in) labels
-    unfolding applied joinedBy removedBy labelIn
+        → labels₄ ≡ appliedIn A those by labels
+    unfolding appliedIn joinedBy removedBy labelIn ofEffects ofEffect
     applied-of {cut} {labels₁} {labels₂} {labels₃} long g one two three four =
         let long₂ : length labels₂ ≡ rowLength = ap length two ∙ length-listOver rowLength _ in
         four ∙ listOver-eq (λ p k.
+        let x = getD labels p 0 in
         let minus = touched (A .effects) (A .del) (did .some) now p in
         let plus = touched (A .effects) (A .add) (did .some) now p in
-        let at₁ = ap (λ (l : List ℕ). getD l p 0) one ∙ getD-listOver _ (omega (arith, long))
-        ∙ ap (λ (w : ℕ). without (getD labels p 0) (keep (bit p w) those)) g in
+        let at₁ = ap (λ (l : List ℕ). getD l p 0) one ∙ getD-listOver _ (omega (arith, long)) ∙ ap (λ (w : ℕ). without x (keep (bit p w) those)) g in
         let at₂ = ap (λ (l : List ℕ). getD l p 0) two ∙ getD-listOver _ k ∙ ap (λ (w : ℕ). without w minus) at₁ in
-        let at₃ = ap (λ (l : List ℕ). getD l p 0) three ∙ getD-listOver _ (omega (arith, long₂)) ∙ ap (λ (w : ℕ). union w (keep (bit p (did .add)) those)) at₂ in
-        ap (λ (w : ℕ). union w plus) at₃ ∙ ext-all (applied-bit (getD labels p 0) p))
+        let at₃ = ap (λ (l : List ℕ). getD l p 0) three ∙ getD-listOver _ (omega (arith, long₂))
+        ∙ ap (λ (w : ℕ). union w (keep (bit p (did .add)) those)) at₂ in
+        ap (λ (w : ℕ). union w plus) (at₃ ∙ uncut x (did .del) (did .add) minus p those)
+        ∙ union-twice (without x (union (keep (bit p (did .del)) those) minus)) (keep (bit p (did .add)) those) plus
+        ∙ ap₂ (λ (u w : ℕ). union (without x u) w) (parted (A .del) (ap (λ (h : Fired). h .del) e) p) (parted (A .add) (ap (λ (h : Fired). h .add) e) p))
+
+-- ---- an action with one effect, and with none
+
+-- none: nothing changes
+pub applied-none : (A : Actions) (those by : ℕ) (labels : List ℕ) → length labels ≡ rowLength → by ≡ 0 → labels ≡ appliedIn A those by labels
+unfolding appliedIn touched
+applied-none A those by labels long e = sym (list-all labels long) ∙ listOver-eq (λ p l. sym (
+    ap₂ (λ (u w : ℕ). union (without (getD labels p 0) u) w) (nothing (A .del) p) (nothing (A .add) p) ∙ or-zero-r _ ∙ without-none (getD labels p 0)))
+  where
+    nothing : (sets : ℕ → ℕ) (p : ℕ) → joinOf (A .effects) by (λ e. keep (bit p (sets e)) (getD (listOver maxEffects (firedIn A those labels)) e 0)) ≡ 0
+    nothing sets p =
+        ap (λ (b : ℕ). joinOf (A .effects) b (λ e. keep (bit p (sets e)) (getD (listOver maxEffects (firedIn A those labels)) e 0))) e
+        ∙ join-empty (A .effects) _
+
+-- a set that has nothing besides a member is that member
+pub only-one : (set e : ℕ) → So (bit e set) → without set (single e) ≡ 0 → set ≡ single e
+only-one set e t none = ext-all (λ i. test-eq
+    (λ u. bit-single i e ∙ ⊎-elim
+    (λ k. k)
+    (λ f. absurd (no-bit-zero i (ap (bit i) (sym none) ∙ bit-without i set (single e) ∙ and-of u (ap fails (bit-single i e) ∙ f))))
+    (holds-or (same i e)))
+    (λ u. ap (λ (j : ℕ). bit j set) (same-at (sym (bit-single i e) ∙ u)) ∙ t))
+
+join-single : {n e : ℕ} (g : ℕ → ℕ) → e < n → joinOf n (single e) g ≡ g e
+join-single {n} {e} g l =
+    join-pick (single e) g l (bit-single e e ∙ same-of refl)
+    ∙ ap (union (g e)) (ap (λ (w : ℕ). joinOf n w g) (ap (bitXor (single e)) (and-self (single e)) ∙ xor-self (single e)) ∙ join-empty n g) ∙ or-zero-r (g e)
+
+module _ (A : Actions) (those : ℕ) (labels : List ℕ) (few : A .effects ≤ maxEffects) {e : ℕ} (l : e < A .effects) where
+  touched-one : (sets : ℕ → ℕ) (p : ℕ)
+      → touched (A .effects) sets (single e) (listOver maxEffects (firedIn A those labels)) p ≡ keep (bit p (sets e)) (firedIn A those labels e)
+  unfolding touched
+  touched-one sets p = join-single _ l ∙ ap (keep (bit p (sets e))) (word-of A those labels few l)
+
+  pub applied-one : {t del add cut : ℕ} {labels₁ labels₂ : List ℕ} → length labels ≡ rowLength → t ≡ firedIn A those labels e → del ≡ A .del e → add ≡ A .add e
+      → cut ≡ without del add → labels₁ ≡ listOver (length labels) (λ q. without (labelIn labels q) (keep (bit q cut) t))
+      → labels₂ ≡ listOver (length labels₁) (λ q. union (labelIn labels₁ q) (keep (bit q add) t)) → labels₂ ≡ appliedIn A those (single e) labels
+  unfolding appliedIn labelIn
+  applied-one {t} {del} {add} {cut} {labels₁} {labels₂} long at d a g one two =
+      let long₁ : length labels₁ ≡ rowLength = ap length one ∙ length-listOver (length labels) _ ∙ long in
+      two ∙ ap (λ (n : ℕ). listOver n (λ q. union (getD labels₁ q 0) (keep (bit q add) t))) long₁ ∙ listOver-eq (λ p k.
+      let x = getD labels p 0 in
+      ap (λ (w : ℕ). union w (keep (bit p add) t)) (ap (λ (m : List ℕ). getD m p 0) one ∙ getD-listOver _ (omega (arith, long))
+      ∙ ap (λ (w : ℕ). without x (keep (bit p w) t)) g)
+      ∙ cut-joined x del add p t
+      ∙ ap₂ (λ (u w : ℕ). union (without x u) w)
+      (ap₂ (λ (u w : ℕ). keep (bit p u) w) d at ∙ sym (touched-one (A .del) p)) (ap₂ (λ (u w : ℕ). keep (bit p u) w) a at ∙ sym (touched-one (A .add) p)))
 
 -- ---- the effects of each action
 

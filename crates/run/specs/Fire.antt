@@ -76,14 +76,16 @@ removedBy A by fired labels = listOver rowLength (λ p. without (getD labels p 0
 unfoldable pub joinedBy : Actions → ℕ → List ℕ → List ℕ → List ℕ
 joinedBy A by fired labels = listOver rowLength (λ p. union (getD labels p 0) (touched (A .effects) (A .add) by fired p))
 
--- request Five: 'Deletes are removed first, adds joined after', 'over all fired effects'
-unfoldable pub applied : Actions → ℕ → List ℕ → List ℕ → List ℕ
-applied A by fired labels =
-    listOver rowLength (λ p. union (without (getD labels p 0) (touched (A .effects) (A .del) by fired p)) (touched (A .effects) (A .add) by fired p))
+-- the effects `by`, in every state of the set, each by what held before them all. Request Five: 'Deletes are removed first, adds joined after',
+-- 'over all fired effects'
+unfoldable pub appliedIn : Actions → ℕ → ℕ → List ℕ → List ℕ
+appliedIn A set by labels = listOver rowLength (λ p.
+    union (without (getD labels p 0) (touched (A .effects) (A .del) by (listOver maxEffects (firedIn A set labels)) p))
+    (touched (A .effects) (A .add) by (listOver maxEffects (firedIn A set labels)) p))
 
--- a step of action a, in every state of the set: each effect fires by what held before it
+-- a step of action a
 unfoldable pub steppedIn : Actions → ℕ → ℕ → List ℕ → List ℕ
-steppedIn A set a labels = applied A (effectsOf A a) (listOver maxEffects (firedIn A set labels)) labels
+steppedIn A set a labels = appliedIn A set (effectsOf A a) labels
 
 -- every state of the set has its precondition
 unfoldable pub readyIn : Actions → ℕ → ℕ → List ℕ → Bool

@@ -32,7 +32,8 @@ ghost use Rattle.graph.specs.Format.{actionsOf};
 ghost use Rattle.graph.specs.File.{Taken};
 ghost use Rattle.run.specs.Course.{Known};
 ghost use Rattle.run.specs.Fire as F;
-ghost use Rattle.run.specs.Fire.{Empty, Rooms, setIn, effectsOf, firedIn, firedBy, ofEffect, joinFired, ofEffects, removedBy, joinedBy, applied, steppedIn, readyIn, labelsAt, firstLack};
+ghost use Rattle.run.specs.Fire.{Empty, Rooms, setIn, effectsOf, firedBy, ofEffect, joinFired, ofEffects, removedBy, joinedBy, appliedIn, steppedIn};
+ghost use Rattle.run.specs.Fire.{readyIn, labelsAt, firstLack};
 
 // The effects of each action, in a row of empty words.
 pub fn read_owned(file: &[u8], c: Counts, owned: &mut [u64])
@@ -145,17 +146,50 @@ fn join_adds(file: &[u8], c: Counts, by: u64, fired: &[u64], labels: &mut [u64])
     }
 }
 
-// These effects in every state of the set: each fires by what held before them all, all deletes are removed, then all adds joined. Those that fire in every
-// state are done at once, and what they add need not be removed before.
-fn apply(file: &[u8], c: Counts, by: u64, set: States, labels: &mut [u64], fired: &mut [u64])
+// One effect, in the states of the set in which it fires: its deletes are removed, then its adds joined. What it adds need not be removed before.
+fn apply_one(file: &[u8], c: Counts, e: usize, set: States, labels: &mut [u64])
+    requires { ⌜ Taken (now file) c × (e < c .effects) × (length (now labels) ≡ rowLength) ⌝ }
+    ensures { λ r. ⌜ now (labels .exit) ≡ appliedIn (actionsOf (now (file .entry)) c) (set .0) (W.single e) (now (labels .entry)) ⌝ }
+{
+    let t = having(&*labels, set, Props(antecedent(file, c, e)));
+    let add = Props(added(file, c, e));
+    strip(&mut *labels, Props(deleted(file, c, e)).without(add), t);
+    spread(&mut *labels, add, t);
+}
+
+// Several effects: each fires by what held before them all, all deletes are removed, then all adds joined. Those that fire in every state of the set are
+// done at once.
+fn apply_several(
+    file: &[u8],
+    c: Counts,
+    by: u64,
+    set: States,
+    labels: &mut [u64],
+    fired: &mut [u64],
+)
     requires { ⌜ Taken (now file) c × (by < 2 ^ c .effects) × (length (now labels) ≡ rowLength) × (length (now fired) ≡ maxEffects) ⌝ }
-    ensures { λ r. ⌜ now (labels .exit) ≡ applied (actionsOf (now (file .entry)) c) by (listOver maxEffects (firedIn (actionsOf (now (file .entry)) c) (set .0) (now (labels .entry)))) (now (labels .entry)) ⌝ }
+    ensures { λ r. ⌜ now (labels .exit) ≡ appliedIn (actionsOf (now (file .entry)) c) (set .0) by (now (labels .entry)) ⌝ }
 {
     let did = fire(file, c, by, set, &*labels, &mut *fired);
     strip(&mut *labels, Props(did.del).without(Props(did.add)), set.0);
     remove_deletes(file, c, did.some, &*fired, &mut *labels);
     spread(&mut *labels, Props(did.add), set.0);
     join_adds(file, c, did.some, &*fired, &mut *labels);
+}
+
+// These effects in every state of the set. Most actions have none or one.
+fn apply(file: &[u8], c: Counts, by: u64, set: States, labels: &mut [u64], fired: &mut [u64])
+    requires { ⌜ Taken (now file) c × (by < 2 ^ c .effects) × (length (now labels) ≡ rowLength) × (length (now fired) ≡ maxEffects) ⌝ }
+    ensures { λ r. ⌜ now (labels .exit) ≡ appliedIn (actionsOf (now (file .entry)) c) (set .0) by (now (labels .entry)) ⌝ }
+{
+    if by == 0 {
+        return;
+    }
+    if others(by) == 0 {
+        apply_one(file, c, lowest(by), set, &mut *labels);
+        return;
+    }
+    apply_several(file, c, by, set, &mut *labels, &mut *fired);
 }
 
 // An action in every state of the set, or in none, where some state of the set lacks its precondition.

@@ -3,7 +3,7 @@
 use mathlib.Core.Path.{_≡_, refl, sym, ap, subst, _∙_}
 use mathlib.Core.Bool.{So}
 use mathlib.Core.List.{List, [], _∷_}
-use mathlib.Core.Logic.{_⊎_, inl, inr, ⊎-elim}
+use mathlib.Core.Logic.{inl, inr, ⊎-elim}
 use Prim.Native.Nat.{ℕ, zero, suc, _^_, _<_}
 use native.Mathlib.Omega.{arith}
 use lib.ListN.{length, getD}
@@ -11,12 +11,13 @@ use Rattle.rules.specs.Test.{_and_}
 use Rattle.rules.specs.Word.{bit, within}
 use Rattle.rules.specs.Domain.{Actions}
 use Rattle.rules.specs.Run.{ready, fires, fired, after, stepped, ended, runFrom, runOf}
-use Rattle.rules.proofs.Tests.{choose-held, test-eq, fails-of, fails-at, and-of, and-left, and-right, or-left, or-right, or-at, implies-of, implies-at, same-of, same-at}
+use Rattle.rules.proofs.Tests.{choose-held, test-eq, fails-of, fails-at, and-of, and-left, and-right, or-left, or-right, or-at}
+use Rattle.rules.proofs.Tests.{implies-of, implies-at, same-of, same-at}
 use Rattle.rules.proofs.Overs.{below-suc, all-of, all-at}
 use Rattle.rules.proofs.Words.{bit-below, ext-all}
 use Rattle.rules.proofs.Layers.{getD-listOver}
 use Rattle.rules.proofs.Bounds.{fired-at, fired-of, bit-after, stepped-inside, run-ind}
-use Rattle.theorems.specs.Setting.{Exactly, Each, Fires, ByFired, Makes, Carries}
+use Rattle.theorems.specs.Setting.{Exactly, Each, ByFired, Makes, Carries}
 
 -- ---- a step
 

@@ -226,13 +226,13 @@ stray-exactly = pairs.stray-exactly
 pub stray-place : (file : List ℕ) (place : ℕ) → fileRule file ≡ refused 16 place → FirstStray file (countsIn file) place
 stray-place = pairs.stray-first
 
--- A file of version 1 means what it meant.
+-- A file of version 1 means what its actions' three sets say.
 module _ (file : List ℕ) (c : Counts) (taken : fileRule file ≡ accepted c) (one : c .version ≡ 1) where
   -- A vertex that is no persistence needs its action's precondition.
   pub version-1-needs : (e : ℕ) → e < c .effects → condition (actionsOf file c) e ≡ actionsOf file c .pre e
   version-1-needs = effects.needs file c taken one
 
-  -- In a step the action's deletes are removed and after that its adds joined (request Five; document 01 had it the other way round).
+  -- In a step the action's deletes are removed and after that its adds joined (request Five).
   pub version-1-step : (a x : ℕ) → a < c .actions
       → after (actionsOf file c) a x ≡ union (without x (actionsOf file c .del a)) (actionsOf file c .add a)
   version-1-step = effects.steps file c taken one

@@ -1,4 +1,4 @@
--- What a file's effects are: each has an action, and in version 1 each action has one, so that such a file means what it meant.
+-- What a file's effects are: each has an action, and in version 1 each action has one, so that such a file means what its three sets say.
 -- Assumes nothing.
 use mathlib.Core.Path.{_≡_}
 use mathlib.Core.List.{List}

@@ -1,67 +1,79 @@
--- The words of the effects are written before the labels change; what fires everywhere is done at once.
-use Prim.Native.Nat.{ℕ, _<_, _^_}
+-- An action with no effect changes nothing, and one with nothing besides its lowest effect has that one.
+use Prim.Native.Nat.{ℕ, _<_}
 use mathlib.Core.Path.{_≡_, sym, ap, subst, _∙_}
+use mathlib.Core.Bool.{So}
 use native.Mathlib.Omega.{arith}
 use borrow.Author.Needs.{needs}
-use Rattle.run.specs.declared.fire.Fired.{Fired}
-use Rattle.run.proofs.Touches.{part-lt, applied-of}
+use Rattle.rules.specs.Word.{bit, single, without}
+use Rattle.words.proofs.MemberLoops.{lowest-in, lowest-lt}
 use Rattle.graph.specs.Format.{actionsOf}
+use Rattle.run.specs.Fire.{appliedIn}
+use Rattle.run.proofs.Touches.{applied-none, only-one}
 use Rattle.run.proofs.fire.apply.Statement.{statement}
 use Rattle.run.proofs.fire.apply.Tie as tie
 
-fire-requires : tie.Need-fire-requires
-fire-requires c κs = search needs
-
-without-requires : tie.Need-without-requires
-without-requires c κs = search needs
-
-strip-requires : tie.Need-strip-requires
-strip-requires c κs = search needs
-
--- the effects that fire in part are some of the file's
-part-below : (c : tie.After-fire) → c .fire .result .some < 2 ^ c .before .before .before .before .before .before .args .c .effects
-unfolding actionsOf
-part-below c =
-    let s = c .before .before .before .before .before .before in
+returns : tie.Need-returns
+returns c =
+    let s = c .before .before .before .before in
     let a = s .args in
-    subst (λ (f : Fired). f .some < 2 ^ a .c .effects) (sym (c .fire .ensures .0))
-    (part-lt (actionsOf (a .file .now) (a .c)) (a .set .0) (a .by) (a .labels .now) (a .fired .now) (s .pre .0 .ranged .effects))
+    applied-none (actionsOf (a .file .now) (a .c)) (a .set .0) (a .by) (a .labels .now) (s .pre .2) (c .if1 .taken)
 
-remove-deletes-requires : tie.Need-remove-deletes-requires
-remove-deletes-requires c κs = search (needs, part-below (c .before .before .before .before .before .before .before .before .before))
+others-requires : tie.Need-others-requires
+others-requires c κs = search needs
 
-spread-requires : tie.Need-spread-requires
-spread-requires c κs = search needs
+lowest-requires : tie.Need-lowest-requires
+lowest-requires c κs = search needs
 
-join-adds-requires : tie.Need-join-adds-requires
-join-adds-requires c κs = (c .before .before .before .before .before .before .before .before .before .before .before .before .before .before .before .before .before .before .before .before .before .before .before .before .pre .0, part-below (c .before .before .before .before .before .before .before .before .before .before .before .before .before .before .before .before .before .before), search needs, search needs)
+-- the lowest effect is one of the file's, and it is the only one
+low : (c : tie.After-lowest) → let s = c .before .before .before .before .before .before .before in c .lowest .result < s .args .c .effects
+low c =
+    let s = c .before .before .before .before .before .before .before in
+    omega (arith, c .lowest .ensures, s .pre .0 .ranged .effects, lowest-lt _ (s .args .by) (omega (arith, s .pre .0 .ranged .effects)) (s .pre .1) (omega (arith, c .before .before .before .if1 .left)))
+
+one : (c : tie.After-lowest) → let s = c .before .before .before .before .before .before .before in s .args .by ≡ single (c .lowest .result)
+one c =
+    let s = c .before .before .before .before .before .before .before in
+    let e = c .lowest .ensures in
+    only-one (s .args .by) (c .lowest .result)
+    (subst (λ (i : ℕ). So (bit i (s .args .by))) (sym e)
+    (lowest-in _ (s .args .by) (omega (arith, s .pre .0 .ranged .effects)) (s .pre .1) (omega (arith, c .before .before .before .if1 .left))))
+    (ap (λ (i : ℕ). without (s .args .by) (single i)) e ∙ sym (c .before .before .others .ensures .0) ∙ c .before .if2 .taken)
+
+apply-one-requires : tie.Need-apply-one-requires
+apply-one-requires c κs = search (needs, low (c .before))
 
 same-length : tie.Need-same-length
 same-length c = search needs
 
+returns-2 : tie.Need-returns-2
+returns-2 c =
+    let s = c .before .before .before .before .before .before .before .before .before .before .before in
+    let a = s .args in
+    c .before .before .apply-one .ensures ∙ ap (λ (x : ℕ). appliedIn (actionsOf (a .file .now) (a .c)) (a .set .0) x (a .labels .now)) (sym (one (c .before .before .before .before)))
+
+apply-several-requires : tie.Need-apply-several-requires
+apply-several-requires c κs = search needs
+
 same-length-2 : tie.Need-same-length-2
 same-length-2 c = search needs
 
-returns : tie.Need-returns
-unfolding actionsOf
-returns c =
-    let at-fire = c .before .before .before .before .before .before .before .before .before .before .before .before .before .before .before .before .before .before .before .before .before in
-    let s = at-fire .before .before .before .before .before .before in
-    let a = s .args in
-    applied-of (actionsOf (a .file .now) (a .c)) (a .set .0) (a .by) (a .labels .now) (a .fired .now) (s .pre .0 .ranged .effects) (at-fire .fire .ensures .0)
-    (at-fire .fire .ensures .1) (s .pre .2) (c .before .before .before .before .before .before .before .before .before .before .before .before .before .before .before .before .before .without .ensures) (c .before .before .before .before .before .before .before .before .before .before .before .before .before .before .before .before .strip .ensures) (c .before .before .before .before .before .before .before .before .before .before .before .remove-deletes .ensures)
-    (c .before .before .before .before .before .before .before .spread .ensures) (c .before .before .join-adds .ensures)
+same-length-3 : tie.Need-same-length-3
+same-length-3 c = search needs
+
+returns-3 : tie.Need-returns-3
+returns-3 c = search needs
 
 pub apply-spec : {M : Type 1} → statement M
 apply-spec =
     tie.close
     (tie.spec
-    fire-requires
-    without-requires
-    strip-requires
-    remove-deletes-requires
-    spread-requires
-    join-adds-requires
+    returns
+    others-requires
+    lowest-requires
+    apply-one-requires
     same-length
+    returns-2
+    apply-several-requires
     same-length-2
-    returns)
+    same-length-3
+    returns-3)

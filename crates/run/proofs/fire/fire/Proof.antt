@@ -53,10 +53,10 @@ with-effect-requires : tie.Need-with-effect-requires Inv-loop μ-loop
 with-effect-requires c κs = (c .before .before .before .before .before .before .before .before .pre .0, named (c .before .before))
 
 others-requires : tie.Need-others-requires Inv-loop μ-loop
-others-requires c κs = c .before .before .before .before .loop-test .taken
+others-requires c κs = omega (arith, c .before .before .before .before .loop-test .taken)
 
 loop-less : tie.Need-loop-less Inv-loop μ-loop
-loop-less c = c .others .ensures .1
+loop-less c = omega (arith, c .others .ensures .1, c .before .before .before .before .before .loop-test .taken)
 
 loop-again : tie.Need-loop-again Inv-loop μ-loop
 unfolding firedIn

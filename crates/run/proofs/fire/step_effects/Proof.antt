@@ -4,14 +4,12 @@ use mathlib.Core.Path.{_≡_, refl, sym, ap, subst, _∙_}
 use native.Mathlib.Omega.{arith}
 use borrow.Author.Needs.{needs}
 use lib.ListN.{length, getD}
-use Rattle.rules.specs.Lists.{listOver}
-use Rattle.graph.specs.Limits.{maxEffects}
 use Rattle.rules.specs.Test.{choose}
 use Rattle.rules.proofs.Tests.{same-of, same-not}
 use Rattle.rules.proofs.Layers.{length-listOver}
 use Rattle.words.specs.Rows.{rowLength}
 use Rattle.graph.specs.Format.{actionsOf}
-use Rattle.run.specs.Fire.{effectsOf, firedIn, applied, steppedIn}
+use Rattle.run.specs.Fire.{effectsOf, appliedIn, steppedIn}
 use Rattle.run.proofs.Touches.{effects-lt, owned-at}
 use Rattle.run.proofs.Fires.{asked}
 use Rattle.run.proofs.fire.step_effects.Statement.{statement}
@@ -85,7 +83,7 @@ returns-2 c =
       sym (same-of (c .before .before .before .before .before .before .before .before .if1 .left))
           ∙ asked _ (a .set .0) (a .a) (a .labels .now) (at-having .before .precondition .ensures) (at-having .having .ensures),
       c .before .before .before .before .apply .ensures
-          ∙ ap (λ (x : ℕ). applied A x (listOver maxEffects (firedIn A (a .set .0) (a .labels .now))) (a .labels .now)) (word at-word),
+          ∙ ap (λ (x : ℕ). appliedIn A (a .set .0) x (a .labels .now)) (word at-word),
     )
 
 pub step-effects-spec : {M : Type 1} → statement M

@@ -19,7 +19,8 @@ unfolding actionsOf
 returns c =
     let s = c .before .before .before .before .before .before .before in
     let a = s .args in
-    ap₂ (λ (x y : ℕ). made (union (a .did .del) x) (union (a .did .add) y) (a .did .some)) (c .before .before .before .deleted .ensures) (c .before .added .ensures)
+    ap₂ (λ (x y : ℕ). made (union (a .did .del) x) (union (a .did .add) y) (a .did .some)) (c .before .before .before .deleted .ensures)
+    (c .before .added .ensures)
     ∙ fires-all (actionsOf (a .file .now) (a .c)) (a .set .0) (a .e) (a .t) (a .did) (c .before .before .before .before .if1 .taken)
 
 returns-2 : tie.Need-returns-2
