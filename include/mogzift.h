@@ -11,7 +11,9 @@
  *   set               a set of start states, bit s for state s
  *   goal              a set of propositions, bit p for proposition p
  *   goals, goals_len  a page of goals, each a set of propositions
- *   words, words_len  graph memory, in 64-bit words
+ *   possible, possible_len
+ *                     the possible sets, of each start state the propositions that may hold in it
+ *   words, words_len  graph memory, in 64-bit words; so are possible_words and sure_words, of possible_len and sure_len
  *   list, list_len    a sequence of action numbers, a byte each
  *   out, out_len      output, in elements
  *   room              a number of graph words
@@ -23,7 +25,7 @@
  * writes what another reads or writes.
  *
  * WHAT A CALL RETURNS AND TELLS
- * It returns 0 if it is accepted, else the number of its refusal, 1 to 16. Every call writes all three numbers of the
+ * It returns 0 if it is accepted, else the number of its refusal, 1 to 17. Every call writes all three numbers of the
  * answer. answer[0] is the kind:
  *   MOGZIFT_REFUSED       answer[1] is the number returned, answer[2] the place
  *   MOGZIFT_ANSWERED      answer[1] and answer[2] are the call's, as said there; 0 where nothing is said
@@ -39,7 +41,8 @@
  * No heap, no file, no other library than the C library's memcpy, memmove and memset. Of the
  * stack, whatever the problem:
  *   mogzift_levels_text    109 KiB (64 KiB of graph words, and a build)
- *   mogzift_build          44 KiB
+ *   mogzift_build, _build_within
+ *                          44 KiB
  *   mogzift_page, _plan    under 5 KiB
  *   mogzift_run            under 4 KiB
  *   each other call        under 3 KiB
@@ -66,9 +69,9 @@
  * interfere.
  *
  * REFUSALS
- * The first cause that holds, in the order of this list, of those that the call can have: rising numbers, but 16 and 15
- * behind 5. 1 to 5, 16 and 15 are for the file's writer to mend, 6 to 11 for the caller; 12 and 13 lie in the problem; at
- * 14 someone altered the graph's words.
+ * The first cause that holds, in the order of this list, of those that the call can have: rising numbers, but 16, 15 and
+ * 17 behind 5. 1 to 5, 16 and 15 are for the file's writer to mend, 17 and 6 to 11 for the caller; 12 and 13 lie in the
+ * problem; at 14 someone altered the graph's words.
  *   number                          cause                                                        place
  *    1 MOGZIFT_BAD_HEAD             under 8 bytes, no SAG, or version 2 and under 9 bytes        0
  *    2 MOGZIFT_BAD_VERSION          a version other than 1 and 2                                 3
@@ -77,10 +80,13 @@
  *    5 MOGZIFT_BAD_PROP_SET         a set in the file with bit P or above                        the first such set's offset
  *   16 MOGZIFT_EFFECT_ACTION        version 2: an effect with an action number of A or above     the first such one's offset
  *   15 MOGZIFT_EQUAL_ACTION         version 1: an action with the three sets of an earlier one   the first such one's offset
+ *   17 MOGZIFT_BAD_POSSIBLE_SET     possible_len is not N;                                       N
+ *                                   else a possible set that lacks a sure proposition or has     the first such state's
+ *                                   bit P or above                                               number
  *    6 MOGZIFT_BAD_DEPTH            depth above 255                                              255
  *    7 MOGZIFT_BAD_STATE_SET        set empty, or with bit N or above                            0
  *    8 MOGZIFT_BAD_GOAL             goal with bit P or above                                     0
- *    9 MOGZIFT_SHORT_MEMORY         words_len too small                                          the words needed
+ *    9 MOGZIFT_SHORT_MEMORY         words_len, or a length of one of two graphs, too small       the words needed
  *   10 MOGZIFT_SHORT_OUTPUT         out_len too small                                            the elements needed
  *   11 MOGZIFT_BAD_SEQUENCE         list longer than 65,535; else an action number of A or above 65,535; else its index
  *   12 MOGZIFT_NO_PRECONDITION      a step lacks its precondition in some state of the set       the step's index
@@ -107,7 +113,7 @@ enum {
     MOGZIFT_NOT_BY_DEPTH = 3
 };
 
-/* entries of a page that are no level: what mogzift_page writes beside 0 to 255 */
+/* entries of a page that are no level: what mogzift_page writes beside 0 to 255. mogzift_level_within tells the first two. */
 enum {
     MOGZIFT_ENTRY_NEVER = 256,
     MOGZIFT_ENTRY_NOT_BY_DEPTH = 257,
@@ -131,7 +137,8 @@ enum {
     MOGZIFT_NO_LEVEL = 13,
     MOGZIFT_UNCOVERED = 14,
     MOGZIFT_EQUAL_ACTION = 15,
-    MOGZIFT_EFFECT_ACTION = 16
+    MOGZIFT_EFFECT_ACTION = 16,
+    MOGZIFT_BAD_POSSIBLE_SET = 17
 };
 
 /* The bytes of output that mogzift_levels_text asks for: the longest text's. */
@@ -186,6 +193,8 @@ static inline const char *mogzift_message(size_t number) {
         return "an action, at the place, has the same three sets as an earlier one: leave it out, and count A down";
     case MOGZIFT_EFFECT_ACTION:
         return "an effect, at the place, has an action number of A or above: name only 0 to A - 1, or count A up";
+    case MOGZIFT_BAD_POSSIBLE_SET:
+        return "not N possible sets, or the one at the place lacks a sure proposition or has bit P or above: mend the list";
     default:
         return "no call returns this number";
     }
@@ -204,6 +213,16 @@ size_t mogzift_build(const uint8_t *file, size_t file_len, size_t depth, uint64_
                      uint64_t answer[3]);
 
 /*
+ * Builds the graph for start states of which it is known only what surely holds and what may: the file's states are the
+ * sure sets, and the list has, for each, the possible set, with all that is sure in it. The words and the looks are those
+ * of mogzift_build for the file with the possible sets in the place of its states, and with that file each other call
+ * reads them.
+ * Answered: as mogzift_build. Refused: 1 to 5, 16, 15, 17, 6, 9.
+ */
+size_t mogzift_build_within(const uint8_t *file, size_t file_len, const uint32_t *possible, size_t possible_len,
+                            size_t depth, uint64_t *words, size_t words_len, uint64_t answer[3]);
+
+/*
  * The layer at which the graph rests: the first below the depth whose labels and mutex words are those of the next layer.
  * Answered: answer[1] is the layer. None: no layer is like that. Refused: 1 to 5, 16, 15, 6, 9.
  */
@@ -218,6 +237,19 @@ size_t mogzift_rest(const uint8_t *file, size_t file_len, size_t depth, const ui
  */
 size_t mogzift_level(const uint8_t *file, size_t file_len, size_t depth, uint64_t set, uint32_t goal,
                      const uint64_t *words, size_t words_len, uint64_t answer[3]);
+
+/*
+ * The levels of the goal for the states of the set in two graphs of the file's shape and this depth: in possible_words,
+ * which mogzift_build_within wrote for the possible sets, and in sure_words, which mogzift_build wrote for the file. They
+ * bound what is not known. Whichever states are chosen, each with all of its sure set and nothing outside its possible
+ * set, their level at this depth is no smaller than the first and no larger than the second: if the first is no layer, no
+ * choice has one, and if the second is one, every choice has one. Each is told as an entry of a page is written: the layer,
+ * 0 to 255; MOGZIFT_ENTRY_NEVER; or MOGZIFT_ENTRY_NOT_BY_DEPTH.
+ * Answered: answer[1] is the first level, answer[2] the second. Refused: 1 to 5, 16, 15, 6, 7, 8, 9 (either memory).
+ */
+size_t mogzift_level_within(const uint8_t *file, size_t file_len, size_t depth, uint64_t set, uint32_t goal,
+                            const uint64_t *possible_words, size_t possible_len, const uint64_t *sure_words,
+                            size_t sure_len, uint64_t answer[3]);
 
 /*
  * The levels of a page of goals for the states of the set. Entry i of out is what mogzift_level gives for goal i: the

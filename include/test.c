@@ -41,9 +41,21 @@ static const uint64_t LAMP_WORDS[48] = {
     1, 3, 3, 1, 1, 0                             /* proposition layer 2 */
 };
 
+/* its graph of depth 2 where it may be lit in both states */
+static const uint64_t LIT_WORDS[48] = {
+    1, 2, 3, 0, 0, 0,                            /* proposition layer 0 */
+    1, 2, 1, 2, 3, 0, 1, 0, 0, 0, 0, 0, 0, 0, 0, /* action layer 0 */
+    1, 3, 3, 1, 0, 0,                            /* proposition layer 1 */
+    1, 3, 1, 3, 3, 1, 1, 1, 0, 1, 0, 0, 1, 0, 0, /* action layer 1 */
+    1, 3, 3, 1, 0, 0                             /* proposition layer 2 */
+};
+
 static const char LAMP_TEXT[] = "depth 255 rest 2\n0: 0 1 2\n1: - 0 1\nall: - 1 2\n";
 
 enum { DOOR = 1, DESK = 2, LIT = 4, WALK = 0, LIGHT = 1, BOTH = 3, MARK = 0xA5 };
+
+/* what may hold in the lamp's states: what the file says, and that it is lit */
+static const uint32_t LIT_TOO[3] = {DOOR | LIT, DESK | LIT, 0};
 
 /* a page of goals, one of which is no set of the lamp's propositions */
 enum { GOALS = 5 };
@@ -53,7 +65,9 @@ static const uint32_t PAGE[GOALS] = {DOOR, DESK, 8, LIT, DOOR | LIT};
 static uint8_t file[9 + 4 * 32 + 13 * 32 + 4 * 64 + 1];
 static size_t file_len;
 static uint64_t words[49];
+static uint64_t lit[49];
 static uint64_t deeper[69];
+static uint64_t lit_deeper[69];
 static uint64_t deepest[5361];
 static uint64_t words_out[49];
 static uint32_t sets_out[4];
@@ -120,6 +134,11 @@ static size_t build(size_t depth, size_t len) {
     return mogzift_build(file, file_len, depth, words_out, len, answer);
 }
 
+static size_t build_within(const uint32_t *possible, size_t sets, size_t depth, size_t len) {
+    mark();
+    return mogzift_build_within(file, file_len, possible, sets, depth, words_out, len, answer);
+}
+
 static size_t rest(size_t depth, const uint64_t *graph, size_t len) {
     mark();
     return mogzift_rest(file, file_len, depth, graph, len, answer);
@@ -128,6 +147,12 @@ static size_t rest(size_t depth, const uint64_t *graph, size_t len) {
 static size_t level(size_t depth, uint64_t set, uint32_t goal, const uint64_t *graph, size_t len) {
     mark();
     return mogzift_level(file, file_len, depth, set, goal, graph, len, answer);
+}
+
+static size_t level_within(size_t depth, uint64_t set, uint32_t goal, const uint64_t *possible, size_t possible_len,
+                           const uint64_t *sure, size_t sure_len) {
+    mark();
+    return mogzift_level_within(file, file_len, depth, set, goal, possible, possible_len, sure, sure_len, answer);
 }
 
 /* a page of so many of the goals */
@@ -183,6 +208,72 @@ static void looks(void) {
     /* one that is turned away tells its place */
     CHECK(refused(build(1, 26), MOGZIFT_SHORT_MEMORY, 27));
     CHECK(refused(build(256, 49), MOGZIFT_BAD_DEPTH, 255));
+}
+
+/* Builds for two possible sets. */
+static size_t build_for(uint32_t first, uint32_t second, size_t depth, size_t len) {
+    uint32_t possible[2];
+    size_t code;
+    possible[0] = first;
+    possible[1] = second;
+    code = build_within(possible, 2, depth, len);
+    CHECK(possible[0] == first && possible[1] == second);
+    return code;
+}
+
+static void builds_within(void) {
+    static uint64_t other[48];
+    uint8_t *states = file + file_len - 8;
+    CHECK(build_within(LIT_TOO, 2, 2, 49) == 0 && told(MOGZIFT_ANSWERED, 48, 7 + 7) && wrote(48, 0, 0, 0));
+    CHECK(memcmp(words_out, LIT_WORDS, sizeof LIT_WORDS) == 0);
+    CHECK(build_within(LIT_TOO, 2, 2, 48) == 0 && told(MOGZIFT_ANSWERED, 48, 7 + 7) && wrote(48, 0, 0, 0));
+    CHECK(build_within(LIT_TOO, 2, 0, 6) == 0 && told(MOGZIFT_ANSWERED, 6, 0) && wrote(6, 0, 0, 0));
+    CHECK(memcmp(words_out, LIT_WORDS, 6 * sizeof LIT_WORDS[0]) == 0);
+
+    /* as a build for the file with the possible sets in the place of its states */
+    states[0] = DOOR | LIT;
+    states[4] = DESK | LIT;
+    CHECK(mogzift_build(file, file_len, 2, other, 48, answer) == 0 && told(MOGZIFT_ANSWERED, 48, 7 + 7));
+    CHECK(memcmp(other, LIT_WORDS, sizeof other) == 0);
+    states[0] = DOOR;
+    states[4] = DESK;
+    /* with nothing possible that is not sure, as the build */
+    CHECK(build_for(DOOR, DESK, 2, 49) == 0 && told(MOGZIFT_ANSWERED, 48, 12) && wrote(48, 0, 0, 0));
+    CHECK(memcmp(words_out, LAMP_WORDS, sizeof LAMP_WORDS) == 0);
+    /* with everything possible */
+    CHECK(build_for(7, 7, 0, 49) == 0 && told(MOGZIFT_ANSWERED, 6, 0) && wrote(6, 0, 0, 0));
+    CHECK(words_out[0] == BOTH && words_out[1] == BOTH && words_out[2] == BOTH);
+
+    /* the length, which is looked at first */
+    CHECK(refused(build_within(LIT_TOO, 1, 2, 49), MOGZIFT_BAD_POSSIBLE_SET, 2));
+    CHECK(refused(build_within(LIT_TOO, 0, 2, 49), MOGZIFT_BAD_POSSIBLE_SET, 2));
+    CHECK(refused(build_within(LIT_TOO, 3, 2, 49), MOGZIFT_BAD_POSSIBLE_SET, 2));
+    CHECK(refused(build_within(LIT_TOO + 1, 1, 2, 49), MOGZIFT_BAD_POSSIBLE_SET, 2));
+    /* one that lacks a sure proposition, or has bit P or above, or both; the first of two */
+    CHECK(refused(build_for(LIT, DESK, 2, 49), MOGZIFT_BAD_POSSIBLE_SET, 0));
+    CHECK(refused(build_for(DESK, DESK, 2, 49), MOGZIFT_BAD_POSSIBLE_SET, 0));
+    CHECK(refused(build_for(DOOR, DOOR | LIT, 2, 49), MOGZIFT_BAD_POSSIBLE_SET, 1));
+    CHECK(refused(build_for(DOOR, 0, 2, 49), MOGZIFT_BAD_POSSIBLE_SET, 1));
+    CHECK(refused(build_for(DOOR | 8, DESK, 2, 49), MOGZIFT_BAD_POSSIBLE_SET, 0));
+    CHECK(refused(build_for(DOOR, DESK | 0x80000000, 2, 49), MOGZIFT_BAD_POSSIBLE_SET, 1));
+    CHECK(refused(build_for(8, DESK, 2, 49), MOGZIFT_BAD_POSSIBLE_SET, 0));
+    CHECK(refused(build_for(DOOR | 8, 0, 2, 49), MOGZIFT_BAD_POSSIBLE_SET, 0));
+    CHECK(refused(build_for(0, DESK | 8, 2, 49), MOGZIFT_BAD_POSSIBLE_SET, 0));
+
+    /* behind the file's causes, and before 6 and 9 */
+    CHECK(refused(build_within(LIT_TOO, 1, 256, 0), MOGZIFT_BAD_POSSIBLE_SET, 2));
+    CHECK(refused(build_for(DOOR, LIT, 256, 0), MOGZIFT_BAD_POSSIBLE_SET, 1));
+    CHECK(refused(build_for(DOOR | 8, DESK, 2, 0), MOGZIFT_BAD_POSSIBLE_SET, 0));
+    states[4] = DESK | 8;
+    CHECK(refused(build_within(LIT_TOO, 1, 256, 0), MOGZIFT_BAD_PROP_SET, file_len - 4));
+    CHECK(refused(build_for(LIT, DESK | 8, 256, 0), MOGZIFT_BAD_PROP_SET, file_len - 4));
+    states[4] = DESK;
+    file[7] = 1;
+    CHECK(refused(build_within(LIT_TOO, 2, 2, 49), MOGZIFT_BAD_LENGTH, file_len - 4));
+    file[7] = 2;
+    CHECK(refused(build_within(LIT_TOO, 2, 256, 0), MOGZIFT_BAD_DEPTH, 255));
+    CHECK(refused(build_within(LIT_TOO, 2, 2, 47), MOGZIFT_SHORT_MEMORY, 48));
+    CHECK(refused(build_within(LIT_TOO, 2, 2, 0), MOGZIFT_SHORT_MEMORY, 48));
 }
 
 /* The causes of the file's writer: a byte of the file is another, or its length. */
@@ -266,10 +357,14 @@ static void equal_actions(void) {
     memcpy(file + 20, file + 8, 12);
     CHECK(refused(build(2, 49), MOGZIFT_EQUAL_ACTION, 20));
     CHECK(refused(build(256, 0), MOGZIFT_EQUAL_ACTION, 20));
+    CHECK(refused(build_within(LIT_TOO, 2, 2, 49), MOGZIFT_EQUAL_ACTION, 20));
+    CHECK(refused(build_within(LIT_TOO, 1, 256, 0), MOGZIFT_EQUAL_ACTION, 20));
     CHECK(refused(rest(2, words, 48), MOGZIFT_EQUAL_ACTION, 20));
     CHECK(refused(rest(256, words, 0), MOGZIFT_EQUAL_ACTION, 20));
     CHECK(refused(level(2, BOTH, LIT, words, 48), MOGZIFT_EQUAL_ACTION, 20));
     CHECK(refused(level(256, 0, 8, words, 0), MOGZIFT_EQUAL_ACTION, 20));
+    CHECK(refused(level_within(2, BOTH, LIT, lit, 48, words, 48), MOGZIFT_EQUAL_ACTION, 20));
+    CHECK(refused(level_within(256, 0, 8, lit, 0, words, 0), MOGZIFT_EQUAL_ACTION, 20));
     CHECK(refused(page(2, BOTH, GOALS, words, 48, GOALS), MOGZIFT_EQUAL_ACTION, 20));
     CHECK(refused(page(256, 0, GOALS, words, 0, 0), MOGZIFT_EQUAL_ACTION, 20));
     CHECK(refused(extract(2, DESK, 48, 49), MOGZIFT_EQUAL_ACTION, 20));
@@ -301,6 +396,34 @@ static void rests_and_levels(void) {
     CHECK(refused(level(2, 4, LIT, words, 48), MOGZIFT_BAD_STATE_SET, 0));
     CHECK(refused(level(2, BOTH, 8, words, 48), MOGZIFT_BAD_GOAL, 0));
     CHECK(refused(level(2, BOTH, LIT, words, 47), MOGZIFT_SHORT_MEMORY, 48));
+}
+
+/* Lit or not at the start: the levels lie between those with the lamp lit and those with it not lit. */
+static void levels_within(void) {
+    enum { NEVER = MOGZIFT_ENTRY_NEVER, NOT_YET = MOGZIFT_ENTRY_NOT_BY_DEPTH };
+    CHECK(answered(level_within(2, BOTH, LIT, lit, 48, words, 48), MOGZIFT_ANSWERED, 0, 2));
+    CHECK(answered(level_within(2, DESK, LIT, lit, 48, words, 48), MOGZIFT_ANSWERED, 0, 1));
+    CHECK(answered(level_within(2, BOTH, DESK, lit, 48, words, 48), MOGZIFT_ANSWERED, 1, 1));
+    CHECK(answered(level_within(2, BOTH, DESK | LIT, lit, 48, words, 48), MOGZIFT_ANSWERED, 1, 2));
+    CHECK(answered(level_within(2, BOTH, 0, lit, 48, words, 48), MOGZIFT_ANSWERED, 0, 0));
+    CHECK(answered(level_within(2, DOOR, DOOR | LIT, lit, 48, words, 48), MOGZIFT_ANSWERED, 0, NOT_YET));
+    CHECK(answered(level_within(3, DOOR, DOOR | LIT, lit_deeper, 69, deeper, 69), MOGZIFT_ANSWERED, 0, NEVER));
+    CHECK(answered(level_within(2, BOTH, DOOR, lit, 48, words, 48), MOGZIFT_ANSWERED, NEVER, NOT_YET));
+    CHECK(answered(level_within(3, BOTH, DOOR, lit_deeper, 69, deeper, 69), MOGZIFT_ANSWERED, NEVER, NEVER));
+    CHECK(answered(level_within(0, BOTH, DOOR, lit, 6, words, 6), MOGZIFT_ANSWERED, NOT_YET, NOT_YET));
+    /* each in its own words: both in the same, and the other way round */
+    CHECK(answered(level_within(2, BOTH, LIT, words, 48, words, 48), MOGZIFT_ANSWERED, 2, 2));
+    CHECK(answered(level_within(2, BOTH, LIT, words, 48, lit, 48), MOGZIFT_ANSWERED, 2, 0));
+    CHECK(answered(level_within(2, DOOR, DOOR | LIT, words, 49, lit, 49), MOGZIFT_ANSWERED, NOT_YET, 0));
+
+    CHECK(refused(level_within(256, 0, 8, lit, 0, words, 0), MOGZIFT_BAD_DEPTH, 255));
+    CHECK(refused(level_within(2, 0, 8, lit, 47, words, 47), MOGZIFT_BAD_STATE_SET, 0));
+    CHECK(refused(level_within(2, 4, LIT, lit, 48, words, 48), MOGZIFT_BAD_STATE_SET, 0));
+    CHECK(refused(level_within(2, BOTH, 8, lit, 47, words, 47), MOGZIFT_BAD_GOAL, 0));
+    CHECK(refused(level_within(2, BOTH, LIT, lit, 47, words, 48), MOGZIFT_SHORT_MEMORY, 48));
+    CHECK(refused(level_within(2, BOTH, LIT, lit, 48, words, 47), MOGZIFT_SHORT_MEMORY, 48));
+    CHECK(refused(level_within(2, BOTH, LIT, lit, 47, words, 47), MOGZIFT_SHORT_MEMORY, 48));
+    CHECK(refused(level_within(2, BOTH, 0, lit, 0, words, 0), MOGZIFT_SHORT_MEMORY, 48));
 }
 
 static void pages(void) {
@@ -444,8 +567,10 @@ static void effects_of_no_action(void) {
 
     /* every call */
     CHECK(refused(build(256, 0), MOGZIFT_EFFECT_ACTION, FIRST_EFFECT));
+    CHECK(refused(build_within(LIT_TOO, 1, 256, 0), MOGZIFT_EFFECT_ACTION, FIRST_EFFECT));
     CHECK(refused(rest(256, words, 0), MOGZIFT_EFFECT_ACTION, FIRST_EFFECT));
     CHECK(refused(level(256, 0, 8, words, 0), MOGZIFT_EFFECT_ACTION, FIRST_EFFECT));
+    CHECK(refused(level_within(256, 0, 8, lit, 0, words, 0), MOGZIFT_EFFECT_ACTION, FIRST_EFFECT));
     CHECK(refused(page(256, 0, GOALS, words, 0, 0), MOGZIFT_EFFECT_ACTION, FIRST_EFFECT));
     CHECK(refused(extract(256, 0, 0, 0), MOGZIFT_EFFECT_ACTION, FIRST_EFFECT));
     CHECK(refused(run(0, list, 1, 0), MOGZIFT_EFFECT_ACTION, FIRST_EFFECT));
@@ -591,27 +716,32 @@ static void effect_counts(void) {
 static void messages(void) {
     size_t i, j;
     CHECK(strcmp(mogzift_message(0), "accepted") == 0);
-    for (i = 0; i <= MOGZIFT_EFFECT_ACTION + 1; i++) {
+    for (i = 0; i <= MOGZIFT_BAD_POSSIBLE_SET + 1; i++) {
         CHECK(strlen(mogzift_message(i)) > 0);
         for (j = 0; j < i; j++) {
             CHECK(strcmp(mogzift_message(i), mogzift_message(j)) != 0);
         }
     }
-    CHECK(strcmp(mogzift_message((size_t)-1), mogzift_message(MOGZIFT_EFFECT_ACTION + 1)) == 0);
+    CHECK(strcmp(mogzift_message((size_t)-1), mogzift_message(MOGZIFT_BAD_POSSIBLE_SET + 1)) == 0);
 }
 
 int main(void) {
     put(LAMP, sizeof LAMP);
     memset(words, MARK, sizeof words);
     memcpy(words, LAMP_WORDS, sizeof LAMP_WORDS);
+    memset(lit, MARK, sizeof lit);
+    memcpy(lit, LIT_WORDS, sizeof LIT_WORDS);
     /* with one layer more the graph rests */
     CHECK(mogzift_words(3, 2, 3) == 69);
     CHECK(mogzift_build(file, file_len, 3, deeper, 69, answer) == 0);
+    CHECK(mogzift_build_within(file, file_len, LIT_TOO, 2, 3, lit_deeper, 69, answer) == 0);
     builds();
     looks();
+    builds_within();
     files();
     equal_actions();
     rests_and_levels();
+    levels_within();
     pages();
     extracts();
     runs();
@@ -625,9 +755,11 @@ int main(void) {
     put(LAMP_2, sizeof LAMP_2);
     builds();
     looks();
+    builds_within();
     files_2();
     effects_of_no_action();
     rests_and_levels();
+    levels_within();
     pages();
     extracts();
     runs_2();
@@ -640,6 +772,8 @@ int main(void) {
 
     /* what was lent for reading only */
     CHECK(memcmp(words, LAMP_WORDS, sizeof LAMP_WORDS) == 0 && marked_from(words, sizeof words, sizeof LAMP_WORDS));
-    printf("the lamp through 9 calls, in both versions: %d checks, %d failed\n", checks, failures);
+    CHECK(memcmp(lit, LIT_WORDS, sizeof LIT_WORDS) == 0 && marked_from(lit, sizeof lit, sizeof LIT_WORDS));
+    CHECK(LIT_TOO[0] == (DOOR | LIT) && LIT_TOO[1] == (DESK | LIT) && LIT_TOO[2] == 0);
+    printf("the lamp through 11 calls, in both versions: %d checks, %d failed\n", checks, failures);
     return failures == 0 ? 0 : 1;
 }

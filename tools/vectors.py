@@ -11,19 +11,22 @@ The script reads them as text and knows nothing of what a call does. It writes c
 - A file is: how many cases of each kind it holds, a number for each kind; the store's length, a number;
   the store's bytes; the cases, each a row of numbers. What is no number stands in the store, once, and
   a case has two numbers for it, where it starts in the store and how many bytes it has.
-- calls.bin has seven kinds, in the order of KINDS. A case has the values of CALL in their order, 20 numbers,
-  since `file`, `edits` and `list` are parts of the store. `graph` is 0 where the line has none, 1 for the
-  memory as the build left it, 2 for a fill by `base` and `mask`; `edits` is a row of pairs of numbers, a
-  word's index and what is xored to it; `list` is a run's actions, a byte each, or a page's goals, a row of
-  numbers, how many and then each. `answer` is the answer's place in ANSWERS, `first` and `second` are its
-  numbers. What a line lacks is 0.
+- calls.bin has nine kinds, in the order of KINDS. A case has the values of CALL in their order, 26 numbers,
+  since `file`, `edits`, `list` and `edits2` are parts of the store. `graph` is 0 where the line has none,
+  1 for the memory as the build left it, cut to `words`, 2 for a fill by `base` and `mask`; `edits` is a row
+  of pairs of numbers, a word's index and what is xored to it; `list` is a run's actions, a byte each, or a
+  page's goals or a build's possible sets, a row of numbers, how many and then each. Where a line has two
+  graphs, `words` to `edits` are of the sure sets, and `words2` to `edits2` the same of the possible ones,
+  with the memory as the build for possible sets left it. `answer` is the answer's place in ANSWERS, `first`
+  and `second` are its numbers; of two levels, 256 stands for `never` and 257 for `not-by-depth`. What a line
+  lacks is 0.
 - levels.bin has one kind. A case is three parts of the store: the file's name, its bytes, the text.
 """
 import pathlib
 import re
 import sys
 
-KINDS = ['build', 'rest', 'level', 'extract', 'plan', 'run', 'page']
+KINDS = ['build', 'rest', 'level', 'extract', 'plan', 'run', 'page', 'build-within', 'level-within']
 KEYS = {
     'build': 'file depth words fill',
     'rest': 'file depth words graph',
@@ -32,15 +35,18 @@ KEYS = {
     'plan': 'file depth set goal words graph out fill',
     'run': 'file set list out fill',
     'page': 'file depth set goals words graph out fill',
+    'build-within': 'file possible depth words fill',
+    'level-within': 'file depth set goal words possible words2 sure',
 }
 CALL = ['kind', 'file', 'depth', 'set', 'goal', 'words', 'graph', 'base', 'mask', 'edits', 'list', 'out', 'fill',
-        'answer', 'first', 'second', 'digest']
+        'answer', 'first', 'second', 'digest', 'words2', 'graph2', 'base2', 'mask2', 'edits2']
 ANSWERS = ['refused # #', 'built # looked #', 'rest #', 'none', 'level #', 'never', 'not by depth', 'extracted #',
-           'plan # count #', 'ran #', 'paged #']
+           'plan # count #', 'ran #', 'paged #', 'levels # #']
 
 # The memory that the program has (the same names in crates/vectors/src/calls.rt).
-WORDS, SETS, ENTRIES, GOALS = 60000, 512, 64, 64
-MEMORY = {kind: {'words': WORDS, 'out': {'extract': WORDS, 'page': ENTRIES}.get(kind, SETS)} for kind in KINDS}
+WORDS, SETS, ENTRIES, LISTED = 60000, 512, 64, 64
+OUT = {'extract': WORDS, 'page': ENTRIES}
+MEMORY = {kind: {'words': WORDS, 'words2': WORDS, 'out': OUT.get(kind, SETS)} for kind in KINDS}
 
 
 def number(n):
@@ -72,60 +78,75 @@ def data(counts, store, cases):
     return b''.join(head) + store.bytes + b''.join(cases)
 
 
-def graph(text, words):
-    """`graph=` as numbers; an edit lies within the words that are lent."""
+def graph(text, words, name, built):
+    """A graph as numbers: a fill, or the memory `name`, of which the build above was lent so many words.
+
+    An edit lies within the words that are lent."""
     if text.startswith('fill:'):
         _, base, mask = text.split(':')
-        return {'graph': 2, 'base': int(base), 'mask': int(mask, 16)}
-    built, *edits = text.split('^')
+        return {'words': words, 'graph': 2, 'base': int(base), 'mask': int(mask, 16)}
+    source, *edits = text.split('^')
     pairs = [edit.split(':') for edit in edits]
-    if built != 'built' or any(int(i) >= words for i, _ in pairs):
-        raise ValueError(f'graph={text} over {words} words')
-    return {'graph': 1, 'edits': b''.join(number(int(i)) + number(int(x, 16)) for i, x in pairs)}
+    if source != name or words > built or any(int(i) >= words for i, _ in pairs):
+        raise ValueError(f'graph={text} over {words} of {built} words')
+    return {'words': words, 'graph': 1, 'edits': b''.join(number(int(i)) + number(int(x, 16)) for i, x in pairs)}
 
 
-def goals(text):
-    """`goals=` as a row of numbers, of which the first says how many there are."""
-    some = [] if text == '-' else [int(goal, 16) for goal in text.split(',')]
-    if len(some) > GOALS or any(goal >= 2 ** 32 for goal in some):
-        raise ValueError(f'the program has not so much room: goals={text}')
+def sets(text):
+    """A list of sets as a row of numbers, of which the first says how many there are."""
+    some = [] if text == '-' else [int(one, 16) for one in text.split(',')]
+    if len(some) > LISTED or any(one >= 2 ** 32 for one in some):
+        raise ValueError(f'the program has not so much room: {text}')
     return b''.join(map(number, [len(some), *some]))
 
 
 def answer(text):
+    if text.startswith('levels '):
+        text = text.replace('never', '256').replace('not-by-depth', '257')
     numbers = [int(n) for n in re.findall(r'\d+', text)]
     place = ANSWERS.index(re.sub(r'\d+', '#', text))
     return {'answer': place, 'first': (numbers + [0])[0], 'second': (numbers + [0, 0])[1]}
 
 
+def graphs(kind, given, built):
+    """The graphs of a call; one that a call has alone is that of the file's states, as the sure sets are."""
+    if kind == 'level-within':
+        possible = graph(given['possible'], int(given['words']), 'within', built['build-within'])
+        sure = graph(given['sure'], int(given['words2']), 'built', built['build'])
+        return sure | {key + '2': value for key, value in possible.items()}
+    if 'graph' in given:
+        return graph(given['graph'], int(given['words']), 'built', built['build'])
+    return {}
+
+
 def call(line, built):
-    """A line's values by the names of CALL; `built` is how many words the build above was lent."""
+    """A line's values by the names of CALL; `built` is how many words the last build of each kind was lent."""
     before, after = line.split(' -> ')
     kind, *pairs = before.split(' ')
     given = dict(pair.split('=', 1) for pair in pairs)
     text, _, digest = after.partition(' digest=')
     if list(given) != KEYS[kind].split() or bool(digest) != ('fill' in given):
         raise ValueError(f'keys of {line}')
-    if given.get('graph', '').startswith('built') and int(given['words']) != built:
-        raise ValueError(f'the build above was lent {built} words: {line}')
     case = {'kind': KINDS.index(kind), 'file': octets(given['file'])}
-    case['list'] = goals(given['goals']) if 'goals' in given else octets(given.get('list', '-'))
+    listed = {'page': 'goals', 'build-within': 'possible'}.get(kind)
+    case['list'] = sets(given[listed]) if listed else octets(given.get('list', '-'))
     case |= {key: int(given[key]) for key in ('depth', 'words', 'out', 'fill') if key in given}
     case |= {key: int(given[key], 16) for key in ('set', 'goal') if key in given}
+    case |= graphs(kind, given, built)
     if case.get('goal', 0) >= 2 ** 32 or any(case.get(key, 0) > most for key, most in MEMORY[kind].items()):
         raise ValueError(f'the program has not so much room: {line}')
-    case |= graph(given['graph'], case['words']) if 'graph' in given else {}
     return case | answer(text) | {'digest': int(digest or '0', 16)}
 
 
 def calls(text):
-    store, cases, counts, built = Store(), [], [0] * len(KINDS), None
+    store, cases, counts = Store(), [], [0] * len(KINDS)
+    built = {'build': 0, 'build-within': 0}
     for line in text.splitlines():
         case = call(line, built)
         counts[case['kind']] += 1
-        if KINDS[case['kind']] == 'build':
-            built = case['words']
-        values = [case.get(key, b'' if key == 'edits' else 0) for key in CALL]
+        if KINDS[case['kind']].startswith('build'):
+            built[KINDS[case['kind']]] = case['words']
+        values = [case.get(key, b'' if key.startswith('edits') else 0) for key in CALL]
         cases.append(b''.join(store.part(v) if isinstance(v, bytes) else number(v) for v in values))
     return data(counts, store, cases)
 

@@ -28,6 +28,12 @@
 //! assert_eq!(plan, Ok(mogzift::Plan { level: 2, count: 3 }));
 //! assert_eq!(out, [3, 2]);
 //!
+//! // Whether it is lit is not known: the level of 'lit' is 0 at the least and 2 at the most.
+//! let mut possible = vec![0; 48];
+//! assert_eq!(mogzift::build_within(&file, &[1 | 1 << 2, 2 | 1 << 2], 2, &mut possible).map(|built| built.words), Ok(48));
+//! let levels = mogzift::level_within(&file, 2, 0b11, 1 << 2, &possible, &words);
+//! assert_eq!(levels, Ok(mogzift::Levels { possible: mogzift::Level::At(0), sure: mogzift::Level::At(2) }));
+//!
 //! assert_eq!(mogzift::build(&file, 2, &mut words[..47]), Err(mogzift::Refusal::Memory(48)));
 //! ```
 
@@ -62,6 +68,19 @@ pub enum Level {
     Never,
     /// No layer does, and the graph does not rest.
     NotByDepth,
+}
+
+/// What a goal's level is in two graphs, that of the possible sets and that of the sure sets.
+///
+/// They bound what is not known. Whichever states are chosen, each with all of its sure set and nothing outside its
+/// possible set, their level at this depth is no smaller than the first and no larger than the second: if the first is no
+/// layer, no choice has one, and if the second is one, every choice has one.
+#[derive(Clone, Copy, Debug, PartialEq, Eq, Hash)]
+pub struct Levels {
+    /// The first: the level in the graph of the possible sets.
+    pub possible: Level,
+    /// The second: the level in the graph of the sure sets.
+    pub sure: Level,
 }
 
 /// Where the graph rests.
@@ -108,6 +127,16 @@ mod proved {
             words_len: usize,
             answer: *mut [u64; 3],
         ) -> usize;
+        pub fn mogzift_build_within(
+            file: *const u8,
+            file_len: usize,
+            possible: *const u32,
+            possible_len: usize,
+            depth: usize,
+            words: *mut u64,
+            words_len: usize,
+            answer: *mut [u64; 3],
+        ) -> usize;
         pub fn mogzift_rest(
             file: *const u8,
             file_len: usize,
@@ -124,6 +153,18 @@ mod proved {
             goal: u32,
             words: *const u64,
             words_len: usize,
+            answer: *mut [u64; 3],
+        ) -> usize;
+        pub fn mogzift_level_within(
+            file: *const u8,
+            file_len: usize,
+            depth: usize,
+            set: u64,
+            goal: u32,
+            possible_words: *const u64,
+            possible_len: usize,
+            sure_words: *const u64,
+            sure_len: usize,
             answer: *mut [u64; 3],
         ) -> usize;
         pub fn mogzift_page(
@@ -215,18 +256,43 @@ fn count(answer: (u64, usize, usize)) -> usize {
     }
 }
 
+fn built(answer: (u64, usize, usize)) -> Built {
+    match answer {
+        (ANSWERED, words, looked) => Built { words, looked },
+        _ => unreachable!("{answer:?} of a build"),
+    }
+}
+
 // In each call below the pointers and lengths are those of slices that live as long as the call, and what is written is
 // borrowed alone. The library asks nothing else.
 
 /// Builds the file's graph to the depth, and answers the number of words written and that of the looks.
 pub fn build(file: &[u8], depth: usize, words: &mut [u64]) -> Result<Built, Refusal> {
-    let answer = told(|answer| unsafe {
+    told(|answer| unsafe {
         proved::mogzift_build(file.as_ptr(), file.len(), depth, words.as_mut_ptr(), words.len(), answer)
-    })?;
-    Ok(match answer {
-        (ANSWERED, words, looked) => Built { words, looked },
-        _ => unreachable!("{answer:?} of a build"),
     })
+    .map(built)
+}
+
+/// Builds the graph for start states known within bounds, and answers as [`build`] does.
+///
+/// The file's states are the sure sets, and the list has, for each, the possible set, with all that is sure in it. The
+/// words are those that [`build`] writes for the file with the possible sets in the place of its states, and with that
+/// file each other call reads them. [`level_within`] reads them beside those for the sure sets.
+pub fn build_within(file: &[u8], possible: &[u32], depth: usize, words: &mut [u64]) -> Result<Built, Refusal> {
+    told(|answer| unsafe {
+        proved::mogzift_build_within(
+            file.as_ptr(),
+            file.len(),
+            possible.as_ptr(),
+            possible.len(),
+            depth,
+            words.as_mut_ptr(),
+            words.len(),
+            answer,
+        )
+    })
+    .map(built)
 }
 
 /// The layer at which the graph rests.
@@ -251,6 +317,41 @@ pub fn level(file: &[u8], depth: usize, set: u64, goal: u32, words: &[u64]) -> R
         (NONE, 0, 0) => Level::Never,
         (NOT_BY_DEPTH, 0, 0) => Level::NotByDepth,
         _ => unreachable!("{answer:?} of a level"),
+    })
+}
+
+/// The levels of a goal for a set of states in two graphs: the first one's words are those of [`build_within`], for the
+/// possible sets, the second one's those of [`build`], for the sure sets. [`Levels`] says what they bound.
+pub fn level_within(
+    file: &[u8],
+    depth: usize,
+    set: u64,
+    goal: u32,
+    possible: &[u64],
+    sure: &[u64],
+) -> Result<Levels, Refusal> {
+    let answer = told(|answer| unsafe {
+        proved::mogzift_level_within(
+            file.as_ptr(),
+            file.len(),
+            depth,
+            set,
+            goal,
+            possible.as_ptr(),
+            possible.len(),
+            sure.as_ptr(),
+            sure.len(),
+            answer,
+        )
+    })?;
+    // told as the entries of a page are written
+    let level = |code: usize| match u16::try_from(code).map(entry) {
+        Ok(Ok(level)) => level,
+        _ => unreachable!("{answer:?} of two levels"),
+    };
+    Ok(match answer {
+        (ANSWERED, first, second) => Levels { possible: level(first), sure: level(second) },
+        _ => unreachable!("{answer:?} of two levels"),
     })
 }
 

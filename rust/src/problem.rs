@@ -1,6 +1,7 @@
 //! Problem files put together, and a graph with memory of its own.
 
-use crate::{build, entry, extract, fitting_depth, level, page, plan, rest, word_count, Level, Plan, Refusal, Rest};
+use crate::{build, build_within, entry, extract, fitting_depth, level, level_within, page, plan, rest, word_count};
+use crate::{Level, Levels, Plan, Refusal, Rest};
 
 /// What problems of both versions have: so many propositions, and start states.
 #[derive(Clone, Debug, PartialEq, Eq)]
@@ -302,6 +303,32 @@ impl Graph {
         Ok(Graph { file, depth, words, looked })
     }
 
+    /// The graph for start states known within bounds, of the same depth: this one's states are the sure sets, and these
+    /// are the possible sets, one for each, with all that is sure in it. It counts as built for the file with the possible
+    /// sets in the place of its states, and that is its file.
+    ///
+    /// ```
+    /// use mogzift::{Level, Levels, Problem, Refusal};
+    ///
+    /// # fn main() -> Result<(), Refusal> {
+    /// // The paper's lamp: one is at the door or at the desk, and whether the lamp is lit is not known.
+    /// let sure = Problem::new(3)?.action(1, 2, 1)?.action(2, 4, 0)?.state(1)?.state(2)?.graph(2)?;
+    /// let possible = sure.within(&[1 | 4, 2 | 4])?;
+    /// let levels = sure.level_within(&possible, 0b11, 0b100)?;
+    /// assert_eq!(levels, Levels { possible: Level::At(0), sure: Level::At(2) });
+    ///
+    /// assert_eq!(sure.within(&[1 | 4]), Err(Refusal::PossibleSet(2))); // two states
+    /// assert_eq!(sure.within(&[1, 4]), Err(Refusal::PossibleSet(1))); // one is at the desk, surely
+    /// # Ok(())
+    /// # }
+    /// ```
+    pub fn within(&self, possible: &[u32]) -> Result<Graph, Refusal> {
+        let mut words = vec![0; self.words.len()];
+        let looked = build_within(&self.file, possible, self.depth, &mut words)?.looked;
+        let (rules, _) = self.file.split_at(self.file.len() - 4 * possible.len());
+        Ok(Graph { file: [rules, &bytes_of(possible)].concat(), depth: self.depth, words, looked })
+    }
+
     /// The problem file.
     pub fn file(&self) -> &[u8] {
         &self.file
@@ -330,6 +357,13 @@ impl Graph {
     /// The level of a goal for a set of states.
     pub fn level(&self, set: u64, goal: u32) -> Result<Level, Refusal> {
         level(&self.file, self.depth, set, goal, &self.words)
+    }
+
+    /// The levels of a goal for a set of states in the graph of the possible sets, which [`within`](Graph::within) made of
+    /// this one, and in this one, that of the sure sets. A graph with fewer words than this one is turned away, and one of
+    /// another problem or depth is read as if it were of this one's.
+    pub fn level_within(&self, possible: &Graph, set: u64, goal: u32) -> Result<Levels, Refusal> {
+        level_within(&self.file, self.depth, set, goal, &possible.words, &self.words)
     }
 
     /// The levels of a page of goals for a set of states: of each goal what [`level`](Graph::level) answers.
@@ -709,6 +743,18 @@ mod tests {
         assert_eq!(lamp().graph(3).unwrap().rest(), Ok(Rest::At(2)));
         assert_eq!(lamp().graph(3).unwrap().page(0b01, &[0b101, 0]), Ok(vec![Ok(Level::Never), Ok(Level::At(0))]));
         assert_eq!(lamp().graph(256), Err(Refusal::Depth));
+        let (door, desk, lit) = (1, 2, 4);
+        let possible = graph.within(&[door | lit, desk | lit]).unwrap();
+        let other = Problem::new(3).unwrap().action(1, 2, 1).unwrap().action(2, 4, 0).unwrap();
+        assert_eq!(possible, other.state(door | lit).unwrap().state(desk | lit).unwrap().graph(2).unwrap());
+        let levels = |possible, sure| Ok(Levels { possible, sure });
+        assert_eq!(graph.level_within(&possible, 0b11, lit), levels(Level::At(0), Level::At(2)));
+        assert_eq!(graph.level_within(&possible, 0b01, door | lit), levels(Level::At(0), Level::NotByDepth));
+        assert_eq!(graph.level_within(&possible, 0b11, door), levels(Level::Never, Level::NotByDepth));
+        assert_eq!(graph.level_within(&lamp().graph(1).unwrap(), 0b11, lit), Err(Refusal::Memory(48)));
+        assert_eq!(graph.within(&[door, desk]).as_ref(), Ok(&graph));
+        assert_eq!(graph.within(&[door]), Err(Refusal::PossibleSet(2)));
+        assert_eq!(graph.within(&[door, lit]), Err(Refusal::PossibleSet(1)));
         assert_eq!(Graph::new(LAMP[..39].to_vec(), 2), Err(Refusal::Length(40)));
     }
 }

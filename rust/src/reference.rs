@@ -26,7 +26,8 @@
 
 #![allow(clippy::needless_range_loop)] // an index that several rows share
 
-use crate::{word_count, Built, Level, Plan, Refusal, Rest, ENTRY_GOAL, ENTRY_NEVER, ENTRY_NOT_BY_DEPTH, TEXT_ROOM};
+use crate::{word_count, Built, Level, Levels, Plan, Refusal, Rest, TEXT_ROOM};
+use crate::{ENTRY_GOAL, ENTRY_NEVER, ENTRY_NOT_BY_DEPTH};
 use std::fmt::Write;
 
 /// The members of a set of up to R effects or propositions, rising. R is a power of two, up to 32.
@@ -64,10 +65,16 @@ fn three_sets(bytes: &[u8]) -> [u32; 3] {
     [set_of(bytes), set_of(&bytes[4..]), set_of(&bytes[8..])]
 }
 
+/// The sets of these bytes.
+#[inline]
+fn sets_of(bytes: &[u8]) -> impl ExactSizeIterator<Item = u32> + Clone + '_ {
+    bytes.chunks_exact(4).map(set_of)
+}
+
 /// All sets of these bytes together.
 #[inline]
 fn joined(sets: &[u8]) -> u32 {
-    sets.chunks_exact(4).fold(0, |all, bytes| all | set_of(bytes))
+    sets_of(sets).fold(0, |all, set| all | set)
 }
 
 /// All sets of these effects of version 2 together.
@@ -269,6 +276,19 @@ impl<'a> Problem<'a> {
         first_bits(self.states)
     }
 
+    /// Cause 17.
+    fn check_possible(&self, possible: &[u32]) -> Result<(), Refusal> {
+        if possible.len() != self.states {
+            return Err(Refusal::PossibleSet(self.states));
+        }
+        let outside = !self.all_props();
+        let mut wrong = sets_of(self.starts()).zip(possible).map(|(sure, set)| sure & !set | set & outside);
+        if wrong.clone().fold(0, |all, wrong| all | wrong) != 0 {
+            return Err(Refusal::PossibleSet(wrong.position(|wrong| wrong != 0).unwrap()));
+        }
+        Ok(())
+    }
+
     fn check_set(&self, set: u64) -> Result<(), Refusal> {
         if set == 0 || set & !self.all_states() != 0 {
             return Err(Refusal::StateSet);
@@ -365,16 +385,40 @@ const fn size(n: usize) -> usize {
 
 /// Builds the file's graph to the depth, and answers the number of words written and that of the looks.
 pub fn build(file: &[u8], depth: usize, words: &mut [u64]) -> Result<Built, Refusal> {
-    let problem = Problem::open(file)?;
+    // the problem stays where it was put: to move what was just written takes longer
+    match &Problem::open(file) {
+        Ok(problem) => build_for(problem, problem.starts(), depth, words),
+        Err(why) => Err(*why),
+    }
+}
+
+/// Builds the graph for the possible sets in the place of the file's states, and answers as a build does.
+pub fn build_within(file: &[u8], possible: &[u32], depth: usize, words: &mut [u64]) -> Result<Built, Refusal> {
+    match &Problem::open(file) {
+        Ok(problem) => {
+            problem.check_possible(possible)?;
+            // as they would stand in the file
+            let mut starts = [0; 4 * 64];
+            for (bytes, set) in starts.chunks_exact_mut(4).zip(possible) {
+                bytes.copy_from_slice(&set.to_le_bytes());
+            }
+            build_for(problem, &starts[..4 * possible.len()], depth, words)
+        }
+        Err(why) => Err(*why),
+    }
+}
+
+/// Causes 6 and 9, or the graph for these start states, 4 bytes each.
+fn build_for(problem: &Problem, starts: &[u8], depth: usize, words: &mut [u64]) -> Result<Built, Refusal> {
     check_depth(depth)?;
     let wanted = problem.check_memory(depth, words.len())?;
     let words = &mut words[..wanted];
     let looked = match problem.props.max(problem.effects) {
-        0..=4 => build_graph::<4, 4>(&problem, words),
-        5..=8 => build_graph::<8, 8>(&problem, words),
-        9..=16 => build_graph::<16, 16>(&problem, words),
-        _ if problem.props <= 16 => build_graph::<16, 32>(&problem, words),
-        _ => build_graph::<32, 32>(&problem, words),
+        0..=4 => build_graph::<4, 4>(problem, starts, words),
+        5..=8 => build_graph::<8, 8>(problem, starts, words),
+        9..=16 => build_graph::<16, 16>(problem, starts, words),
+        _ if problem.props <= 16 => build_graph::<16, 32>(problem, starts, words),
+        _ => build_graph::<32, 32>(problem, starts, words),
     };
     Ok(Built { words: wanted, looked })
 }
@@ -382,11 +426,11 @@ pub fn build(file: &[u8], depth: usize, words: &mut [u64]) -> Result<Built, Refu
 /// For each of up to R effects or propositions a row, with a word for each of up to W effects or propositions.
 type Rows<const R: usize, const W: usize> = [[u64; W]; R];
 
-/// All layers, of up to P propositions and up to E effects, into just as many words as they take. E is not below P. The
-/// number of looks.
-fn build_graph<const P: usize, const E: usize>(problem: &Problem, words: &mut [u64]) -> usize {
+/// All layers, of up to P propositions and up to E effects, for these start states, into just as many words as they take. E
+/// is not below P. The number of looks.
+fn build_graph<const P: usize, const E: usize>(problem: &Problem, starts: &[u8], words: &mut [u64]) -> usize {
     let (layer, vertices) = (size(problem.props), size(problem.vertices()));
-    let label: [u64; P] = start_labels(problem.starts());
+    let label: [u64; P] = start_labels(starts);
     let (first, mut rest) = words.split_at_mut(layer);
     first[..problem.props].copy_from_slice(&label[..problem.props]);
     first[problem.props..].fill(0);
@@ -427,7 +471,7 @@ fn build_graph<const P: usize, const E: usize>(problem: &Problem, words: &mut [u
 fn start_labels<const R: usize>(starts: &[u8]) -> [u64; R] {
     let mut label = [0; R];
     for (i, starts) in starts.chunks(4 * 32).enumerate() {
-        let states = turned(starts.chunks_exact(4).map(set_of));
+        let states = turned(sets_of(starts));
         label.iter_mut().zip(states).for_each(|(label, states)| *label |= (states as u64) << (32 * i));
     }
     label
@@ -1123,6 +1167,16 @@ impl<'a> Layers<'a> {
         None
     }
 
+    /// The level of the goal.
+    #[inline(always)]
+    fn level(&self, set: u64, goal: u32) -> Level {
+        match self.first_met(set, goal) {
+            Some(t) => Level::At(t),
+            None if self.rests() => Level::Never,
+            None => Level::NotByDepth,
+        }
+    }
+
     /// The first layer from this one on in which the word is not in the way, or the one behind the last.
     fn passed(&self, from: usize, set: u64, obstacle: &Obstacle) -> usize {
         let mut at = from * self.stride + obstacle.at;
@@ -1164,11 +1218,24 @@ pub fn level(file: &[u8], depth: usize, set: u64, goal: u32, words: &[u64]) -> R
     problem.check_set(set)?;
     problem.check_goal(goal)?;
     let layers = problem.layers(depth, words)?;
-    Ok(match layers.first_met(set, goal) {
-        Some(t) => Level::At(t),
-        None if layers.rests() => Level::Never,
-        None => Level::NotByDepth,
-    })
+    Ok(layers.level(set, goal))
+}
+
+/// The levels of a goal for a set of states in the graph of the possible sets and in that of the sure sets.
+pub fn level_within(
+    file: &[u8],
+    depth: usize,
+    set: u64,
+    goal: u32,
+    possible: &[u64],
+    sure: &[u64],
+) -> Result<Levels, Refusal> {
+    let problem = Problem::open(file)?;
+    check_depth(depth)?;
+    problem.check_set(set)?;
+    problem.check_goal(goal)?;
+    let (possible, sure) = (problem.layers(depth, possible)?, problem.layers(depth, sure)?);
+    Ok(Levels { possible: possible.level(set, goal), sure: sure.level(set, goal) })
 }
 
 /// The words of the widest layer of propositions.

@@ -3,7 +3,7 @@
 use std::fmt;
 
 /// The texts of `mogzift_message` in include/mogzift.h, from number 1 on.
-const MESSAGES: [&str; 16] = [
+const MESSAGES: [&str; 17] = [
     "not a problem file: begin it with SAG, the version and its counts, 8 bytes in all, 9 in version 2",
     "another version: write 1 and 0, or 2 and 0, at offsets 3 and 4",
     "a count is out of range, at the place: 1 to 32 propositions, 0 to 32 actions and effects, 1 to 64 states",
@@ -20,12 +20,13 @@ const MESSAGES: [&str; 16] = [
     "the graph's words were altered, seen at the layer that the place says: build the graph again",
     "an action, at the place, has the same three sets as an earlier one: leave it out, and count A down",
     "an effect, at the place, has an action number of A or above: name only 0 to A - 1, or count A up",
+    "not N possible sets, or the one at the place lacks a sure proposition or has bit P or above: mend the list",
 ];
 
 /// Why a call is turned away: the paper's causes in the order of their numbers, with the place where it varies.
 ///
-/// The first cause that holds is told. They are looked for in the order of their numbers, but 16 and then 15 right
-/// behind 5.
+/// The first cause that holds is told. They are looked for in the order of their numbers, but 16, then 15 and then 17
+/// right behind 5.
 ///
 /// It displays as its [`message`](Refusal::message), number and place.
 #[derive(Clone, Copy, Debug, PartialEq, Eq, Hash)]
@@ -62,10 +63,13 @@ pub enum Refusal {
     EqualAction(usize),
     /// In version 2 an effect has an action number of A or above, with the offset of the first that does.
     EffectAction(usize),
+    /// The possible sets are not N (that number), else one lacks a proposition of its state in the file or has bit P or
+    /// above, with the number of the first such state.
+    PossibleSet(usize),
 }
 
 impl Refusal {
-    /// The paper's number, 1 to 16.
+    /// The paper's number, 1 to 17.
     pub fn number(self) -> usize {
         match self {
             Refusal::Head => 1,
@@ -84,6 +88,7 @@ impl Refusal {
             Refusal::Uncovered(_) => 14,
             Refusal::EqualAction(_) => 15,
             Refusal::EffectAction(_) => 16,
+            Refusal::PossibleSet(_) => 17,
         }
     }
 
@@ -103,7 +108,8 @@ impl Refusal {
             | Refusal::NoLevel(place)
             | Refusal::Uncovered(place)
             | Refusal::EqualAction(place)
-            | Refusal::EffectAction(place) => place,
+            | Refusal::EffectAction(place)
+            | Refusal::PossibleSet(place) => place,
         }
     }
 
@@ -130,6 +136,7 @@ impl Refusal {
             14 => Refusal::Uncovered(place),
             15 => Refusal::EqualAction(place),
             16 => Refusal::EffectAction(place),
+            17 => Refusal::PossibleSet(place),
             _ => unreachable!("no refusal has the number {number}"),
         };
         assert_eq!(refusal.place(), place, "the place of refusal {number}");

@@ -2,11 +2,13 @@
 //! all lent memory: many problems of both versions, short and long, whole, damaged, with equal actions and with effects of
 //! no action, over built, altered and junk words. What a page of goals says of each is held to the single call for it,
 //! too, the graph of actions to that of the same actions as effects, and the number of a build's looks to a count that
-//! makes each look, where that does not take too long.
+//! makes each look, where that does not take too long. A build for possible sets is held to one for the file that has them
+//! as its states, two levels to the single calls for them, and the levels of states chosen between the sure and the
+//! possible sets to these two.
 //!
 //! Prints how often each kind of answer came up, and fails where one that the paper has never did.
 
-use mogzift::{reference, word_count, Built, Level, Plan, Refusal, Rest, TEXT_ROOM};
+use mogzift::{reference, word_count, Built, Level, Levels, Plan, Refusal, Rest, TEXT_ROOM};
 use std::collections::BTreeMap;
 use std::fmt::Debug;
 use std::time::Instant;
@@ -348,6 +350,33 @@ fn misowned(random: &mut Random, problem: &Problem) -> Vec<u8> {
     }
 }
 
+/// A file that is in order with these start states in the place of its own.
+fn with_states(file: &[u8], states: &[u32]) -> Vec<u8> {
+    let (rules, _) = file.split_at(file.len() - 4 * states.len());
+    [rules, &states.iter().flat_map(|set| set.to_le_bytes()).collect::<Vec<u8>>()].concat()
+}
+
+/// What is wrong with a list of possible sets for a file that is in order, and at which place, looked for bit by bit.
+fn list_wrong(file: &[u8], possible: &[u32]) -> Option<(&'static str, usize)> {
+    let [props, states] = [5, 7].map(|at| file[at] as usize);
+    if possible.len() != states {
+        let what = if possible.len() < states { "too few sets" } else { "too many sets" };
+        return Some((what, states));
+    }
+    let first = file.len() - 4 * states;
+    let sure = |s: usize, p: usize| file[first + 4 * s + p / 8] >> (p % 8) & 1 == 1;
+    let may = |s: usize, p: usize| possible[s] >> p & 1 == 1;
+    for s in 0..states {
+        if (0..props).any(|p| sure(s, p) && !may(s, p)) {
+            return Some(("a set too small", s));
+        }
+        if (props..32).any(|p| may(s, p)) {
+            return Some(("a set with bit P", s));
+        }
+    }
+    None
+}
+
 // ---- looks, one by one
 
 /// A count of looks that may take more than so many steps, one for each two propositions and two vertices, is not made.
@@ -418,7 +447,7 @@ fn looks(file: &[u8], depth: usize, words: &[u64]) -> Option<usize> {
 
 // ---- the two versions side by side
 
-const REFUSED: [&str; 16] = [
+const REFUSED: [&str; 17] = [
     "refused 1",
     "refused 2",
     "refused 3",
@@ -435,6 +464,7 @@ const REFUSED: [&str; 16] = [
     "refused 14",
     "refused 15",
     "refused 16",
+    "refused 17",
 ];
 
 /// What an answer is counted as.
@@ -459,6 +489,27 @@ impl Kind for Level {
             Level::Never => "never",
             Level::NotByDepth => "not by depth",
         }
+    }
+}
+
+impl Kind for Levels {
+    fn kind(&self) -> &'static str {
+        match (self.possible, self.sure) {
+            (Level::At(first), Level::At(second)) if first == second => "equal levels",
+            (Level::At(_), Level::At(_)) => "two levels",
+            (Level::At(_), _) => "the first only",
+            (_, Level::At(_)) => "the second only",
+            _ => "no level",
+        }
+    }
+}
+
+/// What a list of possible sets is.
+struct List(&'static str);
+
+impl Kind for List {
+    fn kind(&self) -> &'static str {
+        self.0
     }
 }
 
@@ -554,6 +605,9 @@ struct Tally {
     calls: usize,
     /// The builds whose looks were made one by one, too.
     looked: usize,
+    /// The levels of chosen states that were held to two others, and those of them that could be another one's.
+    chosen: usize,
+    loose: usize,
     kinds: BTreeMap<(usize, &'static str, &'static str), usize>,
     places: BTreeMap<(usize, usize, usize), usize>,
 }
@@ -626,6 +680,31 @@ impl Tally {
         (proved, answer.ok().map(|built| built.looked))
     }
 
+    /// The words. What is answered and written is held to what a build answers and writes for the file with the possible
+    /// sets in the place of its states, if the file and the list are in order.
+    fn build_within(&mut self, file: &[u8], possible: &[u32], depth: usize, before: Vec<u64>) -> Vec<u64> {
+        let input = || format!("possible {possible:x?}, depth {depth}, {} words, file {file:02x?}", before.len());
+        let (mut proved, mut plain, mut single) = (before.clone(), before.clone(), before.clone());
+        let answer = mogzift::build_within(file, possible, depth, &mut proved);
+        let other = reference::build_within(file, possible, depth, &mut plain);
+        self.compare("build_within", file, answer, other, input);
+        self.memory("build_within", &before, &proved, &plain, answer.map_or(0, |built| built.words), input);
+        let wanted = match mogzift::fitting_depth(file, 0) {
+            Err(Refusal::Memory(_)) => {
+                let wrong = list_wrong(file, possible);
+                self.count("list", file, &Ok(List(wrong.map_or("possible sets", |(what, _)| what))));
+                match wrong {
+                    Some((_, place)) => Err(Refusal::PossibleSet(place)),
+                    None => mogzift::build(&with_states(file, possible), depth, &mut single),
+                }
+            }
+            other => other.map(|depth| unreachable!("depth {depth} in no words")),
+        };
+        assert!(answer == wanted, "build_within {answer:?}, wanted {wanted:?}; {}", input());
+        assert!(proved == single, "build_within: not the words of a build; {}", input());
+        proved
+    }
+
     fn rest(&mut self, file: &[u8], depth: usize, words: &[u64]) {
         let input = || format!("depth {depth}, file {file:02x?}, words {words:x?}");
         self.compare("rest", file, mogzift::rest(file, depth, words), reference::rest(file, depth, words), input);
@@ -635,6 +714,41 @@ impl Tally {
         let input = || format!("depth {depth}, set {set:x}, goal {goal:x}, file {file:02x?}, words {words:x?}");
         let proved = mogzift::level(file, depth, set, goal, words);
         self.compare("level", file, proved, reference::level(file, depth, set, goal, words), input);
+    }
+
+    /// Each level is held to the single call's over its words, and so is a refusal.
+    fn level_within(&mut self, file: &[u8], depth: usize, set: u64, goal: u32, possible: &[u64], sure: &[u64]) {
+        let input = || {
+            let words = format!("words {possible:x?} and {sure:x?}");
+            format!("depth {depth}, set {set:x}, goal {goal:x}, file {file:02x?}, {words}")
+        };
+        let proved = mogzift::level_within(file, depth, set, goal, possible, sure);
+        let plain = reference::level_within(file, depth, set, goal, possible, sure);
+        self.compare("level_within", file, proved, plain, input);
+        let single = |words: &[u64]| mogzift::level(file, depth, set, goal, words);
+        let wanted = single(possible).and_then(|possible| Ok(Levels { possible, sure: single(sure)? }));
+        assert!(proved == wanted, "level_within {proved:?}, by themselves {wanted:?}; {}", input());
+        if let Ok(Levels { possible, sure }) = proved {
+            [possible, sure].into_iter().for_each(|level| self.count("bound", file, &Ok(level)));
+        }
+    }
+
+    /// The level of states chosen between is no smaller than the first and no larger than the second; no layer is larger
+    /// than any. The calls that answer are compared elsewhere.
+    fn between(&mut self, file: &[u8], levels: Result<Levels, Refusal>, chosen: Result<Level, Refusal>) {
+        let layer = |level: Level| match level {
+            Level::At(t) => t,
+            Level::Never | Level::NotByDepth => usize::MAX,
+        };
+        match (levels, chosen) {
+            (Ok(levels), Ok(chosen)) => {
+                let bounds = layer(levels.possible)..=layer(levels.sure);
+                assert!(bounds.contains(&layer(chosen)), "{chosen:?} is not between {levels:?}; file {file:02x?}");
+                self.chosen += 1;
+                self.loose += (bounds.start() < bounds.end()) as usize;
+            }
+            _ => assert_eq!(levels.err(), chosen.err()),
+        }
     }
 
     fn page(&mut self, file: &[u8], depth: usize, set: u64, goals: &[u32], words: &[u64], before: Vec<u16>) {
@@ -743,6 +857,39 @@ fn goal_page(random: &mut Random, props: usize) -> Vec<u32> {
     (0..goals).map(|_| goal_set(random, props)).collect()
 }
 
+/// Possible sets for all states, as wide as is drawn.
+fn possible_sets(random: &mut Random, problem: &Problem) -> Vec<u32> {
+    let chance = random.pick(&[0, 1, 2, 4, 8, 16]);
+    problem.starts.iter().map(|start| start | random.bits(problem.props, chance) as u32).collect()
+}
+
+/// Mostly such a list, at times a shorter or longer one, or one with sets that lack something or have too much.
+fn any_list(random: &mut Random, problem: &Problem) -> Vec<u32> {
+    let mut list = possible_sets(random, problem);
+    match random.below(12) {
+        0 => list.truncate(random.below(list.len())),
+        1 => {
+            list.pop();
+        }
+        2 => {
+            let more = random.from(1, 3);
+            list.extend(random.sets(more));
+        }
+        3..=6 => {
+            for _ in 0..random.from(1, 3) {
+                let at = random.below(list.len());
+                match random.below(3) {
+                    0 => list[at] &= random.word() as u32,
+                    1 => list[at] |= u32::MAX << random.from(problem.props - 1, 31),
+                    _ => list[at] ^= 1 << random.below(32),
+                }
+            }
+        }
+        _ => {}
+    }
+    list
+}
+
 fn call_depth(random: &mut Random, depth: usize) -> usize {
     match random.below(40) {
         0 => random.pick(&[256, 257, 1000, 1 << 32, usize::MAX]),
@@ -828,7 +975,7 @@ fn list(random: &mut Random, problem: &Problem, set: u64) -> Vec<u8> {
     list
 }
 
-/// One of the nine calls, over a file whose problem was this before it was changed, if it was.
+/// One of the eleven calls, over a file whose problem was this before it was changed, if it was.
 fn any_call(tally: &mut Tally, random: &mut Random, problem: &Problem, file: &[u8], depth: usize, built: &[u64]) {
     let depth = call_depth(random, depth);
     // a deeper call than was built wants more words than there are; they are not made, so that it is turned away
@@ -837,7 +984,18 @@ fn any_call(tally: &mut Tally, random: &mut Random, problem: &Problem, file: &[u
     let goal = goal_set(random, problem.props);
     let mut words = graph_words(random, problem, built);
     words.truncate(random.room(needed).min(words.len()));
-    match random.below(16) {
+    match random.below(20) {
+        18..=19 => {
+            let mut sure = graph_words(random, problem, built);
+            sure.truncate(random.room(needed).min(sure.len()));
+            tally.level_within(file, depth, set, goal, &words, &sure);
+        }
+        16..=17 => {
+            let list = any_list(random, problem);
+            let room = build_room(random, problem, needed, built);
+            let before = random.words(room);
+            tally.build_within(file, &list, depth, before);
+        }
         14..=15 => {
             let goals = goal_page(random, problem.props);
             let room = random.room(goals.len());
@@ -862,9 +1020,7 @@ fn any_call(tally: &mut Tally, random: &mut Random, problem: &Problem, file: &[u
             tally.run(file, set, &list, before);
         }
         8 => {
-            // of the builds only those that are turned away, or are small: the others were made once
-            let room =
-                if problem.words(1) < 60 { random.room(needed) } else { needed.saturating_sub(1) }.min(built.len() + 5);
+            let room = build_room(random, problem, needed, built);
             let before = random.words(room);
             tally.build(file, depth, before);
         }
@@ -873,6 +1029,30 @@ fn any_call(tally: &mut Tally, random: &mut Random, problem: &Problem, file: &[u
             let before = random.sets(room);
             tally.plan(file, depth, set, goal, &words, before);
         }
+    }
+}
+
+/// Room for a build: only for those that are turned away, or are small, since the others were made once.
+fn build_room(random: &mut Random, problem: &Problem, needed: usize, built: &[u64]) -> usize {
+    let room = if problem.words(1) < 60 { random.room(needed) } else { needed.saturating_sub(1) };
+    room.min(built.len() + 5)
+}
+
+/// The graph for possible sets and one for states chosen between: all that is sure, and of what is possible some. The
+/// levels of several goals, for several sets of states, in all three graphs.
+fn bounds(tally: &mut Tally, random: &mut Random, problem: &Problem, file: &[u8], depth: usize, built: &[u64]) {
+    let possible = possible_sets(random, problem);
+    let between = |(&sure, &set): (&u32, &u32)| sure | set & random.word() as u32;
+    let chosen: Vec<u32> = problem.starts.iter().zip(&possible).map(between).collect();
+    let chosen_file = with_states(file, &chosen);
+    let before = random.words(problem.words(depth));
+    let wider = tally.build_within(file, &possible, depth, before.clone());
+    let (words, _) = tally.build(&chosen_file, depth, before);
+    for _ in 0..10 {
+        let (set, goal) = (state_set(random, problem.starts.len()), goal_set(random, problem.props));
+        tally.level_within(file, depth, set, goal, &wider, built);
+        let levels = mogzift::level_within(file, depth, set, goal, &wider, built);
+        tally.between(file, levels, mogzift::level(&chosen_file, depth, set, goal, &words));
     }
 }
 
@@ -889,6 +1069,9 @@ fn problem_calls(tally: &mut Tally, random: &mut Random) {
         assert!(tally.build(&as_effects.file(), depth, before) == built, "not the same as effects: {file:02x?}");
     }
     let (built, _) = built;
+    if random.one_in(2) {
+        bounds(tally, random, &problem, &file, depth, &built[..problem.words(depth)]);
+    }
     // fewer calls where there are many words to copy for each
     let calls = if built.len() < 20_000 { 30 } else { 6 };
     for _ in 0..calls {
@@ -924,6 +1107,7 @@ fn deepest_calls(tally: &mut Tally, random: &mut Random, problem: &Problem) {
     let (file, depth) = (problem.file(), 255);
     let before = random.words(problem.words(depth));
     let (built, _) = tally.build(&file, depth, before);
+    bounds(tally, random, problem, &file, depth, &built);
     for _ in 0..10 {
         any_call(tally, random, problem, &file, depth, &built);
     }
@@ -931,17 +1115,34 @@ fn deepest_calls(tally: &mut Tally, random: &mut Random, problem: &Problem) {
 
 // ---- what came up
 
-/// An entry is no call: these are the goals of the pages that were accepted.
-const CALLS: [&str; 10] = ["build", "rest", "level", "page", "entry", "extract", "run", "plan", "depth", "text"];
+/// Some are no calls: an entry is a goal of a page that was accepted, a list what was given to a build within bounds whose
+/// file was in order, a bound one of the two levels of a call that was accepted.
+const CALLS: [&str; 14] = [
+    "build",
+    "build_within",
+    "list",
+    "rest",
+    "level",
+    "level_within",
+    "bound",
+    "page",
+    "entry",
+    "extract",
+    "run",
+    "plan",
+    "depth",
+    "text",
+];
 
 fn print_kinds(tally: &Tally, version: usize) {
-    println!("{:<24} {}", format!("version {version}"), CALLS.map(|call| format!("{call:>8}")).concat());
+    println!("{:<24} {}", format!("version {version}"), CALLS.map(|call| format!(" {call:>7}")).concat());
     let mut kinds: Vec<&str> =
         tally.kinds.keys().map(|(_, _, kind)| *kind).filter(|kind| !REFUSED.contains(kind)).collect();
     kinds.sort();
     kinds.dedup();
     for kind in kinds.into_iter().chain(REFUSED) {
-        println!("{kind:<24} {}", CALLS.map(|call| format!("{:>8}", tally.answers(version, call, kind))).concat());
+        let count = |call: &str| format!(" {:>1$}", tally.answers(version, call, kind), call.len().max(7));
+        println!("{kind:<24} {}", CALLS.map(count).concat());
     }
 }
 
@@ -971,6 +1172,8 @@ fn print_places(tally: &Tally) {
             place("16, without an action", 16, |place| place == 9);
             place("16, elsewhere", 16, |place| place > 9);
         }
+        place("17, the first state", 17, |place| place == 0);
+        place("17, a later place", 17, |place| place > 0);
     }
     for (version, what, count) in places {
         println!("version {version}: {what:<24} {count:>8}");
@@ -982,12 +1185,34 @@ fn check_kinds(tally: &Tally, version: usize) {
     for (call, kind) in [
         ("build", "written"),
         ("build", "built without a look"),
+        ("build_within", "written"),
+        ("build_within", "built without a look"),
+        ("build_within", REFUSED[5]),
+        ("build_within", REFUSED[8]),
+        ("list", "possible sets"),
+        ("list", "too few sets"),
+        ("list", "too many sets"),
+        ("list", "a set too small"),
+        ("list", "a set with bit P"),
         ("rest", "layer"),
         ("rest", "none"),
         ("level", "level 0"),
         ("level", "level above 0"),
         ("level", "never"),
         ("level", "not by depth"),
+        ("level_within", "equal levels"),
+        ("level_within", "two levels"),
+        ("level_within", "the first only"),
+        ("level_within", "the second only"),
+        ("level_within", "no level"),
+        ("level_within", REFUSED[5]),
+        ("level_within", REFUSED[6]),
+        ("level_within", REFUSED[7]),
+        ("level_within", REFUSED[8]),
+        ("bound", "level 0"),
+        ("bound", "level above 0"),
+        ("bound", "never"),
+        ("bound", "not by depth"),
         ("page", "written"),
         ("page", "empty page"),
         ("page", REFUSED[9]),
@@ -1013,12 +1238,12 @@ fn check_kinds(tally: &Tally, version: usize) {
     }
     // a file of another version than these is counted as version 1
     let others: &[usize] = if version == 1 { &[16] } else { &[2, 15] };
-    for number in 1..=16 {
+    for number in 1..=17 {
         let count = tally.refusals(version, number, |_| true);
         assert_eq!(count > 0, !others.contains(&number), "version {version}: {count} refused with {number}");
     }
     let own = if version == 1 { 15 } else { 16 };
-    for call in ["build", "rest", "level", "page", "extract", "run", "plan", "depth"] {
+    for call in ["build", "build_within", "rest", "level", "level_within", "page", "extract", "run", "plan", "depth"] {
         assert!(tally.answers(version, call, REFUSED[own - 1]) > 0, "no {call} was refused with {own}");
     }
 }
@@ -1034,9 +1259,11 @@ fn main() {
 
     println!("seed {SEED}: {} calls in {:.1} s, all alike", tally.calls, began.elapsed().as_secs_f64());
     println!("{} builds whose looks were made one by one, too", tally.looked);
+    println!("{} levels of chosen states, {} of them between two levels that differ", tally.chosen, tally.loose);
     [1, 2].into_iter().for_each(|version| print_kinds(&tally, version));
     print_places(&tally);
     assert!(tally.calls >= 100_000, "too few calls");
     assert!(tally.looked >= PROBLEMS / 2, "too few counts of looks");
+    assert!(tally.loose >= PROBLEMS / 2, "too few levels of chosen states");
     [1, 2].into_iter().for_each(|version| check_kinds(&tally, version));
 }

@@ -1,6 +1,6 @@
 //! The C header beside the Rust library: the refusals' numbers and texts, the other numbers, and the C test.
 
-use mogzift::{ConditionalProblem, Level, Plan, Problem, Refusal};
+use mogzift::{ConditionalProblem, Level, Levels, Plan, Problem, Refusal};
 use std::path::Path;
 use std::process::Command;
 use std::thread;
@@ -8,7 +8,7 @@ use std::thread;
 const HEADER: &str = include_str!("../../include/mogzift.h");
 
 /// The refusals by the header's names, in the order of their numbers, each with a place that it can have.
-const REFUSALS: [(&str, Refusal); 16] = [
+const REFUSALS: [(&str, Refusal); 17] = [
     ("MOGZIFT_BAD_HEAD", Refusal::Head),
     ("MOGZIFT_BAD_VERSION", Refusal::Version),
     ("MOGZIFT_BAD_COUNT", Refusal::Count(5)),
@@ -25,6 +25,7 @@ const REFUSALS: [(&str, Refusal); 16] = [
     ("MOGZIFT_UNCOVERED", Refusal::Uncovered(1)),
     ("MOGZIFT_EQUAL_ACTION", Refusal::EqualAction(20)),
     ("MOGZIFT_EFFECT_ACTION", Refusal::EffectAction(17)),
+    ("MOGZIFT_BAD_POSSIBLE_SET", Refusal::PossibleSet(1)),
 ];
 
 /// What stands in the header between these two, once.
@@ -88,8 +89,11 @@ fn a_thread_of_the_headers_stack_makes_the_deepest_calls() {
     let calls = move || {
         for file in files {
             mogzift::build(&file, 40, &mut words).unwrap();
+            mogzift::build_within(&file, &[1], 40, &mut words).unwrap();
             let plan = mogzift::plan(&file, 40, 1, 1 << 31, &words, &mut out).unwrap();
             assert_eq!(plan, Plan { level: 31, count: 31 });
+            let levels = mogzift::level_within(&file, 40, 1, 1 << 31, &words, &words).unwrap();
+            assert_eq!(levels, Levels { possible: Level::At(31), sure: Level::At(31) });
             mogzift::run(&file, 1, &[0, 1, 2], &mut out).unwrap();
             mogzift::levels_text(&file, &mut text).unwrap();
         }

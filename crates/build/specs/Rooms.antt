@@ -5,11 +5,13 @@ use mathlib.Core.List.{List}
 use lib.ListN.{length}
 use Rattle.rules.specs.Lists.{listOver}
 use Rattle.rules.specs.Domain.{condition}
+use Rattle.rules.specs.Shared.{startLabel}
+use Rattle.words.specs.Memory.{putAt}
 use Rattle.words.specs.Rows.{rowLength, tableLength, columnsOf}
 use Rattle.together.specs.Interference.{interferersOf}
 use Rattle.graph.specs.Verdict.{Verdict, accepted, turnedAway}
 use Rattle.graph.specs.Format.{actionsOf}
-use Rattle.graph.specs.Build.{Counted}
+use Rattle.graph.specs.Build.{graphFor, looksFor, Counted}
 use Rattle.graph.specs.declared.format.Counts.{Counts}
 use Rattle.build.specs.declared.BuildAnswer.{BuildAnswer}
 use Rattle.build.specs.declared.BuildAnswer.the-variants as answer
@@ -37,10 +39,19 @@ pub record Read (file : List ℕ) (c : Counts) (needs adds dels owners adders in
   pub adders-are : adders ≡ columnsOf (c .props) adds
   pub interferers-are : interferers ≡ listOver (length needs) (interferersOf needs adds dels owners)
 
+-- the row of labels is that of layer 0 for these start states
+abbrev pub Labels : Counts → (ℕ → ℕ) → List ℕ → Type 0
+Labels c starts labels = labels ≡ listOver rowLength (startLabel (c .states) starts)
+
+-- w is w₀ with the words of the graph in front, for the start states of these labels, and so many are its looks
+abbrev pub Graph : List ℕ → Counts → ℕ → List ℕ → List ℕ → ℕ → List ℕ → Type 0
+Graph file c depth labels w₀ looked w =
+    (starts : ℕ → ℕ) → Labels c starts labels → (w ≡ putAt 0 (graphFor file c starts depth) w₀) × (looked ≡ looksFor file c starts depth)
+
 -- what the code asks of all memory that a build lends
 pub record Rooms (c : Counts) (needs adds dels owners adders interferers labels live t r mates besides spare : List ℕ) : Type 0 where
   pub lists : Empty c needs adds dels owners adders interferers
-  pub no-labels : labels ≡ listOver rowLength (λ p. 0)
+  pub labels-long : length labels ≡ rowLength
   pub live-long : length live ≡ rowLength
   pub t-long : length t ≡ tableLength
   pub r-long : length r ≡ tableLength

@@ -1,37 +1,25 @@
 // The build: the file's graph to a depth, written into lent memory, or the cause for which it is turned away.
 mod copies;
+
+// For the other crates of this repository, which meet what each function asks.
+pub mod over;
 mod problem;
 mod steps;
 
-use crate::copies::copy_rest;
-use crate::problem::many_pairs;
-use crate::problem::read_problem;
-use crate::problem::width_for;
-use crate::steps::steps_until;
-use graph::checks::check_graph;
+use crate::over::build_over;
 use graph::file::FileAnswer;
 use graph::file::check_file;
 use graph::format::Counts;
-use graph::layout::word_count;
-use graph::limits::MAX_EFFECTS;
 use graph::read::start_labels;
-use graph::refusal::Check;
 use graph::refusal::Refusal;
-use layers::start::start;
-use words::sets::States;
 use words::tables::ROW;
-use words::tables::TABLE;
 ghost use mathlib.Core.Path.{_≡_};
-ghost use Prim.Native.Nat.{_≤_};
 ghost use lib.ListN.{length};
-ghost use Rattle.rules.specs.Layer.{wordCount};
-ghost use Rattle.words.specs.Memory.{putAt};
 ghost use Rattle.graph.specs.Verdict.{laid};
-ghost use Rattle.graph.specs.Limits.{maxDepth};
-ghost use Rattle.graph.specs.Format.{shapeIn};
+ghost use Rattle.graph.specs.Format.{startOf};
 ghost use Rattle.graph.specs.File.{Taken};
-ghost use Rattle.graph.specs.Build.{buildTaken, buildRule, graphOf, graphLooks, counted, countRule};
-ghost use Rattle.build.specs.Rooms.{buildVerdict, Rooms};
+ghost use Rattle.graph.specs.Build.{buildFor, buildRule, graphLooks, counted, countRule};
+ghost use Rattle.build.specs.Rooms.{buildVerdict};
 
 // Built: the number of words written, and of the vertices and pairs that the scans looked at.
 pub enum BuildAnswer {
@@ -39,125 +27,15 @@ pub enum BuildAnswer {
     Refused(Refusal),
 }
 
-// Writes the words, with room lent for the lists and tables; how many looks the scans take.
-fn build_in(
-    file: &[u8],
-    c: Counts,
-    depth: usize,
-    words: &mut [u64],
-    needs: &mut [u32],
-    adds: &mut [u32],
-    dels: &mut [u32],
-    owners: &mut [u8],
-    adders: &mut [u64],
-    interferers: &mut [u64],
-    labels: &mut [u64],
-    live: &mut [u64],
-    t: &mut [u64],
-    r: &mut [u64],
-    mates: &mut [u64],
-    besides: &mut [u64],
-    spare: &mut [u64],
-) -> usize
-    requires { ⌜ Taken (now file) c × (depth ≤ maxDepth) × (wordCount (shapeIn c) depth ≤ length (now words)) ⌝ }
-    requires { ⌜ Rooms c (now needs) (now adds) (now dels) (now owners) (now adders) (now interferers) (now labels) (now live) (now t) (now r) (now mates) (now besides) (now spare) ⌝ }
-    ensures { λ looked. ⌜ (now (words .exit) ≡ putAt 0 (graphOf (now (file .entry)) c depth) (now (words .entry))) × (looked ≡ graphLooks (now (file .entry)) c depth) ⌝ }
-{
-    read_problem(
-        file,
-        c,
-        &mut *needs,
-        &mut *adds,
-        &mut *dels,
-        &mut *owners,
-        &mut *adders,
-        &mut *interferers,
-    );
-    start_labels(file, c, &mut *labels);
-    let n = c.props;
-    let width = width_for(n);
-    let span = width_for(c.effects);
-    start(&mut *words, &mut *t, &*labels, &*spare, n, width);
-    let steps = steps_until(
-        &mut *words,
-        n,
-        &needs[..],
-        &adds[..],
-        &dels[..],
-        &adders[..],
-        &interferers[..],
-        States::first(c.states).0,
-        many_pairs(&interferers[..], span),
-        width,
-        span,
-        depth,
-        labels,
-        live,
-        t,
-        r,
-        mates,
-        besides,
-        spare,
-    );
-    copy_rest(words, c.shape(), steps.done, depth);
-    steps.looked
-}
-
-// Writes the words; lists and tables are arrays of this call. How many looks the scans take.
-fn build_words(file: &[u8], c: Counts, depth: usize, words: &mut [u64]) -> usize
-    requires { ⌜ Taken (now file) c × (depth ≤ maxDepth) × (wordCount (shapeIn c) depth ≤ length (now words)) ⌝ }
-    ensures { λ looked. ⌜ (now (words .exit) ≡ putAt 0 (graphOf (now (file .entry)) c depth) (now (words .entry))) × (looked ≡ graphLooks (now (file .entry)) c depth) ⌝ }
-{
-    let p = c.props;
-    let e = c.effects;
-    let mut needs = [0u32; MAX_EFFECTS];
-    let mut adds = [0u32; MAX_EFFECTS];
-    let mut dels = [0u32; MAX_EFFECTS];
-    let mut owners = [0u8; MAX_EFFECTS];
-    let mut adders = [0u64; ROW];
-    let mut interferers = [0u64; ROW];
-    let mut labels = [0u64; ROW];
-    let mut live = [0u64; ROW];
-    let mut t = [0u64; TABLE];
-    let mut r = [0u64; TABLE];
-    let mut mates = [0u64; TABLE];
-    let mut besides = [0u64; TABLE];
-    let mut spare = [0u64; TABLE];
-    build_in(
-        file,
-        c,
-        depth,
-        words,
-        &mut needs[..e],
-        &mut adds[..e],
-        &mut dels[..e],
-        &mut owners[..e],
-        &mut adders[..p],
-        &mut interferers[..e],
-        &mut labels[..],
-        &mut live[..],
-        &mut t[..],
-        &mut r[..],
-        &mut mates[..],
-        &mut besides[..],
-        &mut spare[..],
-    )
-}
-
 // Once the file is taken: causes 6 and 9, or the words.
 fn build_taken(file: &[u8], c: Counts, depth: usize, words: &mut [u64]) -> BuildAnswer
     requires { ⌜ Taken (now file) c ⌝ }
-    ensures { λ r. ⌜ (buildVerdict r ≡ counted (graphLooks (now (file .entry)) c depth) (buildTaken (now (file .entry)) c depth (length (now (words .entry)))))
-        × (now (words .exit) ≡ laid (buildTaken (now (file .entry)) c depth (length (now (words .entry)))) (now (words .entry))) ⌝ }
+    ensures { λ r. ⌜ (buildVerdict r ≡ counted (graphLooks (now (file .entry)) c depth) (buildFor (now (file .entry)) c (startOf (now (file .entry)) c) depth (length (now (words .entry)))))
+        × (now (words .exit) ≡ laid (buildFor (now (file .entry)) c (startOf (now (file .entry)) c) depth (length (now (words .entry)))) (now (words .entry))) ⌝ }
 {
-    let check = check_graph(c, depth, Check::Passed, words.len());
-    match check {
-        Check::Refused(why) => BuildAnswer::Refused(why),
-        Check::Passed => {
-            let looked = build_words(file, c, depth, words);
-            BuildAnswer::Built(word_count(c.shape(), depth), looked)
-        }
-    }
+    let mut labels = [0u64; ROW];
+    start_labels(file, c, &mut labels[..]);
+    build_over(file, c, depth, &mut labels[..], words)
 }
 
 // Builds the file's graph to the depth: the words stand at the front of the memory, and what lies behind them stays. Turned away, no word changes.

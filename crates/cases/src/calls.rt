@@ -11,15 +11,14 @@ use crate::line::number;
 use crate::line::size;
 use crate::show;
 use crate::show::EXTRACTED;
-use crate::show::LEVEL;
-use crate::show::NEVER;
 use crate::show::NONE;
-use crate::show::NOT_BY_DEPTH;
 use crate::show::OUTPUT;
 use crate::show::PAGED;
 use crate::show::RAN;
 use crate::show::RESTS;
 use crate::show::say_graph;
+use crate::show::say_level;
+use crate::show::say_levels;
 use crate::show::say_line;
 use crate::show::say_name;
 use crate::show::say_plan;
@@ -39,10 +38,13 @@ use plan::PlanAnswer;
 use plan::plan;
 use run::RunAnswer;
 use run::run;
+use within::WithinAnswer;
+use within::build_within;
+use within::level_within;
 use words::sets::Props;
 use words::sets::States;
 
-// Where the list of a run and the goals of a page begin, behind the longest file.
+// Where the list of a run, the goals of a page and the possible sets begin, behind the longest file.
 const LIST: usize = 900;
 
 // How many sets there are for a plan or a run, and what each holds before it.
@@ -50,8 +52,8 @@ const SETS: usize = 3;
 
 const FRESH: u32 = 9;
 
-// How many goals there are for a page, one fewer than entries, and what an entry holds before it.
-const GOALS: usize = 5;
+// How many goals there are for a page, one fewer than entries, or possible sets for a build, and what an entry holds before it.
+const LISTED: usize = 5;
 
 const FRESH_ENTRY: u16 = 9;
 
@@ -76,6 +78,38 @@ pub fn build_to(line: &[u8], file: &[u8], words: &mut [u64]) {
     say_built(line, answer);
 }
 
+fn wide(b: u8) -> u32 {
+    b as u32
+}
+
+// Set i of a list, 0 where there are fewer.
+fn set_at(list: &[u8], i: usize) -> u32 {
+    if i < list.len() {
+        return wide(list[i]);
+    }
+    0
+}
+
+// The sets of a list, a byte each.
+fn listed(list: &[u8]) -> [u32; LISTED] {
+    [
+        set_at(list, 0),
+        set_at(list, 1),
+        set_at(list, 2),
+        set_at(list, 3),
+        set_at(list, 4),
+    ]
+}
+
+pub fn build_within_to(line: &[u8], file: &[u8], memory: &[u8], words: &mut [u64]) {
+    let list = cut(memory, LIST, size(line, GOAL));
+    let possible = listed(list);
+    let m = fitting(list.len(), LISTED);
+    let n = fitting(size(line, WORDS), words.len());
+    let answer = build_within(file, &possible[0..m], size(line, DEPTH), &mut words[0..n]);
+    say_built(line, answer);
+}
+
 pub fn rest_of(line: &[u8], file: &[u8], graph: &[u64]) {
     match rest(file, size(line, DEPTH), graph) {
         RestAnswer::At(t) => say_line(RESTS, t),
@@ -92,10 +126,22 @@ pub fn level_of(line: &[u8], file: &[u8], graph: &[u64]) {
         Props(number(line, GOAL)),
         graph,
     ) {
-        LevelAnswer::At(t) => say_line(LEVEL, t),
-        LevelAnswer::Never => say_name(NEVER),
-        LevelAnswer::NotByDepth => say_name(NOT_BY_DEPTH),
+        LevelAnswer::Level(level) => say_level(level),
         LevelAnswer::Refused(why) => say_refusal(why),
+    }
+}
+
+pub fn levels_of(line: &[u8], file: &[u8], possible: &[u64], sure: &[u64]) {
+    match level_within(
+        file,
+        size(line, DEPTH),
+        states(line),
+        Props(number(line, GOAL)),
+        possible,
+        sure,
+    ) {
+        WithinAnswer::Levels(first, second) => say_levels(first, second),
+        WithinAnswer::Refused(why) => say_refusal(why),
     }
 }
 
@@ -152,27 +198,9 @@ pub fn sets_of(letter: u8, line: &[u8], file: &[u8], memory: &[u8], graph: &[u64
     show_output(&out[..], &[0; 0]);
 }
 
-fn wide(b: u8) -> u32 {
-    b as u32
-}
-
-// Goal i of the list, 0 where there are fewer.
-fn goal(list: &[u8], i: usize) -> u32 {
-    if i < list.len() {
-        return wide(list[i]);
-    }
-    0
-}
-
 fn page_to(line: &[u8], file: &[u8], list: &[u8], graph: &[u64], out: &mut [u16]) {
-    let goals = [
-        goal(list, 0),
-        goal(list, 1),
-        goal(list, 2),
-        goal(list, 3),
-        goal(list, 4),
-    ];
-    let n = fitting(list.len(), GOALS);
+    let goals = listed(list);
+    let n = fitting(list.len(), LISTED);
     match page(
         file,
         size(line, DEPTH),

@@ -1,7 +1,8 @@
 // A line of the script: what stands in its columns.
 ghost use Prim.Native.Nat.{_≤_};
 
-// Where the numbers of a line begin, six columns each: bytes of the file, depth, set of states, goal, words of graph memory, elements of output.
+// Where the numbers of a line begin, six columns each: bytes of the file, depth, set of states, goal, words of graph memory, elements of output, which
+// of two graphs are the words of the possible sets.
 pub const FILE: usize = 1;
 
 pub const DEPTH: usize = 7;

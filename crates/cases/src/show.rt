@@ -3,6 +3,7 @@ use bytes::scan::find;
 use graph::refusal::Refusal;
 use graph::refusal::number;
 use graph::refusal::place;
+use level::layers::Level;
 
 pub fn say(text: &[u8]) {
     io::write_all(1, text);
@@ -15,11 +16,11 @@ pub const RESTS: usize = 1;
 
 pub const NONE: usize = 2;
 
-pub const LEVEL: usize = 3;
+const LEVEL: usize = 3;
 
-pub const NEVER: usize = 4;
+const NEVER: usize = 4;
 
-pub const NOT_BY_DEPTH: usize = 5;
+const NOT_BY_DEPTH: usize = 5;
 
 pub const EXTRACTED: usize = 6;
 
@@ -37,7 +38,9 @@ pub const PAGED: usize = 12;
 
 pub const ENTRIES: usize = 13;
 
-const NAMES: usize = 14;
+const LEVELS: usize = 14;
+
+const NAMES: usize = 15;
 
 // How many elements an output has at most.
 pub const OUTPUT: usize = 6;
@@ -56,7 +59,7 @@ fn say_column(names: &[u8], at: usize) {
 pub fn say_name(name: usize) {
     let at = name % NAMES * NAME;
     say_column(
-        b"built ........rest .........none\n.........level ........never\n........not by depth\n.extracted ....ran ..........refused ......plan .........sets: ........no such step\n.paged ........entries: .....",
+        b"built ........rest .........none\n.........level ........never.........not by depth..extracted ....ran ..........refused ......plan .........sets: ........no such step\n.paged ........entries: .....levels .......",
         at,
     );
 }
@@ -65,9 +68,13 @@ fn end_line() {
     say(b"\n");
 }
 
+fn say_number(n: usize) {
+    io::print_decimal(1, n as u64);
+}
+
 // A number and the end of the line.
 fn say_end(n: usize) {
-    io::print_decimal(1, n as u64);
+    say_number(n);
     end_line();
 }
 
@@ -86,7 +93,7 @@ pub fn say_refusal(why: Refusal) {
 // An answer with two numbers, and what the second one is.
 fn say_both(name: usize, first: usize, what: &[u8], second: usize) {
     say_name(name);
-    io::print_decimal(1, first as u64);
+    say_number(first);
     say(what);
     say_end(second);
 }
@@ -97,6 +104,31 @@ pub fn say_graph(words: usize, looked: usize) {
 
 pub fn say_plan(level: usize, count: usize) {
     say_both(PLAN, level, b" count ", count);
+}
+
+// A level by itself: the layer, or that there is none.
+fn say_layer(level: Level) {
+    match level {
+        Level::At(t) => say_number(t),
+        Level::Never => say_name(NEVER),
+        Level::NotByDepth => say_name(NOT_BY_DEPTH),
+    }
+}
+
+pub fn say_level(level: Level) {
+    if let Level::At(_t) = level {
+        say_name(LEVEL);
+    }
+    say_layer(level);
+    end_line();
+}
+
+pub fn say_levels(first: Level, second: Level) {
+    say_name(LEVELS);
+    say_layer(first);
+    say(b", ");
+    say_layer(second);
+    end_line();
 }
 
 // A number and a blank.

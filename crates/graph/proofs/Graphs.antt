@@ -11,7 +11,7 @@ use Rattle.graph.specs.Verdict.{Verdict, accepted, laid}
 use Rattle.graph.specs.Format.{actionsOf, startOf, domainOf, shapeIn}
 use Rattle.graph.specs.File.{Taken, fileRule}
 use Rattle.graph.specs.Checks.{Passed}
-use Rattle.graph.specs.Build.{graphOf, buildTaken, buildRule}
+use Rattle.graph.specs.Build.{graphFor, graphOf, buildFor, buildRule}
 use Rattle.graph.specs.declared.format.Counts.{Counts}
 use Rattle.graph.proofs.Verdicts.{passed-then, accepted-is}
 use Rattle.graph.proofs.Ladder.{taken-means, graph-means}
@@ -21,9 +21,9 @@ pub shape-is : (file : List ℕ) (c : Counts) → shapeOf (domainOf file c) ≡ 
 unfolding domain actionsOf
 shape-is file c = refl
 
-pub graph-long : (file : List ℕ) (c : Counts) (depth : ℕ) → length (graphOf file c depth) ≡ wordCount (shapeIn c) depth
+pub graph-long : (file : List ℕ) (c : Counts) (start : ℕ → ℕ) (depth : ℕ) → length (graphFor file c start depth) ≡ wordCount (shapeIn c) depth
 unfolding domain actionsOf
-graph-long file c depth = length-graph (domainOf file c) (c .states) (startOf file c) depth
+graph-long file c start depth = length-graph (domainOf file c) (c .states) start depth
 
 -- a build that was accepted: the file's counts, what is known of them, and the words
 pub record Accepted (file : List ℕ) (depth room : ℕ) (words : List ℕ) : Type 0 where
@@ -34,7 +34,7 @@ pub record Accepted (file : List ℕ) (depth room : ℕ) (words : List ℕ) : Ty
   pub are : words ≡ graphOf file counts depth
 
 pub build-means : (file : List ℕ) (depth room : ℕ) (words : List ℕ) → buildRule file depth room ≡ accepted words → Accepted file depth room words
-unfolding buildRule buildTaken
+unfolding buildRule buildFor
 build-means file depth room words e =
     let (c, f, e₁) = passed-then (fileRule file) _ words e in
     let (u, g, e₂) = passed-then _ _ words e₁ in

@@ -15,10 +15,11 @@ use Rattle.rules.specs.Lists.{runOver}
 use Rattle.rules.specs.Domain.{SameActions, Domain}
 use Rattle.rules.specs.Layer.{wordCount}
 use Rattle.rules.specs.Shared.{graphWords}
+use Rattle.rules.specs.Scan.{looksIn}
 use Rattle.rules.proofs.Tests.{choose-held, choose-failed, holds-or, same-at}
 use Rattle.rules.proofs.Layers.{length-runOver, run-split}
 use Rattle.rules.proofs.SameDomains.{domain-same}
-use Rattle.rules.proofs.Leaks.{graph-eq}
+use Rattle.rules.proofs.Leaks.{graph-eq, looks-eq}
 use Rattle.words.specs.Width.{propWidth, stateWidth}
 use Rattle.words.specs.Rows.{Inside}
 use Rattle.graph.specs.Limits.{maxDepth}
@@ -27,7 +28,8 @@ use Rattle.graph.specs.Format.{headBytes, longHead, plainVersion, effect
 use Rattle.graph.specs.Format.{letters, version, countsIn, plain, effectAt, whenAt, preAt, setsAt, addAt, delAt, statesAt, stateAt, rightLength}
 use Rattle.graph.specs.Format.{actionsOf, startOf, domainOf, shapeIn, withCount, beforeStates, withStates}
 use Rattle.graph.specs.File.{Ranged, Taken, headOf, versionRule, countsRule, lengthRule, setsRule, actionsRule, fileRule}
-use Rattle.graph.specs.Build.{graphOf, buildTaken, buildRule}
+use Rattle.graph.specs.Checks.{graphRule}
+use Rattle.graph.specs.Build.{graphFor, looksFor, graphLooks, buildFor, buildRule}
 use Rattle.graph.specs.declared.format.Counts.{Counts}
 use Rattle.graph.proofs.Verdicts.{then-accepted}
 use Rattle.graph.proofs.Places.{states-plain, not-plain, states-long, pre-before, sets-before, pre-behind, sets-behind, states-behind}
@@ -71,11 +73,11 @@ bytes-same file c file' n r bytes = record {
 
 -- ---- a build that is accepted
 
-pub build-accepts : (file : List ℕ) (c : Counts) (depth room : ℕ) → fileRule file ≡ accepted c → depth ≤ maxDepth
-    → wordCount (shapeIn c) depth ≤ room → buildRule file depth room ≡ accepted (graphOf file c depth)
-unfolding buildRule buildTaken
-build-accepts file c depth room e d m =
-    then-accepted _ _ c e ∙ then-accepted _ _ tt (graph-of c depth (accepted tt) room (record { deep = d; fine = refl; fits = m }))
+-- for any start states of a file that was taken
+build-accepts : (file : List ℕ) (c : Counts) (start : ℕ → ℕ) (depth room : ℕ) → depth ≤ maxDepth → wordCount (shapeIn c) depth ≤ room
+    → buildFor file c start depth room ≡ accepted (graphFor file c start depth)
+unfolding buildFor
+build-accepts file c start depth room d m = then-accepted _ _ tt (graph-of c depth (accepted tt) room (record { deep = d; fine = refl; fits = m }))
 
 -- ---- a set and its bytes
 
@@ -180,6 +182,10 @@ module _ (file : List ℕ) (c : Counts) (sets : List ℕ) (e : fileRule file ≡
 
   pub with-actions : SameActions (actionsOf (withStates file c sets) (withCount c (length sets))) (actionsOf file c)
   with-actions = bytes-same file c (withStates file c sets) (length sets) (taken .ranged) byte-behind
+
+  with-domain : domainOf (withStates file c sets) (withCount c (length sets)) ≡ domainOf file (withCount c (length sets))
+  unfolding withCount actionsOf preAt setsAt
+  with-domain = domain-same with-actions (taken .sound)
 
   letters-stay : letters (withStates file c sets) ≡ letters file
   unfolding letters
@@ -297,12 +303,58 @@ module _ (file : List ℕ) (c : Counts) (sets : List ℕ) (e : fileRule file ≡
             are = counts-are;
           })
 
-      -- what the build gives for it
+      -- its build is the one for these start states, be it accepted or not, and so are its looks
+      pub with-build : (depth room : ℕ)
+          → buildRule (withStates file c sets) depth room ≡ buildFor file (withCount c (length sets)) (λ s. getD sets s 0) depth room
+      unfolding buildRule buildFor withCount
+      with-build depth room =
+          then-accepted _ _ _ with-taken
+          ∙ ap (λ (l : List ℕ). andThen (graphRule (withCount c (length sets)) depth (accepted tt) room) (λ _. accepted l))
+          (ap (λ (D : Domain). graphWords D (length sets) (startOf (withStates file c sets) (withCount c (length sets))) depth) with-domain
+          ∙ graph-eq _ depth with-starts)
+
+      pub with-looks : (depth : ℕ)
+          → graphLooks (withStates file c sets) (withCount c (length sets)) depth ≡ looksFor file (withCount c (length sets)) (λ s. getD sets s 0) depth
+      unfolding withCount
+      with-looks depth =
+          ap (λ (D : Domain). looksIn D (length sets) (startOf (withStates file c sets) (withCount c (length sets))) depth) with-domain
+          ∙ looks-eq _ depth with-starts
+
       pub with-built : (depth room : ℕ) → depth ≤ maxDepth → wordCount (shapeIn c) depth ≤ room
           → buildRule (withStates file c sets) depth room ≡ accepted (graphWords (domainOf file c) (length sets) (λ s. getD sets s 0) depth)
-      unfolding withCount
-      with-built depth room d m =
-          build-accepts (withStates file c sets) (withCount c (length sets)) depth room with-taken d m
-          ∙ ap accepted
-          (ap (λ (D : Domain). graphWords D (length sets) (startOf (withStates file c sets) (withCount c (length sets))) depth) (domain-same with-actions (taken .sound))
-          ∙ graph-eq (domainOf file c) depth with-starts)
+      unfolding withCount actionsOf preAt setsAt
+      with-built depth room d m = with-build depth room ∙ build-accepts file (withCount c (length sets)) (λ s. getD sets s 0) depth room d m
+
+-- ---- as many start states as the file has, in place of its own
+
+module _ (file : List ℕ) (c : Counts) (sets : List ℕ) (e : fileRule file ≡ accepted c) (long : length sets ≡ c .states) (inside : Inside (c .props) sets) where
+  count-stays : withCount c (length sets) ≡ c
+  unfolding withCount
+  count-stays = ap (λ (n : ℕ). withCount c n) long
+
+  some : 1 ≤ length sets
+  some = omega (arith, long, taken-means file c e .ranged .some-states)
+
+  few : length sets ≤ stateWidth
+  few = omega (arith, long, taken-means file c e .ranged .states)
+
+  pub placed-taken : fileRule (withStates file c sets) ≡ accepted c
+  placed-taken = with-taken file c sets e inside some few ∙ ap accepted count-stays
+
+  pub placed-actions : SameActions (actionsOf (withStates file c sets) c) (actionsOf file c)
+  placed-actions = subst (λ (n : Counts). SameActions (actionsOf (withStates file c sets) n) (actionsOf file c)) count-stays (with-actions file c sets e)
+
+  pub placed-starts : (s : ℕ) → s < c .states → startOf (withStates file c sets) c s ≡ getD sets s 0
+  placed-starts s h =
+      ap (λ (n : Counts). startOf (withStates file c sets) n s) (sym count-stays)
+      ∙ with-starts file c sets e inside s (omega (arith, long))
+
+  pub placed-build : (depth room : ℕ) → buildRule (withStates file c sets) depth room ≡ buildFor file c (λ s. getD sets s 0) depth room
+  placed-build depth room =
+      with-build file c sets e inside some few depth room ∙ ap (λ (n : Counts). buildFor file n (λ s. getD sets s 0) depth room) count-stays
+
+  pub placed-looks : (depth : ℕ) → graphLooks (withStates file c sets) (countsIn (withStates file c sets)) depth ≡ looksFor file c (λ s. getD sets s 0) depth
+  placed-looks depth =
+      ap (λ (n : Counts). graphLooks (withStates file c sets) n depth) (sym (counts-are file c sets e))
+      ∙ with-looks file c sets e inside some few depth
+      ∙ ap (λ (n : Counts). looksFor file n (λ s. getD sets s 0) depth) count-stays

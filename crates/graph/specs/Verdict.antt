@@ -29,6 +29,7 @@ numberOf (cause.NoLevel i) = 13
 numberOf (cause.Uncovered i) = 14
 numberOf (cause.EqualAction i) = 15
 numberOf (cause.EffectAction i) = 16
+numberOf (cause.PossibleSet i) = 17
 
 -- and its place
 abbrev pub placeOf : Refusal → ℕ
@@ -48,6 +49,7 @@ placeOf (cause.NoLevel i) = i
 placeOf (cause.Uncovered i) = i
 placeOf (cause.EqualAction i) = i
 placeOf (cause.EffectAction i) = i
+placeOf (cause.PossibleSet i) = i
 
 -- a call turned away for this cause
 abbrev pub turnedAway : {X : Type 0} → Refusal → Verdict X

@@ -7,10 +7,12 @@ use words::columns::spread;
 use words::members::single;
 use words::sets::Props;
 ghost use mathlib.Core.Path.{_≡_};
-ghost use Prim.Native.Nat.{_<_};
+ghost use Prim.Native.Nat.{_≤_, _<_};
+ghost use lib.ListN.{length};
 ghost use Rattle.rules.specs.Domain as D;
 ghost use Rattle.rules.specs.Lists.{listOver};
 ghost use Rattle.rules.specs.Shared.{startLabel};
+ghost use Rattle.words.specs.Memory.{putAt};
 ghost use Rattle.words.specs.Rows.{rowLength};
 ghost use Rattle.graph.specs.File.{Taken};
 ghost use Rattle.graph.specs.Format.{actionsOf, startOf};
@@ -73,6 +75,16 @@ pub fn start(file: &[u8], c: Counts, s: usize) -> u32
     ensures { λ r. ⌜ r ≡ startOf (now (file .entry)) c s ⌝ }
 {
     set_of(file, c.props, c.actions, c.states, c.state_at(s))
+}
+
+// What every state starts with, at the front of a list.
+pub fn lay_starts(file: &[u8], c: Counts, out: &mut [u32])
+    requires { ⌜ Taken (now file) c × (c .states ≤ length (now out)) ⌝ }
+    ensures { λ r. ⌜ now (out .exit) ≡ putAt 0 (listOver (c .states) (startOf (now (file .entry)) c)) (now (out .entry)) ⌝ }
+{
+    for s in 0..c.states {
+        out[s] = start(file, c, s);
+    }
 }
 
 // The labels of layer 0, in a row of empty words.

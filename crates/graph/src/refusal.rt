@@ -3,7 +3,7 @@ use crate::limits::MAX_DEPTH;
 ghost use mathlib.Core.Path.{_≡_};
 ghost use Rattle.graph.specs.Verdict.{numberOf, placeOf};
 
-// The causes in the order of their numbers, 1 to 16, with the place where it varies.
+// The causes in the order of their numbers, 1 to 17, with the place where it varies.
 pub enum Refusal {
     Head,
     Version,
@@ -21,6 +21,7 @@ pub enum Refusal {
     Uncovered(usize),
     EqualAction(usize),
     EffectAction(usize),
+    PossibleSet(usize),
 }
 
 // What a single check comes to.
@@ -49,6 +50,7 @@ pub fn number(r: Refusal) -> usize
         Refusal::Uncovered(_) => 14,
         Refusal::EqualAction(_) => 15,
         Refusal::EffectAction(_) => 16,
+        Refusal::PossibleSet(_) => 17,
     }
 }
 
@@ -72,5 +74,6 @@ pub fn place(r: Refusal) -> usize
         Refusal::Uncovered(i) => i,
         Refusal::EqualAction(i) => i,
         Refusal::EffectAction(i) => i,
+        Refusal::PossibleSet(i) => i,
     }
 }

@@ -24,22 +24,22 @@ unfolding firstMet
 met-le S k set words goal = first-le _ _
 
 module _ (S : Shape) (k set goal : ℕ) (words : List ℕ) (t : ℕ) (met : t ≡ firstMet S k set goal words) where
-  pub level-at : t ≤ k → accepted (level t) ≡ accepted (levelOf S k set goal words)
+  pub level-at : t ≤ k → level t ≡ levelOf S k set goal words
   unfolding levelOf choose
   level-at h = simp (sym met, below-of {i = t} {j = suc k} (omega arith))
 
-  pub level-none : k < t → accepted (choose (below (firstRest S k words) k) never notByDepth) ≡ accepted (levelOf S k set goal words)
+  pub level-none : k < t → choose (below (firstRest S k words) k) never notByDepth ≡ levelOf S k set goal words
   unfolding levelOf choose
   level-none h = simp (sym met, below-not {i = t} {j = suc k} (omega arith))
 
   module _ (above : k < t) where
-    pub level-never : below (firstRest S k words) k ≡ true → accepted never ≡ accepted (levelOf S k set goal words)
+    pub level-never : below (firstRest S k words) k ≡ true → never ≡ levelOf S k set goal words
     unfolding choose
-    level-never h = ap (λ (b : Bool). accepted (choose b never notByDepth)) (sym h) ∙ level-none above
+    level-never h = ap (λ (b : Bool). choose b never notByDepth) (sym h) ∙ level-none above
 
-    pub level-not-by-depth : below (firstRest S k words) k ≡ false → accepted notByDepth ≡ accepted (levelOf S k set goal words)
+    pub level-not-by-depth : below (firstRest S k words) k ≡ false → notByDepth ≡ levelOf S k set goal words
     unfolding choose
-    level-not-by-depth h = ap (λ (b : Bool). accepted (choose b never notByDepth)) (sym h) ∙ level-none above
+    level-not-by-depth h = ap (λ (b : Bool). choose b never notByDepth) (sym h) ∙ level-none above
 
 module _ (S : Shape) (k : ℕ) (words : List ℕ) (t : ℕ) (rest : t ≡ firstRest S k words) where
   pub rest-at : t < k → accepted (restsAt t) ≡ accepted (restOf S k words)

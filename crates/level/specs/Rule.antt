@@ -8,16 +8,21 @@ use Rattle.graph.specs.Format.{shapeIn}
 use Rattle.graph.specs.File.{fileRule}
 use Rattle.graph.specs.Checks.{askedRule, graphRule}
 use Rattle.graph.specs.declared.format.Counts.{Counts}
+use Rattle.level.specs.declared.layers.Level as C
+use Rattle.level.specs.declared.layers.Level.the-variants as said
 use Rattle.level.specs.declared.LevelAnswer.{LevelAnswer}
 use Rattle.level.specs.declared.LevelAnswer.the-variants as answer
 use Rattle.level.specs.declared.RestAnswer.{RestAnswer}
 use Rattle.level.specs.declared.RestAnswer.the-variants as rested
 
--- what a level's answer says
+-- what a level says, and a level's answer
+abbrev pub levelSaid : C.Level → Level
+levelSaid (said.At t) = level t
+levelSaid said.Never = never
+levelSaid said.NotByDepth = notByDepth
+
 abbrev pub levelVerdict : LevelAnswer → Verdict Level
-levelVerdict (answer.At t) = accepted (level t)
-levelVerdict answer.Never = accepted never
-levelVerdict answer.NotByDepth = accepted notByDepth
+levelVerdict (answer.Level l) = accepted (levelSaid l)
 levelVerdict (answer.Refused why) = turnedAway why
 
 -- what a rest's answer says: 'A call of its own answers its layer, or none.'

@@ -14,6 +14,14 @@ ghost use Rattle.rules.specs.Layer.{size, propsIn};
 ghost use Rattle.rules.specs.Level as L;
 ghost use Rattle.graph.specs.Checks.{Room};
 ghost use Rattle.level.specs.Meets.{Judged, shownAt, PassedOver, sameAt, Both, Begun};
+ghost use Rattle.level.specs.Rule as R;
+
+// What the layers say of a goal.
+pub enum Level {
+    At(usize),
+    Never,
+    NotByDepth,
+}
 
 // How many words are compared at once: at the front of two layers, and behind it.
 const FIRST: usize = 8;
@@ -190,4 +198,19 @@ pub fn rests(words: &[u64], s: Shape, depth: usize) -> bool
         }
     }
     false
+}
+
+// The level over words of this shape: 'never' and 'not by depth' only once no layer meets the goal.
+pub fn level_over(words: &[u64], s: Shape, depth: usize, set: States, goal: Props) -> Level
+    requires { ⌜ Room s depth (now words) ⌝ }
+    ensures { λ r. ⌜ R.levelSaid r ≡ L.levelOf s depth (set .0) (goal .0) (now (words .entry)) ⌝ }
+{
+    let t = first_met(words, s, depth, set, goal);
+    if t <= depth {
+        return Level::At(t);
+    }
+    if rests(words, s, depth) {
+        return Level::Never;
+    }
+    Level::NotByDepth
 }

@@ -4,9 +4,9 @@ mod goal;
 // For the other crates of this repository, which meet what each function asks.
 pub mod layers;
 
-use crate::layers::first_met;
+use crate::layers::Level;
 use crate::layers::first_rest;
-use crate::layers::rests;
+use crate::layers::level_over;
 use graph::checks::check_asked;
 use graph::checks::check_graph;
 use graph::file::FileAnswer;
@@ -25,9 +25,7 @@ ghost use Rattle.graph.specs.Checks.{Room};
 ghost use Rattle.level.specs.Rule as R;
 
 pub enum LevelAnswer {
-    At(usize),
-    Never,
-    NotByDepth,
+    Level(Level),
     Refused(Refusal),
 }
 
@@ -35,21 +33,6 @@ pub enum RestAnswer {
     At(usize),
     None,
     Refused(Refusal),
-}
-
-// The level over words of this shape: 'never' and 'not by depth' only once no layer meets the goal.
-fn level_over(words: &[u64], s: Shape, depth: usize, set: States, goal: Props) -> LevelAnswer
-    requires { ⌜ Room s depth (now words) ⌝ }
-    ensures { λ r. ⌜ R.levelVerdict r ≡ accepted (L.levelOf s depth (set .0) (goal .0) (now (words .entry))) ⌝ }
-{
-    let t = first_met(words, s, depth, set, goal);
-    if t <= depth {
-        return LevelAnswer::At(t);
-    }
-    if rests(words, s, depth) {
-        return LevelAnswer::Never;
-    }
-    LevelAnswer::NotByDepth
 }
 
 // Causes 6 to 9, or the level.
@@ -61,7 +44,7 @@ fn level_taken(c: Counts, depth: usize, set: States, goal: Props, words: &[u64])
     if let Check::Refused(why) = check {
         return LevelAnswer::Refused(why);
     }
-    level_over(words, c.shape(), depth, set, goal)
+    LevelAnswer::Level(level_over(words, c.shape(), depth, set, goal))
 }
 
 // The level of a goal for a set of states.

@@ -4,6 +4,8 @@ use mathlib.Core.List.{List, [], _∷_}
 use Rattle.rules.specs.Level.{Level, level, never, notByDepth, Rest, restsAt, none}
 use Rattle.graph.specs.Verdict.{Verdict, accepted, refused}
 use Rattle.graph.specs.Build.{Counted}
+use Rattle.page.specs.Rule.{entryOf}
+use Rattle.within.specs.Rule.{Levels}
 use Rattle.plan.specs.Plan.{Made}
 
 -- the value returned: 0 where the call is accepted, else the paper's number of the cause
@@ -34,6 +36,10 @@ abbrev pub levelSays : Level → List ℕ
 levelSays (level t) = 1 ∷ t ∷ 0 ∷ []
 levelSays never = 2 ∷ 0 ∷ 0 ∷ []
 levelSays notByDepth = 3 ∷ 0 ∷ 0 ∷ []
+
+-- kind 1: two levels, each as an entry of a page
+abbrev pub levelsSays : Levels → List ℕ
+levelsSays levels = 1 ∷ entryOf (accepted (levels .first)) ∷ entryOf (accepted (levels .second)) ∷ []
 
 -- kind 1: a plan, with its level, which is the number of words it wrote, and how many actions it marks
 abbrev pub planSays : Made → List ℕ

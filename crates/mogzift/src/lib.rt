@@ -1,7 +1,6 @@
 // The calls for C and Rust, over numbers and slices. A slice passes as a pointer and a length, the answer's room as a pointer to three numbers.
 mod tell;
 
-use build::BuildAnswer;
 use build::build;
 use extract::ExtractAnswer;
 use extract::extract;
@@ -20,7 +19,13 @@ use report::levels_text;
 use run::RunAnswer;
 use run::run;
 use tell::tell;
+use tell::tell_build;
+use tell::tell_level;
+use tell::tell_levels;
 use tell::tell_refusal;
+use within::WithinAnswer;
+use within::build_within;
+use within::level_within;
 use words::sets::Props;
 use words::sets::States;
 ghost use mathlib.Core.Path.{_≡_};
@@ -28,13 +33,14 @@ ghost use lib.ListN.{length};
 ghost use Rattle.graph.specs.Verdict.{laid, written};
 ghost use Rattle.graph.specs.Build.{buildRule, countRule};
 ghost use Rattle.level.specs.Rule.{levelRule, restRule};
+ghost use Rattle.within.specs.Rule.{withinRule, countWithin, levelsRule};
 ghost use Rattle.page.specs.Rule.{pageRule};
 ghost use Rattle.extract.specs.Rule.{extractRule};
 ghost use Rattle.run.specs.Run.{runRule};
 ghost use Rattle.plan.specs.Plan.{made, planRule};
 ghost use Rattle.report.specs.Depth.{fittingRule};
 ghost use Rattle.report.specs.Text.{textRule};
-ghost use Rattle.mogzift.specs.Answer.{codeOf, answerOf, countSays, buildSays, restSays, levelSays, planSays, depthSays};
+ghost use Rattle.mogzift.specs.Answer.{codeOf, answerOf, countSays, buildSays, restSays, levelSays, levelsSays, planSays, depthSays};
 
 #[no_mangle]
 pub extern "C" fn mogzift_build(
@@ -47,10 +53,24 @@ pub extern "C" fn mogzift_build(
         × (now (answer .exit) ≡ answerOf buildSays (countRule (now (file .entry)) depth (length (now (words .entry)))))
         × (now (words .exit) ≡ laid (buildRule (now (file .entry)) depth (length (now (words .entry)))) (now (words .entry))) ⌝ }
 {
-    match build(file, depth, words) {
-        BuildAnswer::Built(count, looked) => tell(answer, 1, count, looked),
-        BuildAnswer::Refused(why) => tell_refusal(answer, why),
-    }
+    let built = build(file, depth, words);
+    tell_build(answer, built)
+}
+
+#[no_mangle]
+pub extern "C" fn mogzift_build_within(
+    file: &[u8],
+    possible: &[u32],
+    depth: usize,
+    words: &mut [u64],
+    answer: &mut [u64; 3],
+) -> usize
+    ensures { λ r. ⌜ (r ≡ codeOf (countWithin (now (file .entry)) (now (possible .entry)) depth (length (now (words .entry)))))
+        × (now (answer .exit) ≡ answerOf buildSays (countWithin (now (file .entry)) (now (possible .entry)) depth (length (now (words .entry)))))
+        × (now (words .exit) ≡ laid (withinRule (now (file .entry)) (now (possible .entry)) depth (length (now (words .entry)))) (now (words .entry))) ⌝ }
+{
+    let built = build_within(file, possible, depth, words);
+    tell_build(answer, built)
 }
 
 #[no_mangle]
@@ -83,10 +103,27 @@ pub extern "C" fn mogzift_level(
         × (now (answer .exit) ≡ answerOf levelSays (levelRule (now (file .entry)) depth set goal (now (words .entry)))) ⌝ }
 {
     match level(file, depth, States(set), Props(goal), words) {
-        LevelAnswer::At(t) => tell(answer, 1, t, 0),
-        LevelAnswer::Never => tell(answer, 2, 0, 0),
-        LevelAnswer::NotByDepth => tell(answer, 3, 0, 0),
+        LevelAnswer::Level(found) => tell_level(answer, found),
         LevelAnswer::Refused(why) => tell_refusal(answer, why),
+    }
+}
+
+#[no_mangle]
+pub extern "C" fn mogzift_level_within(
+    file: &[u8],
+    depth: usize,
+    set: u64,
+    goal: u32,
+    possible: &[u64],
+    sure: &[u64],
+    answer: &mut [u64; 3],
+) -> usize
+    ensures { λ r. ⌜ (r ≡ codeOf (levelsRule (now (file .entry)) depth set goal (now (possible .entry)) (now (sure .entry))))
+        × (now (answer .exit) ≡ answerOf levelsSays (levelsRule (now (file .entry)) depth set goal (now (possible .entry)) (now (sure .entry)))) ⌝ }
+{
+    match level_within(file, depth, States(set), Props(goal), possible, sure) {
+        WithinAnswer::Levels(first, second) => tell_levels(answer, first, second),
+        WithinAnswer::Refused(why) => tell_refusal(answer, why),
     }
 }
 

@@ -54,7 +54,7 @@ module _ (c : Counts) (depth set : ℕ) (words : List ℕ) (passed : Passed c de
   unmet-single : depth < firstMet (shapeIn c) depth set goal words
       → unmetEntry (shapeIn c) depth words ≡ entryOf (accepted (levelOf (shapeIn c) depth set goal words))
   unfolding unmetEntry choose
-  unmet-single h = go (below (firstRest (shapeIn c) depth words) depth) ∙ ap entryOf (level-none (shapeIn c) depth set goal words _ refl h)
+  unmet-single h = go (below (firstRest (shapeIn c) depth words) depth) ∙ ap (λ (l : Level). entryOf (accepted l)) (level-none (shapeIn c) depth set goal words _ refl h)
     where
       go : (b : Bool) → choose b neverEntry notByDepthEntry ≡ entryOf (accepted (choose b never notByDepth))
       go true = refl
@@ -63,7 +63,7 @@ module _ (c : Counts) (depth set : ℕ) (words : List ℕ) (passed : Passed c de
   fit-single : goal < 2 ^ c .props → entryBy depth (firstMet (shapeIn c) depth set goal words) (unmetEntry (shapeIn c) depth words)
       ≡ entryOf (accepted (levelOf (shapeIn c) depth set goal words))
   fit-single h = by-cases (decLe (firstMet (shapeIn c) depth set goal words) depth)
-      (λ l. sym (entry-met depth _ _ (λ e. omega arith)) ∙ ap entryOf (level-at (shapeIn c) depth set goal words _ refl l))
+      (λ l. sym (entry-met depth _ _ (λ e. omega arith)) ∙ ap (λ (l : Level). entryOf (accepted l)) (level-at (shapeIn c) depth set goal words _ refl l))
       (λ l. sym (entry-unmet depth _ _ (omega (arith, met-le (shapeIn c) depth set words goal))) ∙ unmet-single (omega arith))
 
   -- the entry that is made is that of what the single call gives

@@ -37,9 +37,9 @@ pub enum PageAnswer {
 }
 
 // The entries that are no level.
-const NEVER: u16 = 256;
+pub const NEVER: u16 = 256;
 
-const NOT_BY_DEPTH: u16 = 257;
+pub const NOT_BY_DEPTH: u16 = 257;
 
 const WIDE_GOAL: usize = 258;
 

@@ -12,10 +12,10 @@ use Rattle.rules.proofs.Layouts.{count-zero}
 use Rattle.words.proofs.Places.{size-small}
 use Rattle.graph.specs.Verdict.{Verdict, accepted, refused, laid}
 use Rattle.graph.specs.Limits.{maxDepth}
-use Rattle.graph.specs.Format.{shapeIn}
+use Rattle.graph.specs.Format.{startOf, shapeIn}
 use Rattle.graph.specs.File.{fileRule}
 use Rattle.graph.specs.Checks.{Small}
-use Rattle.graph.specs.Build.{graphOf, buildTaken, buildRule}
+use Rattle.graph.specs.Build.{graphOf, buildFor, buildRule}
 use Rattle.graph.specs.declared.format.Counts.{Counts}
 use Rattle.graph.proofs.Ladder.{graph-of}
 use Rattle.graph.proofs.Verdicts.{then-accepted}
@@ -30,7 +30,7 @@ zero-room S small = omega (arith, count-zero S, size-small (S .props) (omega (ar
 -- a taken file, at a depth in range that fits, is built
 built : (file : List ℕ) (c : Counts) (depth room : ℕ) → fileRule file ≡ accepted c → depth ≤ maxDepth → wordCount (shapeIn c) depth ≤ room
     → buildRule file depth room ≡ accepted (graphOf file c depth)
-unfolding buildRule buildTaken
+unfolding buildRule buildFor
 built file c depth room e h l =
     then-accepted _ _ c e ∙ then-accepted _ _ tt (graph-of c depth _ room (record { deep = h; fine = refl; fits = l }))
 
@@ -44,7 +44,7 @@ module _ (file : List ℕ) (c : Counts) (S : Shape) (depth count : ℕ) (w w' : 
       let graph : List ℕ = graphOf file c depth in
       ap (take count) (laid-is ∙ ap (λ (r : Verdict (List ℕ)). laid r w)
       (built file c depth (length w) taken deep (subst (λ (s : Shape). wordCount s depth ≤ length w) shape fit)))
-      ∙ take-at graph (drop (length graph) w) count (graph-long file c depth ∙ sym (counts ∙ ap (λ (s : Shape). wordCount s depth) shape))
+      ∙ take-at graph (drop (length graph) w) count (graph-long file c (startOf file c) depth ∙ sym (counts ∙ ap (λ (s : Shape). wordCount s depth) shape))
 
   pub text-of : depth ≡ depthFor S levelsRoom → graphText S (c .states) depth (take count w') ≡ takenText file c
   unfolding takenText

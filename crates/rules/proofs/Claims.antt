@@ -1,6 +1,6 @@
 -- The claims of document 01 about built words: memory that begins with the words of the build, then anything.
 -- Assumes nothing.
-use mathlib.Core.Path.{_≡_, refl, sym, ap, subst, _∙_}
+use mathlib.Core.Path.{_≡_, refl, sym, ap, ap₂, subst, _∙_}
 use mathlib.Core.Bool.{So}
 use mathlib.Core.Logic.{_⊎_, inl, inr, ⊎-elim}
 use mathlib.Core.List.{List}
@@ -8,14 +8,14 @@ use Prim.Native.Nat.{ℕ, suc, _^_, _≤_, _<_}
 use native.Mathlib.Nat.{lt-of-not-le}
 use native.Mathlib.Omega.{arith}
 use lib.ListN.{length, getD}
-use Rattle.rules.specs.Test.{_implies_, below}
+use Rattle.rules.specs.Test.{_implies_, same, below, choose}
 use Rattle.rules.specs.Word.{bit, within}
 use Rattle.rules.specs.Over.{keep, allBelow, firstBelow, greatest}
 use Rattle.rules.specs.Domain.{Domain, shapeOf, Actions, Sound, domain}
-use Rattle.rules.specs.Layer.{propsIn}
+use Rattle.rules.specs.Layer.{size, propsIn}
 use Rattle.rules.specs.Own.{admits, ownStart, ownFrom, ownProps, ownLevel}
 use Rattle.rules.specs.Shared.{propLayer}
-use Rattle.rules.specs.Level.{goalMet, firstMet, firstRest, Rest, restsAt, none, restOf, Level, level, never, notByDepth, levelOf}
+use Rattle.rules.specs.Level.{goalMet, firstMet, layerRests, firstRest, Rest, restsAt, none, restOf, Level, level, never, notByDepth, levelOf}
 use Rattle.rules.specs.Run.{ended, runOf}
 use Rattle.rules.specs.Plan.{planned, stuck, noLevel, planAt, planOf}
 use Rattle.rules.proofs.Tests.{choose-held, choose-failed, implies-of, implies-at, holds-or, below-at, below-fails}
@@ -107,6 +107,19 @@ module _ (D : Domain) (n : ℕ) (start : ℕ → ℕ) (k : ℕ) (words : List �
   -- 'not by depth': not up to the depth
   pub not-by-depth : levelOf (shapeOf D) k set goal words ≡ notByDepth → {u : ℕ} → u ≤ k → AllAdmit D n start set goal u → ⊥
   not-by-depth e {u} h all = unmet (answer-says D k set goal words e .0) h (layer-met u all)
+
+-- what the layers say of a goal does not depend on what lies behind the words of the build
+module _ (D : Domain) (n : ℕ) (start : ℕ → ℕ) (k : ℕ) (words words' : List ℕ) (built : Built D n start k words) (built' : Built D n start k words') where
+  layer-same : {t : ℕ} → t ≤ k → propsIn (shapeOf D) words t ≡ propsIn (shapeOf D) words' t
+  layer-same h = props-in D n start k words built h ∙ sym (props-in D n start k words' built' h)
+
+  pub level-same : (set goal : ℕ) → levelOf (shapeOf D) k set goal words ≡ levelOf (shapeOf D) k set goal words'
+  unfolding levelOf firstMet firstRest layerRests
+  level-same set goal =
+      ap₂ (λ (t r : ℕ). choose (below t (suc k)) (level t) (choose (below r k) never notByDepth))
+      (first-eq (suc k) (λ t h. ap (λ (l : List ℕ). goalMet (D .props) l set goal) (layer-same (omega arith))))
+      (first-eq k (λ t h. ap₂ (λ (l l' : List ℕ). allBelow (size (D .props)) (λ i. same (getD l i 0) (getD l' i 0)))
+      (layer-same (omega arith)) (layer-same (omega arith))))
 
 -- ---- the rest
 

@@ -19,6 +19,7 @@ use graph::limits::MAX_ACTIONS;
 use graph::limits::MAX_EFFECTS;
 use graph::read::added;
 use graph::read::deleted;
+use graph::read::lay_starts;
 use graph::read::precondition;
 use graph::read::start;
 use graph::read::start_labels;
@@ -272,16 +273,6 @@ fn run_effects(file: &[u8], c: Counts, set: States, list: &[u8], out: &mut [u32]
         &mut fired[..],
         out,
     )
-}
-
-// What every state starts with, at the front of the output.
-fn lay_starts(file: &[u8], c: Counts, out: &mut [u32])
-    requires { ⌜ Taken (now file) c × (c .states ≤ length (now out)) ⌝ }
-    ensures { λ r. ⌜ now (out .exit) ≡ putAt 0 (listOver (c .states) (startOf (now (file .entry)) c)) (now (out .entry)) ⌝ }
-{
-    for s in 0..c.states {
-        out[s] = start(file, c, s);
-    }
 }
 
 // The run, once every check is passed. Without a step nothing else need be read.

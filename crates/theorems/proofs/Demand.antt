@@ -1,6 +1,7 @@
 -- What the calls promise together, of what they answer and write themselves: for every accepted file, every depth and memory that the build accepts,
 -- every goal over the file's propositions and every non-empty set S of its states, on memory that begins with the words which the build writes.
--- A call's answer and memory are what its rule says (buildRule and countRule, extractRule, levelRule, runRule, planRule). The setting is that of Setting.
+-- A call's answer and memory are what its rule says (buildRule and countRule, withinRule and countWithin, extractRule, levelRule, levelsRule, runRule,
+-- planRule). The setting is that of Setting.
 -- What is said of a page of goals (pageRule) holds on any memory, and what is said of equal actions and of effects without an action of any file.
 -- Assumes nothing.
 use mathlib.Core.Path.{_≡_, ap, _∙_}
@@ -26,14 +27,15 @@ use Rattle.graph.specs.Format.{countsIn, actionsOf, startOf, domainOf, withCoun
 use Rattle.graph.specs.File.{fileRule}
 use Rattle.graph.specs.Build.{buildRule, countRule}
 use Rattle.graph.specs.declared.format.Counts.{Counts}
-use Rattle.level.specs.Rule.{levelRule}
+use Rattle.level.specs.Rule.{levelRule, restRule}
+use Rattle.within.specs.Rule.{possibleRule, withinRule, countWithin, Levels, levelsRule}
 use Rattle.page.specs.Rule.{entryOf, pageRule}
 use Rattle.extract.specs.Rule.{extractRule, statesOf}
 use Rattle.run.specs.Run.{maxSteps, runRule}
 use Rattle.plan.specs.Plan.{planRule}
 use Rattle.plan.proofs.Built.{plan-accepted}
 use Rattle.theorems.specs.Setting.{Exactly, Found, StatesOf, GoalOf, Each, alone, Largest, EndsWith, Reaches, saidBy, EqualPair, FirstPair}
-use Rattle.theorems.specs.Setting.{ByFired, Makes, Carries, FirstStray, Passes}
+use Rattle.theorems.specs.Setting.{ByFired, Makes, Carries, FirstStray, Passes, Possible, NotPossible, Between}
 use Rattle.theorems.proofs.Founds as founds
 use Rattle.theorems.proofs.Levels as levels
 use Rattle.theorems.proofs.Carried as carried
@@ -45,6 +47,7 @@ use Rattle.theorems.proofs.Pages as pages
 use Rattle.theorems.proofs.Pairs as pairs
 use Rattle.theorems.proofs.Effects as effects
 use Rattle.theorems.proofs.Looks as scans
+use Rattle.theorems.proofs.Within as lists
 
 -- the memory after an accepted build is of this setting
 pub build-leaves : (file : List ℕ) (c : Counts) (depth : ℕ) (memory words : List ℕ) → fileRule file ≡ accepted c
@@ -304,3 +307,77 @@ module _ (file : List ℕ) (c : Counts) (a x : ℕ) where
 pub run-carries : (file : List ℕ) (c : Counts) → fileRule file ≡ accepted c → (set : ℕ) (list ends : List ℕ) (room : ℕ)
     → runRule file set list room ≡ accepted ends → Each set (λ s. Carries (actionsOf file c) list (startOf file c s) (getD ends s 0))
 run-carries file c taken set list ends room = bounds.run-carries file taken set list room
+
+-- ---- 11: start states known within bounds
+
+-- In files of either version. The file's states are the sure sets, `possible` is the lent list.
+module _ (file : List ℕ) (c : Counts) (taken : fileRule file ≡ accepted c) (possible : List ℕ) where
+  -- The list is accepted exactly when it has for each state a set over the file's propositions with all that is sure of it.
+  pub possible-exactly : Exactly (possibleRule file c possible ≡ accepted tt) (Possible file c possible)
+  possible-exactly = lists.possible-exactly file c possible
+
+  -- The build that takes it answers cause 17, at any depth and with any memory, exactly when it is no such list, with this place.
+  pub not-possible-exactly : (depth room place : ℕ)
+      → Exactly (withinRule file possible depth room ≡ refused 17 place) (NotPossible file c possible place)
+  not-possible-exactly = lists.refused-exactly file c possible taken
+
+  module _ (right : Possible file c possible) where
+    -- 'A graph written with the list counts everywhere as built for the file with the possible sets in place of its states': that is what the build writes
+    -- and answers, accepted or not ..
+    pub within-is-build : (depth room : ℕ) → (withinRule file possible depth room ≡ buildRule (withStates file c possible) depth room)
+        × (countWithin file possible depth room ≡ countRule (withStates file c possible) depth room)
+    within-is-build = lists.within-is-build file c possible taken right
+
+    -- .. and the calls that read a graph answer with the file what they answer with that one, on any words.
+    pub within-reads : (depth set goal : ℕ) (goals words : List ℕ) (room : ℕ)
+        → (levelRule file depth set goal words ≡ levelRule (withStates file c possible) depth set goal words)
+        × (restRule file depth words ≡ restRule (withStates file c possible) depth words)
+        × (pageRule file depth set goals words room ≡ pageRule (withStates file c possible) depth set goals words room)
+        × (extractRule file depth set words room ≡ extractRule (withStates file c possible) depth set words room)
+        × (planRule file depth set goal words room ≡ planRule (withStates file c possible) depth set goal words room)
+    within-reads = lists.within-reads file c taken possible right
+
+    -- A choice of states between the sure and the possible sets makes a file that is taken, and built where the file itself is.
+    pub between-builds : (chosen : List ℕ) → Between file c possible chosen → (fileRule (withStates file c chosen) ≡ accepted c)
+        × ((depth room : ℕ) (words : List ℕ) → buildRule file depth room ≡ accepted words
+        → (words' : List ℕ) × (buildRule (withStates file c chosen) depth room ≡ accepted words'))
+    between-builds = lists.between-builds file c taken possible right
+
+  -- The memory after an accepted build with the list is of the setting for the file with the possible sets, and all that is said here holds of it.
+  pub within-leaves : (depth : ℕ) (memory words : List ℕ) → withinRule file possible depth (length memory) ≡ accepted words
+      → Found (withStates file c possible) c depth (laid (withinRule file possible depth (length memory)) memory)
+  within-leaves = lists.within-leaves file c possible taken
+
+-- 'both graphs are lent to the level call': p begins with that of the possible sets, s with that of the sure sets.
+module _ (file : List ℕ) (c : Counts) (depth : ℕ) (possible p s : List ℕ) (right : Possible file c possible)
+    (builtP : Found (withStates file c possible) c depth p) (builtS : Found file c depth s)
+    (set : ℕ) (some : StatesOf c set) (goal : ℕ) (over : GoalOf c goal) where
+  -- 'A goal and a set of states get two level answers', each what the single call answers for its graph.
+  pub levels-answered : (answers : Levels) × (levelsRule file depth set goal p s ≡ accepted answers)
+      × (levelRule (withStates file c possible) depth set goal p ≡ accepted (answers .first)) × (levelRule file depth set goal s ≡ accepted (answers .second))
+  levels-answered = lists.answered builtS builtP some over
+
+  module _ (answers : Levels) (answered : levelsRule file depth set goal p s ≡ accepted answers) where
+    -- 'For any choice of states lying between', with m that begins with the words built for the file of these states at that depth ..
+    module _ (chosen : List ℕ) (between : Between file c possible chosen) (m : List ℕ) (builtM : Found (withStates file c chosen) c depth m) where
+      -- .. 'the level at that depth is no smaller than the first answer' ..
+      pub first-bounds : (t : ℕ) → levelRule (withStates file c chosen) depth set goal m ≡ accepted (level t)
+          → (u : ℕ) × (answers .first ≡ level u) × (u ≤ t)
+      first-bounds = lists.first-bounds right between builtP builtS builtM some over answers answered
+
+      -- .. 'and no larger than the second'.
+      pub second-bounds : (t : ℕ) → answers .second ≡ level t
+          → (u : ℕ) × (levelRule (withStates file c chosen) depth set goal m ≡ accepted (level u)) × (u ≤ t)
+      second-bounds = lists.second-bounds right between builtP builtS builtM some over answers answered
+
+      -- 'If the first has no layer, none has' ..
+      pub none-has : ((u : ℕ) → answers .first ≡ level u → ⊥) → (t : ℕ) → levelRule (withStates file c chosen) depth set goal m ≡ accepted (level t) → ⊥
+      none-has none t e = let (u, q, l) = first-bounds t e in none u q
+
+      -- .. 'if the second has one, all have.'
+      pub all-have : (t : ℕ) → answers .second ≡ level t → (u : ℕ) × (levelRule (withStates file c chosen) depth set goal m ≡ accepted (level u))
+      all-have t e = let (u, q, l) = second-bounds t e in (u, q)
+
+    -- Where each possible set is the sure one, both answers are the same.
+    pub same-answers : ((i : ℕ) → i < c .states → getD possible i 0 ≡ startOf file c i) → answers .first ≡ answers .second
+    same-answers same = lists.same-answers file c (builtS .taken) possible right same builtP builtS some over answers answered

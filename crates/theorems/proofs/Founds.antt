@@ -43,7 +43,7 @@ module _ {file : List ℕ} {c : Counts} {depth : ℕ} {found : List ℕ} (f : Fo
   are = subst (λ (x : Counts). f .words ≡ graphOf file x depth) (accepted-is _ _ (sym (made .file-rule) ∙ f .taken)) (made .are)
 
   pub count : length (f .words) ≡ wordCount (shapeIn c) depth
-  count = ap (λ (x : List ℕ). length x) are ∙ graph-long file c depth
+  count = ap (λ (x : List ℕ). length x) are ∙ graph-long file c (startOf file c) depth
 
   found-is : found ≡ graphOf file c depth ++ f .rest
   found-is = f .begins ∙ ap (λ (x : List ℕ). x ++ f .rest) are
@@ -58,7 +58,7 @@ module _ {file : List ℕ} {c : Counts} {depth : ℕ} {found : List ℕ} (f : Fo
     arith,
     ap (λ (x : List ℕ). length x) found-is,
     length-append (graphOf file c depth) (f .rest),
-    graph-long file c depth,
+    graph-long file c (startOf file c) depth,
   )
 
   -- no cause of a call with this set and goal holds

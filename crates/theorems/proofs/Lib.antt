@@ -10,4 +10,5 @@ pub mod Pages
 pub mod Pairs
 pub mod Effects
 pub mod Looks
+pub mod Within
 pub mod Demand

@@ -25,17 +25,17 @@ use Rattle.theorems.specs.Setting.{Exactly, EqualPair, FirstPair, FirstS
 -- ---- which link of a chain turned the file away
 
 module _ {n p : ℕ} where
-  link : {X Y : Type 0} (v : Verdict X) (next : X → Verdict Y) → andThen v next ≡ refused n p
+  pub link : {X Y : Type 0} (v : Verdict X) (next : X → Verdict Y) → andThen v next ≡ refused n p
       → (v ≡ refused n p) ⊎ ((x : X) × (v ≡ accepted x) × (next x ≡ refused n p))
   unfolding andThen
   link (accepted x) next e = inr (x, refl, e)
   link (refused number place) next e = inl cc
 
-  taken-not : {X : Type 0} (x : X) → accepted x ≡ refused n p → ⊥
+  pub taken-not : {X : Type 0} (x : X) → accepted x ≡ refused n p → ⊥
   taken-not x e = let z : _≡_ {A = ℕ} 0 1 = cc in omega arith
 
   -- a test that turns away with number k, or leaves it to what comes next
-  unless : {X : Type 0} (b : Bool) (k q : ℕ) (v : Verdict X) → choose b (refused k q) v ≡ refused n p → (k ≡ n) ⊎ (v ≡ refused n p)
+  pub unless : {X : Type 0} (b : Bool) (k q : ℕ) (v : Verdict X) → choose b (refused k q) v ≡ refused n p → (k ≡ n) ⊎ (v ≡ refused n p)
   unfolding choose
   unless true k q v e = inl cc
   unless false k q v e = inr e

@@ -129,3 +129,39 @@ pub record FirstStray (file : List ℕ) (c : Counts) (place : ℕ) : Type 0 wher
   pub stray : c .actions ≤ actionsOf file c .owner e
   pub offset : place ≡ effectAt c e
   pub first : (e' : ℕ) → e' < e → actionsOf file c .owner e' < c .actions
+
+-- each proposition of the set x is one of y
+abbrev pub PartOf : ℕ → ℕ → Type 0
+PartOf x y = (p : ℕ) → So (bit p x) → So (bit p y)
+
+-- y lacks a proposition of x
+abbrev pub Lacks : ℕ → ℕ → Type 0
+Lacks x y = (p : ℕ) × So (bit p x) × (So (bit p y) → ⊥)
+
+-- Request Six: 'The file's states are read as the sure sets and a lent list gives the possible sets': that of state s has all that is sure and is over the
+-- file's propositions
+pub record Encloses (file : List ℕ) (c : Counts) (possible : List ℕ) (s : ℕ) : Type 0 where
+  pub sure : PartOf (startOf file c s) (getD possible s 0)
+  pub inside : getD possible s 0 < 2 ^ c .props
+
+-- 'one for each'
+pub record Possible (file : List ℕ) (c : Counts) (possible : List ℕ) : Type 0 where
+  pub long : length possible ≡ c .states
+  pub each : (s : ℕ) → s < c .states → Encloses file c possible s
+
+-- the first state whose 'possible set lacks a sure proposition or has bit P or above'
+pub record FirstOpen (file : List ℕ) (c : Counts) (possible : List ℕ) (s : ℕ) : Type 0 where
+  pub state : s < c .states
+  pub wrong : Lacks (startOf file c s) (getD possible s 0) ⊎ (2 ^ c .props ≤ getD possible s 0)
+  pub first : (s' : ℕ) → s' < s → Encloses file c possible s'
+
+-- 'the list is not N long, or' there is such a state, 'place the number of the first such state, N for the length, which is looked at first'
+abbrev pub NotPossible : List ℕ → Counts → List ℕ → ℕ → Type 0
+NotPossible file c possible place =
+    ((length possible ≡ c .states → ⊥) × (place ≡ c .states)) ⊎ ((length possible ≡ c .states) × FirstOpen file c possible place)
+
+-- a 'choice of states lying between' the sure and the possible sets, one for each
+pub record Between (file : List ℕ) (c : Counts) (possible chosen : List ℕ) : Type 0 where
+  pub long : length chosen ≡ c .states
+  pub sure : (s : ℕ) → s < c .states → PartOf (startOf file c s) (getD chosen s 0)
+  pub within : (s : ℕ) → s < c .states → PartOf (getD chosen s 0) (getD possible s 0)

@@ -27,6 +27,8 @@ pub const RAN: u64 = 9;
 
 pub const PAGED: u64 = 10;
 
+pub const LEVELS: u64 = 11;
+
 // Where a case has the answer wanted, its two numbers, and the digest of what was lent to be written.
 const ANSWER: usize = 16;
 

@@ -1,7 +1,8 @@
-// The library calls of calls.bin. A case is 20 numbers: the kind of the call; the file, a part of the store; depth, set, goal, words of graph memory;
-// the graph (0 none, 1 as the build above left it, 2 a fill), the fill's base and mask, the edits, a part of the store with pairs of numbers,
-// a word's index and what is xored to it; the list, a part of the store, a run's actions or a page's goals, how many and then each as a number;
-// elements of output, base of their fill; what `answers` compares.
+// The library calls of calls.bin. A case is 26 numbers: the kind of the call; the file, a part of the store; depth, set, goal; the graph, that of the
+// sure sets where there are two; the list, a part of the store, a run's actions, or a page's goals or a build's possible sets, how many and then each as
+// a number; elements of output, base of their fill; what `answers` compares; the graph of the possible sets.
+// A graph is 6 numbers: its words of memory; what they are (0 none, 1 as the last build of its kind left them, 2 a fill), the fill's base and mask;
+// the edits, a part of the store with pairs of numbers, a word's index and what is xored to it.
 // What a call does not take is 0. Memory that there is not is none, so that a case that asks for it disagrees.
 ghost use Prim.Native.Nat.{_≤_};
 ghost use mathlib.Core.Path.{_≡_};
@@ -11,6 +12,7 @@ use crate::answers::Outcome;
 use crate::answers::agrees;
 use crate::answers::refused;
 use crate::data::entry;
+use crate::data::from;
 use crate::data::index;
 use crate::data::onward;
 use crate::data::start;
@@ -24,20 +26,22 @@ use build::BuildAnswer;
 use extract::ExtractAnswer;
 use level::LevelAnswer;
 use level::RestAnswer;
+use level::layers::Level;
 use page::PageAnswer;
 use plan::PlanAnswer;
 use run::RunAnswer;
+use within::WithinAnswer;
 use words::sets::Props;
 use words::sets::States;
 
-// The memory that there is: words of a graph and of an extract, sets of a plan and of a run, entries and goals of a page.
+// The memory that there is: words of a graph and of an extract, sets of a plan and of a run, entries of a page, sets of a list.
 pub const WORDS: usize = 60000;
 
 const SETS: usize = 512;
 
 const ENTRIES: usize = 64;
 
-const GOALS: usize = 64;
+const LISTED: usize = 64;
 
 // Kinds of cases. The last is that of levels.bin, whose rows do not name it.
 pub const BUILD: usize = 0;
@@ -54,7 +58,11 @@ pub const RUN: usize = 5;
 
 pub const PAGE: usize = 6;
 
-pub const LEVELS: usize = 7;
+pub const BUILD_WITHIN: usize = 7;
+
+pub const LEVEL_WITHIN: usize = 8;
+
+pub const LEVELS: usize = 9;
 
 // Where a case has what.
 pub const KIND: usize = 0;
@@ -67,15 +75,7 @@ const SET: usize = 4;
 
 const GOAL: usize = 5;
 
-const LENT: usize = 6;
-
-const GRAPH: usize = 7;
-
-const BASE: usize = 8;
-
-const MASK: usize = 9;
-
-const EDITS: usize = 10;
+const GRAPH: usize = 6;
 
 const LIST: usize = 12;
 
@@ -83,11 +83,29 @@ const OUT: usize = 14;
 
 const FILL: usize = 15;
 
+const POSSIBLE: usize = 20;
+
 // How many numbers a case has.
-pub const NUMBERS: usize = 20;
+pub const NUMBERS: usize = 26;
+
+// Where a graph has what.
+const LENT: usize = 0;
+
+const SOURCE: usize = 1;
+
+const BASE: usize = 2;
+
+const MASK: usize = 3;
+
+const EDITS: usize = 4;
 
 // A graph that is filled; any other is the built one.
 const FILLED: u64 = 2;
+
+// What stands for a level that is no layer, beside another level: an entry of a page.
+const NEVER: usize = 256;
+
+const NOT_BY_DEPTH: usize = 257;
 
 // n, or none where there are fewer.
 fn fitting(n: usize, room: usize) -> usize
@@ -116,7 +134,7 @@ pub fn word_room() -> [u64; WORDS]
     [0; WORDS]
 }
 
-// An answer with one number.
+// An answer with two numbers, and one with one.
 fn said_both(answer: u64, first: usize, second: usize) -> Outcome {
     Outcome {
         answer: answer,
@@ -157,10 +175,10 @@ fn changes(edits: &[u8], i: usize) -> u64 {
     x
 }
 
-// Word i of the graph, before the edits.
-fn unedited(row: &[u8], built: &[u64], i: usize) -> u64 {
-    if entry(row, GRAPH) == FILLED {
-        return element(entry(row, BASE), i) & entry(row, MASK);
+// Word i of a graph, before the edits.
+fn unedited(graph: &[u8], built: &[u64], i: usize) -> u64 {
+    if entry(graph, SOURCE) == FILLED {
+        return element(entry(graph, BASE), i) & entry(graph, MASK);
     }
     if i < built.len() {
         return built[i];
@@ -168,17 +186,35 @@ fn unedited(row: &[u8], built: &[u64], i: usize) -> u64 {
     0
 }
 
-fn lay_graph(row: &[u8], edits: &[u8], built: &[u64], graph: &mut [u64]) {
-    for i in 0..graph.len() {
-        graph[i] = unedited(row, built, i) ^ changes(edits, i);
+fn lay_graph(graph: &[u8], edits: &[u8], built: &[u64], words: &mut [u64]) {
+    for i in 0..words.len() {
+        words[i] = unedited(graph, built, i) ^ changes(edits, i);
+    }
+}
+
+fn lay_sets(list: &[u8], sets: &mut [u32]) {
+    for i in 0..sets.len() {
+        sets[i] = low_u32(entry(list, i + 1));
+    }
+}
+
+fn said_built(answer: BuildAnswer) -> Outcome {
+    match answer {
+        BuildAnswer::Built(n, looked) => said_both(a::BUILT, n, looked),
+        BuildAnswer::Refused(why) => refused(why),
     }
 }
 
 fn call_build(file: &[u8], row: &[u8], out: &mut [u64]) -> Outcome {
-    match build::build(file, index(row, DEPTH), out) {
-        BuildAnswer::Built(n, looked) => said_both(a::BUILT, n, looked),
-        BuildAnswer::Refused(why) => refused(why),
-    }
+    said_built(build::build(file, index(row, DEPTH), out))
+}
+
+fn call_build_within(file: &[u8], row: &[u8], list: &[u8], out: &mut [u64]) -> Outcome {
+    let mut room = [0u32; LISTED];
+    let n = fitting(index(list, 0), LISTED);
+    let possible = &mut room[0..n];
+    lay_sets(list, &mut *possible);
+    said_built(within::build_within(file, &possible[..], index(row, DEPTH), out))
 }
 
 fn call_rest(file: &[u8], row: &[u8], graph: &[u64]) -> Outcome {
@@ -189,12 +225,41 @@ fn call_rest(file: &[u8], row: &[u8], graph: &[u64]) -> Outcome {
     }
 }
 
+fn said_level(level: Level) -> Outcome {
+    match level {
+        Level::At(t) => said(a::LEVEL_AT, t),
+        Level::Never => said(a::NEVER, 0),
+        Level::NotByDepth => said(a::NOT_BY_DEPTH, 0),
+    }
+}
+
 fn call_level(file: &[u8], row: &[u8], graph: &[u64]) -> Outcome {
     match level::level(file, index(row, DEPTH), states(row), goal(row), graph) {
-        LevelAnswer::At(t) => said(a::LEVEL_AT, t),
-        LevelAnswer::Never => said(a::NEVER, 0),
-        LevelAnswer::NotByDepth => said(a::NOT_BY_DEPTH, 0),
+        LevelAnswer::Level(level) => said_level(level),
         LevelAnswer::Refused(why) => refused(why),
+    }
+}
+
+// A level as one number.
+fn code(level: Level) -> usize {
+    match level {
+        Level::At(t) => t,
+        Level::Never => NEVER,
+        Level::NotByDepth => NOT_BY_DEPTH,
+    }
+}
+
+fn call_level_within(file: &[u8], row: &[u8], possible: &[u64], sure: &[u64]) -> Outcome {
+    match within::level_within(
+        file,
+        index(row, DEPTH),
+        states(row),
+        goal(row),
+        possible,
+        sure,
+    ) {
+        WithinAnswer::Levels(first, second) => said_both(a::LEVELS, code(first), code(second)),
+        WithinAnswer::Refused(why) => refused(why),
     }
 }
 
@@ -219,17 +284,11 @@ fn call_run(file: &[u8], row: &[u8], list: &[u8], out: &mut [u32]) -> Outcome {
     }
 }
 
-fn lay_goals(list: &[u8], goals: &mut [u32]) {
-    for i in 0..goals.len() {
-        goals[i] = low_u32(entry(list, i + 1));
-    }
-}
-
 fn call_page(file: &[u8], row: &[u8], list: &[u8], graph: &[u64], out: &mut [u16]) -> Outcome {
-    let mut room = [0u32; GOALS];
-    let n = fitting(index(list, 0), GOALS);
+    let mut room = [0u32; LISTED];
+    let n = fitting(index(list, 0), LISTED);
     let goals = &mut room[0..n];
-    lay_goals(list, &mut *goals);
+    lay_sets(list, &mut *goals);
     match page::page(file, index(row, DEPTH), states(row), &goals[..], graph, out) {
         PageAnswer::Paged(n) => said(a::PAGED, n),
         PageAnswer::Refused(why) => refused(why),
@@ -250,6 +309,7 @@ fn call_to_write(
     let list = stored(store, row, LIST);
     match kind {
         BUILD => call_build(file, row, words),
+        BUILD_WITHIN => call_build_within(file, row, list, words),
         EXTRACT => call_extract(file, row, graph, words),
         PLAN => call_plan(file, row, graph, sets),
         RUN => call_run(file, row, list, sets),
@@ -297,6 +357,12 @@ fn written_agrees(kind: usize, store: &[u8], row: &[u8], graph: &[u64], words: &
     )
 }
 
+// Lends the words of a graph.
+fn build_agrees(kind: usize, store: &[u8], row: &[u8], memory: &mut [u64]) -> bool {
+    let n = fitting(index(from(row, GRAPH), LENT), memory.len());
+    written_agrees(kind, store, row, &[0; 0], &mut memory[0..n])
+}
+
 // Lends the words of an extract.
 fn output_agrees(kind: usize, store: &[u8], row: &[u8], graph: &[u64]) -> bool {
     let mut words = word_room();
@@ -304,30 +370,50 @@ fn output_agrees(kind: usize, store: &[u8], row: &[u8], graph: &[u64]) -> bool {
     written_agrees(kind, store, row, graph, &mut words[0..n])
 }
 
+// Lends the graph of the possible sets, too.
+fn levels_agree(store: &[u8], row: &[u8], within: &[u64], sure: &[u64]) -> bool {
+    let mut room = word_room();
+    let graph = from(row, POSSIBLE);
+    let n = fitting(index(graph, LENT), WORDS);
+    let words = &mut room[0..n];
+    lay_graph(graph, stored(store, graph, EDITS), within, &mut *words);
+    let file = stored(store, row, FILE);
+    agrees(row, call_level_within(file, row, &words[..], sure), 0)
+}
+
 // A call on a graph; that of a run has no words.
-fn graph_agrees(kind: usize, store: &[u8], row: &[u8], graph: &[u64]) -> bool {
+fn graph_agrees(kind: usize, store: &[u8], row: &[u8], within: &[u64], graph: &[u64]) -> bool {
     let file = stored(store, row, FILE);
     match kind {
         REST => agrees(row, call_rest(file, row, graph), 0),
         LEVEL => agrees(row, call_level(file, row, graph), 0),
+        LEVEL_WITHIN => levels_agree(store, row, within, graph),
         _ => output_agrees(kind, store, row, graph),
     }
 }
 
-fn laid_agrees(kind: usize, store: &[u8], row: &[u8], built: &[u64]) -> bool {
+fn laid_agrees(kind: usize, store: &[u8], row: &[u8], built: &[u64], within: &[u64]) -> bool {
     let mut room = word_room();
-    let n = fitting(index(row, LENT), WORDS);
-    let graph = &mut room[0..n];
-    lay_graph(row, stored(store, row, EDITS), built, &mut *graph);
-    graph_agrees(kind, store, row, &graph[..])
+    let graph = from(row, GRAPH);
+    let n = fitting(index(graph, LENT), WORDS);
+    let words = &mut room[0..n];
+    lay_graph(graph, stored(store, graph, EDITS), built, &mut *words);
+    graph_agrees(kind, store, row, within, &words[..])
 }
 
-// Whether the case agrees. `built` is the graph memory of the last build, which stays as that left it, for the calls behind it.
-pub fn case_agrees(kind: usize, store: &[u8], row: &[u8], built: &mut [u64]) -> bool {
-    let n = fitting(index(row, LENT), built.len());
+// Whether the case agrees. `built` is the graph memory of the last build and `within` that of the last one for possible sets, each as that left it,
+// for the calls behind it.
+pub fn case_agrees(
+    kind: usize,
+    store: &[u8],
+    row: &[u8],
+    built: &mut [u64],
+    within: &mut [u64],
+) -> bool {
     match kind {
-        BUILD => written_agrees(kind, store, row, &[0; 0], &mut built[0..n]),
+        BUILD => build_agrees(kind, store, row, built),
+        BUILD_WITHIN => build_agrees(kind, store, row, within),
         LEVELS => levels::agrees(store, row),
-        _ => laid_agrees(kind, store, row, &built[0..n]),
+        _ => laid_agrees(kind, store, row, &built[..], &within[..]),
     }
 }

@@ -47,7 +47,7 @@ fn value(digits: &[u8]) -> u64 {
 }
 
 // The bytes of number i, none for one that is cut.
-pub fn digits<'a>(data: &'a [u8], i: usize) -> &'a [u8] {
+fn digits<'a>(data: &'a [u8], i: usize) -> &'a [u8] {
     let at = start(data, i);
     between(data, wrapping_add_usize(at, 1), after(data, at))
 }
@@ -68,6 +68,11 @@ pub fn stored<'a>(store: &'a [u8], row: &[u8], i: usize) -> &'a [u8] {
         at,
         wrapping_add_usize(at, index(row, wrapping_add_usize(i, 1))),
     )
+}
+
+// The numbers of a row from number i on.
+pub fn from<'a>(row: &'a [u8], i: usize) -> &'a [u8] {
+    between(row, start(row, i), row.len())
 }
 
 // Where to go on once what stands at `at` took n bytes: the end, where it took none or there are fewer.

@@ -31,6 +31,6 @@ fn judge(name: &[u8], first: usize, kinds: usize, width: usize) {
 }
 
 fn main() {
-    judge(b"calls.bin", calls::BUILD, 7, calls::NUMBERS);
+    judge(b"calls.bin", calls::BUILD, 9, calls::NUMBERS);
     judge(b"levels.bin", calls::LEVELS, 1, levels::NUMBERS);
 }

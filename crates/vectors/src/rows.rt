@@ -12,7 +12,7 @@ use crate::show::say_tally;
 use std::num::wrapping_add_usize;
 
 // How many kinds of cases there are; as a kind, that of a case that is cut or does not agree.
-const KINDS: usize = 8;
+const KINDS: usize = 10;
 
 // The kind of a case: a row that is no call's is a problem file's.
 fn kind_of(row: &[u8], width: usize) -> usize {
@@ -26,9 +26,16 @@ fn kind_of(row: &[u8], width: usize) -> usize {
 }
 
 // The kind of a case that agrees; any other is named by its number.
-fn judge(store: &[u8], row: &[u8], width: usize, n: usize, built: &mut [u64]) -> usize {
+fn judge(
+    store: &[u8],
+    row: &[u8],
+    width: usize,
+    n: usize,
+    built: &mut [u64],
+    within: &mut [u64],
+) -> usize {
     let kind = kind_of(row, width);
-    if calls::case_agrees(kind, store, row, built) {
+    if calls::case_agrees(kind, store, row, built, within) {
         return kind;
     }
     say_other(n);
@@ -48,6 +55,7 @@ fn run_all(
     cases: &[u8],
     width: usize,
     built: &mut [u64],
+    within: &mut [u64],
     agree: &mut [u64],
 ) -> usize {
     let mut at = 0;
@@ -55,7 +63,7 @@ fn run_all(
     while at < cases.len() {
         n += 1;
         let row = &cases[at..];
-        let kind = judge(store, row, width, n, &mut *built);
+        let kind = judge(store, row, width, n, &mut *built, &mut *within);
         count(&mut *agree, kind);
         at = onward(at, start(row, width), cases.len());
     }
@@ -72,6 +80,7 @@ fn say_kinds(data: &[u8], first: usize, kinds: usize, agree: &[u64]) {
 // Judges the cases of a file: the head has as many cases as there are of each kind, and behind them the store's length.
 pub fn judge_file(name: &[u8], data: &[u8], first: usize, kinds: usize, width: usize) {
     let mut built = calls::word_room();
+    let mut within = calls::word_room();
     let mut agree = [0u64; KINDS];
     let at = start(data, wrapping_add_usize(kinds, 1));
     let end = wrapping_add_usize(at, index(data, kinds));
@@ -81,6 +90,7 @@ pub fn judge_file(name: &[u8], data: &[u8], first: usize, kinds: usize, width: u
         between(data, end, data.len()),
         width,
         &mut built,
+        &mut within,
         &mut agree,
     );
     say_cases(name, n);

@@ -1,6 +1,6 @@
 // Lines of text on standard output.
 use crate::answers::Outcome;
-use crate::data::digits;
+use crate::calls;
 use crate::memory::digest_bytes;
 
 pub fn say(text: &[u8]) {
@@ -49,10 +49,20 @@ pub fn say_other(n: usize) {
     say(b"\n");
 }
 
-// The names of the kinds of cases, in their order, each laid as a number is.
+// The name of a kind of cases.
 fn say_kind(kind: usize) {
-    let names = b"\x05build\x04rest\x05level\x07extract\x04plan\x03run\x04page\x06levels";
-    say(digits(names, kind));
+    match kind {
+        calls::BUILD => say(b"build"),
+        calls::REST => say(b"rest"),
+        calls::LEVEL => say(b"level"),
+        calls::EXTRACT => say(b"extract"),
+        calls::PLAN => say(b"plan"),
+        calls::RUN => say(b"run"),
+        calls::PAGE => say(b"page"),
+        calls::BUILD_WITHIN => say(b"build-within"),
+        calls::LEVEL_WITHIN => say(b"level-within"),
+        _ => say(b"levels"),
+    }
 }
 
 // How many of a kind agree, of as many as the file's head announces.

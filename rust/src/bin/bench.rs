@@ -159,9 +159,38 @@ impl Case {
         u64::MAX >> (64 - self.file[7])
     }
 
+    /// Possible sets: each start state with an eighth of the propositions more, and one, drawn one by one, or with all.
+    fn possible(&self, seed: u64) -> Vec<u32> {
+        // numbers of its own, so that what is drawn for other calls does not depend on it
+        let mut random = Random(!seed.rotate_left(32));
+        let props = self.file[5] as usize;
+        let widen = |start: &[u8]| {
+            let sure = u32::from_le_bytes(start.try_into().unwrap());
+            let members = props.min(sure.count_ones() as usize + 1 + props / 8);
+            let mut set = sure;
+            while (set.count_ones() as usize) < members {
+                set |= random.set(props, 1);
+            }
+            set
+        };
+        self.file[self.first_state()..].chunks_exact(4).map(widen).collect()
+    }
+
+    /// The problem with these sets in the place of its states.
+    fn with_states(&self, states: &[u32]) -> Case {
+        let mut file = self.file[..self.first_state()].to_vec();
+        file.extend(states.iter().flat_map(|set| set.to_le_bytes()));
+        Case::new(self.name, file, self.depth)
+    }
+
+    /// The offset behind the actions and effects.
+    fn first_state(&self) -> usize {
+        self.file.len() - 4 * self.file[7] as usize
+    }
+
     /// The start states by themselves, as files of one state.
     fn alone(&self) -> Vec<Vec<u8>> {
-        let (head, starts) = self.file.split_at(self.file.len() - 4 * self.file[7] as usize);
+        let (head, starts) = self.file.split_at(self.first_state());
         let one = |start: &[u8]| [&head[..7], &[1], &head[8..], start].concat();
         starts.chunks(4).map(one).collect()
     }
@@ -211,6 +240,15 @@ impl Case {
             n => format!("{n} states"),
         };
         format!("{states}, {GOALS} goals, {met} with a level")
+    }
+
+    /// What the problem's graph is, of which so much was built.
+    fn graph(&self, built: Built) -> String {
+        let rest = match reference::rest(&self.file, self.depth, &self.words).unwrap() {
+            Rest::At(t) => format!("rest {t}"),
+            Rest::None => "no rest".to_string(),
+        };
+        format!("{} words, {rest}, {} looks", built.words, built.looked)
     }
 
     /// Half of the states, drawn one by one: many short runs where there are many states.
@@ -311,8 +349,8 @@ impl Race {
 
     fn print(&self, call: &str, case: &Case, what: String) {
         let Race { first, second, ratio, rounds } = self;
-        let name = format!("{call:<8} {}, depth {} ({what})", case.name, case.depth);
-        println!("{name:<84} {first:>13.0} {second:>13.0} {ratio:>9.2} {rounds:>7}");
+        let name = format!("{call:<12} {}, depth {} ({what})", case.name, case.depth);
+        println!("{name:<88} {first:>13.0} {second:>13.0} {ratio:>9.2} {rounds:>7}");
     }
 }
 
@@ -339,11 +377,30 @@ macro_rules! race {
 fn builds(case: &Case) {
     let Case { file, depth, words, .. } = case;
     let (built, times) = race!(build(file, *depth => vec![0; words.len()]));
-    let rest = match reference::rest(file, *depth, words).unwrap() {
-        Rest::At(t) => format!("rest {t}"),
-        Rest::None => "no rest".to_string(),
-    };
-    times.print("build", case, format!("{} words, {rest}, {} looks", built.words, built.looked));
+    times.print("build", case, case.graph(built));
+}
+
+/// A build for possible sets, and levels between them and the sure sets: of a goal that has one in both graphs, as late as
+/// can be in that of the sure sets, of one that does so in the graph of the possible sets, and of all propositions.
+fn within(case: &Case, seed: u64) {
+    let Case { file, depth, words, .. } = case;
+    let depth = *depth;
+    let possible = case.possible(seed);
+    let wider = case.with_states(&possible);
+    let (built, times) = race!(build_within(file, &possible, depth => vec![0; words.len()]));
+    times.print("build_within", case, wider.graph(built));
+
+    let mut tasks = vec![case.task(4), wider.task(4)];
+    tasks.dedup();
+    for (set, goal) in tasks {
+        let (levels, times) = race!(level_within(file, depth, set, goal, &wider.words, words));
+        let task = format!("{} states, {} goals", set.count_ones(), goal.count_ones());
+        times.print("level_within", case, format!("{task}, {:?} to {:?}", levels.possible, levels.sure));
+    }
+    let every = u32::MAX >> (32 - file[5]);
+    let (levels, times) = race!(level_within(file, depth, case.states(), every, &wider.words, words));
+    let bounds = format!("{:?} to {:?}", levels.possible, levels.sure);
+    times.print("level_within", case, format!("all states, all goals, {bounds}"));
 }
 
 fn reads(case: &Case, seed: u64, random: &mut Random) {
@@ -477,7 +534,7 @@ fn goal_by_goal(version: &str, level: SingleLevel, page: Page, case: &Case, set:
 }
 
 fn heading(what: &str, first: &str, second: &str) {
-    println!("{what:<84} {first:>13} {second:>13} {:>9} {:>7}", "ratio", "rounds");
+    println!("{what:<88} {first:>13} {second:>13} {:>9} {:>7}", "ratio", "rounds");
 }
 
 fn main() {
@@ -513,6 +570,9 @@ fn main() {
     }
     for case in &cases {
         reads(case, seed, &mut random);
+    }
+    for case in &cases {
+        within(case, seed);
     }
     println!();
     heading("build", "each alone ns", "all in one ns");

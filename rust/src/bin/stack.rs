@@ -12,7 +12,19 @@ use mogzift::{word_count, STACK, TEXT_ROOM};
 use std::process::{Command, Stdio};
 use std::{arch, env, hint, thread};
 
-const CALLS: [&str; 9] = ["build", "rest", "level", "page", "extract", "run", "plan", "fitting_depth", "levels_text"];
+const CALLS: [&str; 11] = [
+    "build",
+    "build_within",
+    "rest",
+    "level",
+    "level_within",
+    "page",
+    "extract",
+    "run",
+    "plan",
+    "fitting_depth",
+    "levels_text",
+];
 
 /// P, A and N of the problems, which have as many effects as actions, and the depth of their graphs.
 const SIZES: [(usize, usize, usize); 4] = [(3, 2, 2), (8, 8, 8), (16, 16, 16), (32, 32, 64)];
@@ -55,6 +67,7 @@ fn as_effects(actions: &[[u32; 3]], random: &mut Random) -> Vec<u8> {
 /// A problem file, its graph, and what else is lent to a call.
 struct Case {
     file: Vec<u8>,
+    possible: Vec<u32>,
     words: Vec<u64>,
     out: Vec<u64>,
     sets: Vec<u32>,
@@ -82,7 +95,8 @@ impl Case {
         let mut words = vec![0; word_count(props, actions, DEPTH)];
         mogzift::build(&file, DEPTH, &mut words).expect("a file that is in order");
         let out = words.clone();
-        Case { file, words, out, sets: vec![0; 64], levels: vec![0; 3], text: vec![0; TEXT_ROOM] }
+        let possible = starts.iter().map(|start| start | 1 << (random.word() % props as u64)).collect();
+        Case { file, possible, words, out, sets: vec![0; 64], levels: vec![0; 3], text: vec![0; TEXT_ROOM] }
     }
 
     fn all(size: (usize, usize, usize)) -> Vec<Case> {
@@ -92,14 +106,16 @@ impl Case {
 
     /// Makes the call for each single goal and for several sets of states, accepted or turned away.
     fn call(&mut self, name: &str) {
-        let Case { file, words, out, sets, levels, text } = self;
+        let Case { file, possible, words, out, sets, levels, text } = self;
         let all = u64::MAX >> (64 - file[7]);
         for (p, set) in (0..file[5]).flat_map(|p| [1, all, all / 3, all & 0x1234_5678_9ABC_DEF1].map(|set| (p, set))) {
             let goal = 1 << p;
             let answer = match name {
                 "build" => mogzift::build(file, DEPTH, out).map(drop),
+                "build_within" => mogzift::build_within(file, possible, DEPTH, out).map(drop),
                 "rest" => mogzift::rest(file, DEPTH, words).map(drop),
                 "level" => mogzift::level(file, DEPTH, set, goal, words).map(drop),
+                "level_within" => mogzift::level_within(file, DEPTH, set, goal, out, words).map(drop),
                 "page" => mogzift::page(file, DEPTH, set, &[goal, goal | 1, u32::MAX], words, levels).map(drop),
                 "extract" => mogzift::extract(file, DEPTH, set, words, out).map(drop),
                 "run" => mogzift::run(file, set, &[p % file[6]], sets).map(drop),

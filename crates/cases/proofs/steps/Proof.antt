@@ -7,10 +7,10 @@ use Rattle.cases.proofs.steps.Statement.{statement}
 use Rattle.cases.proofs.steps.Tie as tie
 
 abbrev Inv-loop : tie.InvT-loop
-Inv-loop script memory₀ words₀ out₀ at₀ memory words out at = (length memory ≡ length memory₀) × (length words ≡ length words₀) × (length out ≡ length out₀)
+Inv-loop script memory₀ words₀ possible₀ out₀ at₀ memory words possible out at = (length memory ≡ length memory₀) × (length words ≡ length words₀) × (length possible ≡ length possible₀) × (length out ≡ length out₀)
 
 abbrev μ-loop : tie.MeasureT-loop
-μ-loop script memory₀ words₀ out₀ at₀ memory words out at = length script - at
+μ-loop script memory₀ words₀ possible₀ out₀ at₀ memory words possible out at = length script - at
 
 loop-holds : tie.Need-loop-holds Inv-loop μ-loop
 loop-holds c = search simple
@@ -51,6 +51,9 @@ same-length-2 c = search simple
 same-length-3 : tie.Need-same-length-3 Inv-loop μ-loop
 same-length-3 c = search simple
 
+same-length-4 : tie.Need-same-length-4 Inv-loop μ-loop
+same-length-4 c = search simple
+
 returns : tie.Need-returns Inv-loop μ-loop
 returns c = search simple
 
@@ -73,4 +76,5 @@ steps-spec =
     same-length
     same-length-2
     same-length-3
+    same-length-4
     returns)

@@ -39,8 +39,8 @@ returns-2 : tie.Need-returns-2
 unfolding levelTaken
 returns-2 c =
     let a = c .before .before .before .before .before .before .before .args in
-    c .level-over .ensures
-    ∙ ap (λ (s : Shape). accepted (levelOf s (a .depth) (a .set .0) (a .goal .0) (a .words .now))) (c .before .shape .ensures)
+    ap accepted (c .level-over .ensures
+    ∙ ap (λ (s : Shape). levelOf s (a .depth) (a .set .0) (a .goal .0) (a .words .now)) (c .before .shape .ensures))
     ∙ sym (then-accepted _ _ _ (graph-asked _ _ _ (c .before .before .before .before .before .check-asked .ensures)
     (told checkVerdict (c .before .before .before .before .check-graph .ensures) (c .before .before .enum-told .given .1))))
 

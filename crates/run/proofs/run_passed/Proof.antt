@@ -9,7 +9,7 @@ use Rattle.run.proofs.run_passed.Statement.{statement}
 use Rattle.run.proofs.run_passed.Tie as tie
 use Rattle.run.proofs.run_passed.Reads as reads
 use Rattle.run.proofs.run_passed.Lts as lts
-use Rattle.run.proofs.lay_starts.Reads as lay-starts-reads
+use Rattle.graph.proofs.read.lay_starts.Reads as lay-starts-reads
 use Rattle.run.proofs.run_effects.Reads as run-effects-reads
 use Rattle.run.proofs.run_plain.Reads as run-plain-reads
 

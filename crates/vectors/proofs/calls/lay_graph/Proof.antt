@@ -1,4 +1,4 @@
--- `calls::lay_graph` ends: the index stays within the graph, which keeps its length.
+-- `calls::lay_graph` ends: the index stays within the words, which keep their length.
 use Prim.Native.Nat.{_-_, _≤_}
 use mathlib.Core.Path.{_≡_}
 use lib.ListN.{length}
@@ -7,10 +7,10 @@ use Rattle.vectors.proofs.calls.lay_graph.Statement.{statement}
 use Rattle.vectors.proofs.calls.lay_graph.Tie as tie
 
 abbrev Inv-loop : tie.InvT-loop
-Inv-loop row edits built graph₀ i₀ i-end graph i = (i ≤ length graph₀) × (length graph ≡ length graph₀)
+Inv-loop graph edits built words₀ i₀ i-end words i = (i ≤ length words₀) × (length words ≡ length words₀)
 
 abbrev μ-loop : tie.MeasureT-loop
-μ-loop row edits built graph₀ i₀ i-end graph i = length graph₀ - i
+μ-loop graph edits built words₀ i₀ i-end words i = length words₀ - i
 
 loop-holds : tie.Need-loop-holds Inv-loop μ-loop
 loop-holds c = search simple
@@ -21,11 +21,11 @@ unedited-requires c κs = search simple
 changes-requires : tie.Need-changes-requires Inv-loop μ-loop
 changes-requires c κs = search simple
 
-mul-graph : tie.Need-mul-graph Inv-loop μ-loop
-mul-graph c = search simple
+mul-words : tie.Need-mul-words Inv-loop μ-loop
+mul-words c = search simple
 
-slice-write-graph : tie.Need-slice-write-graph Inv-loop μ-loop
-slice-write-graph c = search simple
+slice-write-words : tie.Need-slice-write-words Inv-loop μ-loop
+slice-write-words c = search simple
 
 add-i : tie.Need-add-i Inv-loop μ-loop
 add-i c = search simple
@@ -51,8 +51,8 @@ lay-graph-spec =
     loop-holds
     unedited-requires
     changes-requires
-    mul-graph
-    slice-write-graph
+    mul-words
+    slice-write-words
     add-i
     loop-less
     loop-again

@@ -7,10 +7,10 @@ use Rattle.vectors.proofs.rows.run_all.Statement.{statement}
 use Rattle.vectors.proofs.rows.run_all.Tie as tie
 
 abbrev Inv-loop : tie.InvT-loop
-Inv-loop store cases width built₀ agree₀ at₀ n₀ built agree at n = (n ≤ at) × (length built ≡ length built₀) × (length agree ≡ length agree₀)
+Inv-loop store cases width built₀ within₀ agree₀ at₀ n₀ built within agree at n = (n ≤ at) × (length built ≡ length built₀) × (length within ≡ length within₀) × (length agree ≡ length agree₀)
 
 abbrev μ-loop : tie.MeasureT-loop
-μ-loop store cases width built₀ agree₀ at₀ n₀ built agree at n = length cases - at
+μ-loop store cases width built₀ within₀ agree₀ at₀ n₀ built within agree at n = length cases - at
 
 loop-holds : tie.Need-loop-holds Inv-loop μ-loop
 loop-holds c = search simple
@@ -51,6 +51,9 @@ same-length c = search simple
 same-length-2 : tie.Need-same-length-2 Inv-loop μ-loop
 same-length-2 c = search simple
 
+same-length-3 : tie.Need-same-length-3 Inv-loop μ-loop
+same-length-3 c = search simple
+
 returns : tie.Need-returns Inv-loop μ-loop
 returns c = search simple
 
@@ -73,4 +76,5 @@ run-all-spec =
     loop-again
     same-length
     same-length-2
+    same-length-3
     returns)

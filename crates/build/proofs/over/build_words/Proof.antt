@@ -7,8 +7,8 @@ use lib.ListN.{replicate}
 use lib.Seq.{length-take-le}
 use Rattle.rules.specs.Lists.{listOver}
 use Rattle.words.proofs.Zeros.{zeros}
-use Rattle.build.proofs.build_words.Statement.{statement}
-use Rattle.build.proofs.build_words.Tie as tie
+use Rattle.build.proofs.over.build_words.Statement.{statement}
+use Rattle.build.proofs.over.build_words.Tie as tie
 
 array-borrow-prefix-needs : tie.Need-array-borrow-prefix-needs
 array-borrow-prefix-needs c = search needs
@@ -64,13 +64,10 @@ slice-aggregate-build-in-11 c = search needs
 slice-aggregate-build-in-12 : tie.Need-slice-aggregate-build-in-12
 slice-aggregate-build-in-12 c = search needs
 
-slice-aggregate-build-in-13 : tie.Need-slice-aggregate-build-in-13
-slice-aggregate-build-in-13 c = search needs
-
 build-in-requires : tie.Need-build-in-requires
-build-in-requires c κs = let start = c .before .before .before .before .before .before .before .before .before .before .before .before .before .before .before .before in
+build-in-requires c κs = let start = c .before .before .before .before .before .before .before .before .before .before .before .before .before .before .before .before .before in
     let few = length-take-le {A = ℕ} (start .args .c .props) (replicate 32 0) (start .pre .0 .ranged .props) in (
-      start .pre,
+      (start .pre .0, start .pre .1, start .pre .2),
       record {
         lists = record {
           needs-long = length-take-le _ _ (omega arith);
@@ -81,7 +78,7 @@ build-in-requires c κs = let start = c .before .before .before .before .before 
           interferers-long = length-take-le _ _ (omega arith);
           no-adders = zeros (start .args .c .props) 32 (start .pre .0 .ranged .props) ∙ ap (λ (x : ℕ). listOver x (λ p. 0)) (sym few);
         };
-        no-labels = zeros 32 32 (omega arith);
+        labels-long = start .pre .3;
         live-long = refl;
         t-long = refl;
         r-long = refl;
@@ -92,7 +89,10 @@ build-in-requires c κs = let start = c .before .before .before .before .before 
     )
 
 same-length : tie.Need-same-length
-same-length c = c .before .before .before .before .before .before .before .before .before .before .before .before .before .before .before .build-in .kept .1 .1 .1 .0
+same-length c = c .before .before .before .before .before .before .before .before .before .before .before .before .before .before .before .before .build-in .kept .1 .1 .1 .0
+
+same-length-2 : tie.Need-same-length-2
+same-length-2 c = c .before .before .before .before .before .before .before .before .before .before .before .before .before .before .before .before .build-in .kept .1 .1 .1 .1 .0
 
 returns : tie.Need-returns
 returns c = search needs
@@ -119,7 +119,7 @@ build-words-spec =
     slice-aggregate-build-in-10
     slice-aggregate-build-in-11
     slice-aggregate-build-in-12
-    slice-aggregate-build-in-13
     build-in-requires
     same-length
+    same-length-2
     returns)

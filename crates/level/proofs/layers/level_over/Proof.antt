@@ -2,8 +2,8 @@
 use mathlib.Core.Path.{sym, _∙_}
 use borrow.Author.Needs.{needs}
 use Rattle.level.proofs.Answers.{level-at, level-never, level-not-by-depth}
-use Rattle.level.proofs.level_over.Statement.{statement}
-use Rattle.level.proofs.level_over.Tie as tie
+use Rattle.level.proofs.layers.level_over.Statement.{statement}
+use Rattle.level.proofs.layers.level_over.Tie as tie
 
 first-met-requires : tie.Need-first-met-requires
 first-met-requires c κs = search needs

@@ -15,18 +15,15 @@ use Rattle.graph.specs.Checks.{Small}
 use Rattle.graph.proofs.Ladder.{small-of}
 use Rattle.build.proofs.Listings.{wide-for, spans-for, adders-inside, interferers-inside, adds-same, dels-same, adders-count, interferers-same, steps-fit}
 use Rattle.build.proofs.Whole.{graph-made}
-use Rattle.build.proofs.build_in.Statement.{statement}
-use Rattle.build.proofs.build_in.Tie as tie
+use Rattle.build.proofs.over.build_in.Statement.{statement}
+use Rattle.build.proofs.over.build_in.Tie as tie
 
 -- the places that are read, each from a later one
 abbrev entry : tie.After-read-problem → tie.Start
 entry c = c .before .before .before .before .before .before .before .before .before .before .before .before .before .before .before .before .before .before .before .before .before .before
 
-abbrev problem : tie.After-start-labels → tie.After-read-problem
+abbrev problem : tie.After-width-for2 → tie.After-read-problem
 problem c = c .before .before .before .before .before .before .before .before .before .before .before .before .before .before
-
-abbrev labels : tie.After-width-for2 → tie.After-start-labels
-labels c = c .before .before .before .before
 
 abbrev wide : tie.After-start → tie.After-width-for2
 wide c = c .before .before .before .before .before
@@ -34,13 +31,8 @@ wide c = c .before .before .before .before .before
 abbrev begun : tie.After-steps-until → tie.After-start
 begun c = c .before .before .before .before .before .before .before .before .before .before .before .before .before .before .before .before .before .before .before .before
 
-abbrev made : tie.After-slice-known32 → tie.After-steps-until
+abbrev made : tie.After-slice-known31 → tie.After-steps-until
 made c = c .before .before .before .before .before .before .before .before .before .before .before .before .before .before .before .before .before .before .before .before .before
-
--- the labels of layer 0 are a row
-labels-long : (c : tie.After-start-labels) → length (c .start-labels .last .1 .1 .0) ≡ rowLength
-labels-long c = let a = entry (problem c) .args in
-    ap length (c .start-labels .ensures) ∙ length-listOver rowLength (startLabel (a .c .states) (startOf (a .file .now) (a .c)))
 
 -- the steps have room
 fits : (c : tie.After-read-problem) → size (entry c .args .c .props) ≤ length (entry c .args .words .now)
@@ -54,30 +46,27 @@ fits c = let start = entry c in
 read-problem-requires : tie.Need-read-problem-requires
 read-problem-requires c κs = search needs
 
-start-labels-requires : tie.Need-start-labels-requires
-start-labels-requires c κs = search needs
-
 width-for-requires : tie.Need-width-for-requires
-width-for-requires c κs = omega (arith, entry (problem (c .before .before)) .pre .0 .0 .ranged .props)
+width-for-requires c κs = omega (arith, entry (c .before .before .before .before .before .before .before .before .before .before .before .before) .pre .0 .0 .ranged .props)
 
 width-for-requires-2 : tie.Need-width-for-requires-2
-width-for-requires-2 c κs = omega (arith, entry (problem (c .before .before .before)) .pre .0 .0 .ranged .effects)
+width-for-requires-2 c κs = omega (arith, entry (c .before .before .before .before .before .before .before .before .before .before .before .before .before) .pre .0 .0 .ranged .effects)
 
 start-requires : tie.Need-start-requires
 start-requires c κs =
     let at-width = c .before .before .before .before in
-    let read = problem (labels at-width) in
+    let read = problem at-width in
     let rooms = entry read .pre .1 in
     let w = at-width .before .width-for .ensures in
-    (record { parts = w .0; props = w .1; labels-long = labels-long (labels at-width); t-long = rooms .t-long; spare-long = rooms .spare-long }, fits read)
+    (record { parts = w .0; props = w .1; labels-long = rooms .labels-long; t-long = rooms .t-long; spare-long = rooms .spare-long }, fits read)
 
 first-requires : tie.Need-first-requires
-first-requires c κs = entry (problem (labels (wide (c .before .before .before .before .before .before .before .before .before .before)))) .pre .0 .0 .ranged .states
+first-requires c κs = entry (problem (wide (c .before .before .before .before .before .before .before .before .before .before))) .pre .0 .0 .ranged .states
 
 many-pairs-requires : tie.Need-many-pairs-requires
 many-pairs-requires c κs =
     let at-width = wide (c .before .before .before .before .before .before .before .before .before .before .before) in
-    let read = problem (labels at-width) in
+    let read = problem at-width in
     let start = entry read in
     let is = read .read-problem .ensures in
     let s = at-width .width-for2 .ensures in (
@@ -94,7 +83,7 @@ steps-until-requires : tie.Need-steps-until-requires
 steps-until-requires c κs =
     let at-start = c .before .before .before .before .before .before .before .before .before .before .before .before .before .before .before .before .before .before .before in
     let at-width = wide at-start in
-    let read = problem (labels at-width) in
+    let read = problem at-width in
     let start = entry read in
     let rooms = start .pre .1 in
     let is = read .read-problem .ensures in
@@ -116,7 +105,7 @@ steps-until-requires c κs =
         besides-long = rooms .besides-long;
         spare-long = rooms .spare-long;
       };
-      labels-long = labels-long (labels at-width);
+      labels-long = rooms .labels-long;
       t-long = at-start .start .kept .1 .0 ∙ rooms .t-long;
       deep = start .pre .0 .1;
       fits = omega (
@@ -128,13 +117,13 @@ steps-until-requires c κs =
     }
 
 shape-requires : tie.Need-shape-requires
-shape-requires c κs = entry (problem (labels (wide (begun (c .before .before .before .before .before .before .before .before .before .before .before .before .before .before .before .before .before))))) .pre .0 .0 .ranged
+shape-requires c κs = entry (problem (wide (begun (c .before .before .before .before .before .before .before .before .before .before .before .before .before .before .before .before .before)))) .pre .0 .0 .ranged
 
 copy-rest-requires : tie.Need-copy-rest-requires
 copy-rest-requires c κs =
     let steps = c .before .before .before .before .before .before .before .before .before .before .before .before .before .before .before .before .before .before in
     let at-start = begun steps in
-    let start = entry (problem (labels (wide at-start))) in
+    let start = entry (problem (wide at-start)) in
     record {
       small = subst Small (sym (c .shape .ensures)) (small-of (start .args .c) (start .pre .0 .0 .ranged));
       deep = start .pre .0 .1;
@@ -144,29 +133,28 @@ copy-rest-requires c κs =
     }
 
 same-length : tie.Need-same-length
-same-length c = let steps = made c in c .before .before .copy-rest .kept .0 ∙ steps .steps-until .kept .0 ∙ begun steps .start .kept .0
+same-length c = let steps = made c in steps .steps-until .kept .1 .1 .1 .1 .1 .1 .1 .1 .1 .1 .1 .1 .0
 
 same-length-2 : tie.Need-same-length-2
-same-length-2 c = problem (labels (wide (begun (made c)))) .read-problem .kept .1 .1 .0
+same-length-2 c = let steps = made c in c .before .before .copy-rest .kept .0 ∙ steps .steps-until .kept .0 ∙ begun steps .start .kept .0
 
 same-length-3 : tie.Need-same-length-3
-same-length-3 c = problem (labels (wide (begun (made c)))) .read-problem .kept .1 .1 .1 .0
+same-length-3 c = problem (wide (begun (made c))) .read-problem .kept .1 .1 .0
 
 same-length-4 : tie.Need-same-length-4
-same-length-4 c = problem (labels (wide (begun (made c)))) .read-problem .kept .1 .1 .1 .1 .0
+same-length-4 c = problem (wide (begun (made c))) .read-problem .kept .1 .1 .1 .0
 
 same-length-5 : tie.Need-same-length-5
-same-length-5 c = problem (labels (wide (begun (made c)))) .read-problem .kept .1 .1 .1 .1 .1 .0
+same-length-5 c = problem (wide (begun (made c))) .read-problem .kept .1 .1 .1 .1 .0
 
 same-length-6 : tie.Need-same-length-6
-same-length-6 c = problem (labels (wide (begun (made c)))) .read-problem .kept .1 .1 .1 .1 .1 .1 .0
+same-length-6 c = problem (wide (begun (made c))) .read-problem .kept .1 .1 .1 .1 .1 .0
 
 same-length-7 : tie.Need-same-length-7
-same-length-7 c = problem (labels (wide (begun (made c)))) .read-problem .kept .1 .1 .1 .1 .1 .1 .1 .0
+same-length-7 c = problem (wide (begun (made c))) .read-problem .kept .1 .1 .1 .1 .1 .1 .0
 
 same-length-8 : tie.Need-same-length-8
-same-length-8 c = let steps = made c in
-    steps .steps-until .kept .1 .1 .1 .1 .1 .1 .1 .1 .1 .1 .1 .1 .0 ∙ labels (wide (begun steps)) .start-labels .kept .1 .1 .0
+same-length-8 c = problem (wide (begun (made c))) .read-problem .kept .1 .1 .1 .1 .1 .1 .1 .0
 
 same-length-9 : tie.Need-same-length-9
 same-length-9 c = search needs
@@ -190,12 +178,11 @@ returns : tie.Need-returns
 returns c =
     let steps = made c in
     let at-start = begun steps in
-    let at-labels = labels (wide at-start) in
-    let read = problem at-labels in
+    let read = problem (wide at-start) in
     let start = entry read in
     let did = at-start .start in
     graph-made (start .pre .0 .0) (read .read-problem .ensures) _ _ _ _ _ _ _ (start .args .words .now) _ _ _ (start .pre .0 .2) (steps .before .before .before .before .before .before .before .before .before .first .ensures)
-    (c .before .before .before .shape .ensures) (at-labels .start-labels .ensures) (did .kept .0) (did .ensures .0) (did .ensures .1) (did .ensures .2)
+    (c .before .before .before .shape .ensures) (did .kept .0) (did .ensures .0) (did .ensures .1) (did .ensures .2)
     (steps .steps-until .ensures .2) (c .before .before .copy-rest .ensures)
 
 pub build-in-spec : {M : Type 1} → statement M
@@ -203,7 +190,6 @@ build-in-spec =
     tie.close
     (tie.spec
     read-problem-requires
-    start-labels-requires
     width-for-requires
     width-for-requires-2
     start-requires

@@ -1,16 +1,16 @@
--- `calls::lay_goals` ends: the index stays within the goals, which keep their length.
+-- `calls::lay_sets` ends: the index stays within the sets, which keep their length.
 use Prim.Native.Nat.{_-_, _≤_}
 use mathlib.Core.Path.{_≡_}
 use lib.ListN.{length}
 use borrow.Author.Needs.{needs}
-use Rattle.vectors.proofs.calls.lay_goals.Statement.{statement}
-use Rattle.vectors.proofs.calls.lay_goals.Tie as tie
+use Rattle.vectors.proofs.calls.lay_sets.Statement.{statement}
+use Rattle.vectors.proofs.calls.lay_sets.Tie as tie
 
 abbrev Inv-loop : tie.InvT-loop
-Inv-loop list goals₀ i₀ i-end goals i = (i ≤ length goals₀) × (length goals ≡ length goals₀)
+Inv-loop list sets₀ i₀ i-end sets i = (i ≤ length sets₀) × (length sets ≡ length sets₀)
 
 abbrev μ-loop : tie.MeasureT-loop
-μ-loop list goals₀ i₀ i-end goals i = length goals₀ - i
+μ-loop list sets₀ i₀ i-end sets i = length sets₀ - i
 
 loop-holds : tie.Need-loop-holds Inv-loop μ-loop
 loop-holds c = search needs
@@ -24,11 +24,11 @@ entry-requires c κs = search needs
 low-u32-requires : tie.Need-low-u32-requires Inv-loop μ-loop
 low-u32-requires c κs = search needs
 
-mul-goals : tie.Need-mul-goals Inv-loop μ-loop
-mul-goals c = search needs
+mul-sets : tie.Need-mul-sets Inv-loop μ-loop
+mul-sets c = search needs
 
-slice-write-goals : tie.Need-slice-write-goals Inv-loop μ-loop
-slice-write-goals c = search needs
+slice-write-sets : tie.Need-slice-write-sets Inv-loop μ-loop
+slice-write-sets c = search needs
 
 add-i : tie.Need-add-i Inv-loop μ-loop
 add-i c = search needs
@@ -45,8 +45,8 @@ same-length c = search needs
 returns : tie.Need-returns Inv-loop μ-loop
 returns c = search needs
 
-pub lay-goals-spec : {M : Type 1} → statement M
-lay-goals-spec =
+pub lay-sets-spec : {M : Type 1} → statement M
+lay-sets-spec =
     tie.close
     (tie.spec
     Inv-loop
@@ -55,8 +55,8 @@ lay-goals-spec =
     add-entry
     entry-requires
     low-u32-requires
-    mul-goals
-    slice-write-goals
+    mul-sets
+    slice-write-sets
     add-i
     loop-less
     loop-again

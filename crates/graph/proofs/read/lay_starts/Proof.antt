@@ -1,16 +1,16 @@
--- `lay_starts` meets its contract: the loop writes one set after the other.
+-- `read::lay_starts` meets its contract: the loop writes one set after the other.
 use Rattle.words.proofs.Writes.{Lists, list-none, list-more, list-done}
 use Rattle.graph.specs.Format.{startOf}
 use borrow.Author.Needs.{needs as simple}
 use native.Mathlib.Omega.{arith}
 use native.Mathlib.Nat.{zero-add}
 use Prim.Native.Nat.{_-_}
 use mathlib.Core.Path.{sym}
-use Rattle.run.proofs.lay_starts.Statement.{statement}
-use Rattle.run.proofs.lay_starts.Tie as tie
-use Rattle.run.proofs.lay_starts.Reads as reads
-use Rattle.run.proofs.lay_starts.Lts as lts
+use Rattle.graph.proofs.read.lay_starts.Statement.{statement}
+use Rattle.graph.proofs.read.lay_starts.Tie as tie
+use Rattle.graph.proofs.read.lay_starts.Reads as reads
+use Rattle.graph.proofs.read.lay_starts.Lts as lts
 use Rattle.graph.proofs.read.start.Reads as start-reads
 
 abbrev Inv-loop : tie.InvT-loop
 Inv-loop file c out₀ s₀ s-end out s = Lists (startOf file c) 0 (c .states) out₀ s out
