@@ -35,7 +35,7 @@ fn build_taken(file: &[u8], c: Counts, depth: usize, words: &mut [u64]) -> Build
 {
     let mut labels = [0u64; ROW];
     start_labels(file, c, &mut labels[..]);
-    build_over(file, c, depth, &mut labels[..], words)
+    build_over(file, c, depth, labels, words)
 }
 
 // Builds the file's graph to the depth: the words stand at the front of the memory, and what lies behind them stays. Turned away, no word changes.

@@ -90,9 +90,9 @@ fn build_in(
 }
 
 // Writes the words; lists and tables are arrays of this call. How many looks the scans take.
-fn build_words(file: &[u8], c: Counts, depth: usize, labels: &mut [u64], words: &mut [u64]) -> usize
-    requires { ⌜ Taken (now file) c × (depth ≤ maxDepth) × (wordCount (shapeIn c) depth ≤ length (now words)) × (length (now labels) ≡ rowLength) ⌝ }
-    ensures { λ looked. ⌜ Graph (now (file .entry)) c depth (now (labels .entry)) (now (words .entry)) looked (now (words .exit)) ⌝ }
+fn build_words(file: &[u8], c: Counts, depth: usize, labels: [u64; ROW], words: &mut [u64]) -> usize
+    requires { ⌜ Taken (now file) c × (depth ≤ maxDepth) × (wordCount (shapeIn c) depth ≤ length (now words)) × (length labels ≡ rowLength) ⌝ }
+    ensures { λ looked. ⌜ Graph (now (file .entry)) c depth labels (now (words .entry)) looked (now (words .exit)) ⌝ }
 {
     let p = c.props;
     let e = c.effects;
@@ -102,6 +102,7 @@ fn build_words(file: &[u8], c: Counts, depth: usize, labels: &mut [u64], words: 
     let mut owners = [0u8; MAX_EFFECTS];
     let mut adders = [0u64; ROW];
     let mut interferers = [0u64; ROW];
+    let mut row = labels;
     let mut live = [0u64; ROW];
     let mut t = [0u64; TABLE];
     let mut r = [0u64; TABLE];
@@ -112,7 +113,7 @@ fn build_words(file: &[u8], c: Counts, depth: usize, labels: &mut [u64], words: 
         file,
         c,
         depth,
-        labels,
+        &mut row[..],
         words,
         &mut needs[..e],
         &mut adds[..e],
@@ -134,11 +135,11 @@ pub fn build_over(
     file: &[u8],
     c: Counts,
     depth: usize,
-    labels: &mut [u64],
+    labels: [u64; ROW],
     words: &mut [u64],
 ) -> BuildAnswer
-    requires { ⌜ Taken (now file) c × (length (now labels) ≡ rowLength) ⌝ }
-    ensures { λ r. ⌜ ((starts : ℕ → ℕ) → Labels c starts (now (labels .entry))
+    requires { ⌜ Taken (now file) c × (length labels ≡ rowLength) ⌝ }
+    ensures { λ r. ⌜ ((starts : ℕ → ℕ) → Labels c starts labels
         → (buildVerdict r ≡ counted (looksFor (now (file .entry)) c starts depth) (buildFor (now (file .entry)) c starts depth (length (now (words .entry)))))
         × (now (words .exit) ≡ laid (buildFor (now (file .entry)) c starts depth (length (now (words .entry)))) (now (words .entry)))) ⌝ }
 {

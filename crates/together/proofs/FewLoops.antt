@@ -26,7 +26,7 @@ use Rattle.words.specs.Width.{wordWidth}
 use Rattle.words.proofs.Cells.{Rows, rows-none}
 use Rattle.words.proofs.MemberLoops.{Members, members-none, members-more, members-done, Lanes, lanes-more, lanes-done, lowest-in, lowest-lt}
 use Rattle.words.proofs.Spreads.{bit-left, stays}
-use Rattle.together.specs.Cells.{RowPut, Independent, independentOf, withIndependent, withProp, matesOf, besideOf, mateOf, besideFor}
+use Rattle.together.specs.Cells.{RowPut, EmptyRows, Independent, independentOf, withIndependent, withProp, matesOf, besideOf, mateOf, besideFor}
 use Rattle.together.proofs.Rows.{parts-le, row-again, rows-row, row-long, row-word, lent, lent-row, lent-long}
 
 -- both ways the same
@@ -162,21 +162,20 @@ module _ (needs interferers : List ℕ) (i : ℕ) {all one : ℕ} (a : all ≡ f
 pub record Effects (needs adds dels interferers live r : List ℕ) (width i : ℕ) (mates besides : List ℕ) : Type 0 where
   pub narrow : width ≤ rowLength
   pub pairs : Rows (mateOf needs interferers live r) rowLength i mates
-  pub empty : (j k : ℕ) → i ≤ j → j < rowLength → k < rowLength → cell mates j k ≡ 0
+  pub empty : (j k : ℕ) → i ≤ j → j < length needs → k < rowLength → cell mates j k ≡ 0
   pub with-adders : Rows (besideFor needs adds dels interferers live r) width i besides
 
-pub effects-none : (needs adds dels interferers live r : List ℕ) {width : ℕ} {mates besides : List ℕ} → InParts width → mates ≡ listOver tableLength (λ k. 0)
-    → length besides ≡ tableLength → Effects needs adds dels interferers live r width 0 mates besides
-unfolding cell
-effects-none needs adds dels interferers live r parts e long = record {
+pub effects-none : (needs adds dels interferers live r : List ℕ) {width : ℕ} {mates besides : List ℕ} → InParts width → length mates ≡ tableLength
+    → EmptyRows (length needs) mates → length besides ≡ tableLength → Effects needs adds dels interferers live r width 0 mates besides
+effects-none needs adds dels interferers live r parts whole rows long = record {
   narrow = parts-le parts;
-  pairs = rows-none (ap length e ∙ length-listOver tableLength _);
-  empty = λ j k l h g. ap (λ (w : List ℕ). getD w (j * rowLength + k) 0) e ∙ getD-listOver _ (omega arith);
+  pairs = rows-none whole;
+  empty = λ j k l h g. rows j k h g;
   with-adders = rows-none long;
 }
 
 module _ {needs adds dels interferers live r : List ℕ} {width i : ℕ} {mates besides : List ℕ}
-    (s : Effects needs adds dels interferers live r width i mates besides) (parts : InParts width) (h : i < rowLength) where
+    (s : Effects needs adds dels interferers live r width i mates besides) (parts : InParts width) (h : i < rowLength) (effect : i < length needs) where
   abbrev row-of : List ℕ → List ℕ
   row-of table = take (i * rowLength + rowLength - i * rowLength) (drop (i * rowLength) table)
 
@@ -199,7 +198,7 @@ module _ {needs adds dels interferers live r : List ℕ} {width i : ℕ} {mates 
         narrow = s .narrow;
         pairs = rows-row (s .pairs) (inr refl) (lent-long mates i _ (s .pairs .long) h e) paired (λ k l.
             ap₂ (λ (w : List ℕ) (x : ℕ). choose (same k i) (getD live i 0) (choose (bit k (independentOf needs interferers i)) (withIndependent needs live w i k) x))
-            (lent r i) (word-of mates k l ∙ s .empty i k (omega arith) h l));
+            (lent r i) (word-of mates k l ∙ s .empty i k (omega arith) effect l));
         empty = λ j k l g m. paired .stays j k m (λ u. omega arith) ∙ s .empty j k (omega arith) g m;
         with-adders = rows-row (s .with-adders) parts (lent-long besides₁ i _ long h d) joined (λ k l. refl);
       }

@@ -124,6 +124,10 @@ besideOf needs adds interferers live row i beside =
     (keep (bit p (getD adds i 0)) (getD live i 0)))
 
 -- what it asks of all effects, one by one
+-- the first n rows of a table are empty
+abbrev pub EmptyRows : ℕ → List ℕ → Type 0
+EmptyRows n table = (i k : ℕ) → i < n → k < rowLength → cell table i k ≡ 0
+
 pub record Fewing (n width : ℕ) (needs adds dels interferers live r mates besides : List ℕ) : Type 0 where
   pub wide : Width n width needs
   pub adds-long : length adds ≡ length needs

@@ -9,7 +9,6 @@ use words::sets::Props;
 use words::sets::States;
 use words::sets::wide;
 use words::tables::ROW;
-use words::tables::TABLE;
 use words::tables::clear_cells;
 ghost use mathlib.Core.Path.{_≡_};
 ghost use Prim.Native.Nat.{ℕ, _≤_, _<_};
@@ -19,8 +18,8 @@ ghost use Rattle.rules.specs.Word as W;
 ghost use Rattle.rules.specs.Over.{keep, joinOf};
 ghost use Rattle.rules.specs.Lists.{listOver};
 ghost use Rattle.words.specs.Memory.{putAt};
-ghost use Rattle.words.specs.Rows.{rowLength, tableLength, cell, Target, Source, InParts};
-ghost use Rattle.together.specs.Cells.{RowPut, Independent, Lists, Fewing, withIndependent, matesOf, besideOf, mateOf, besideFor};
+ghost use Rattle.words.specs.Rows.{rowLength, cell, Target, Source, InParts};
+ghost use Rattle.together.specs.Cells.{RowPut, Independent, Lists, EmptyRows, Fewing, withIndependent, matesOf, besideOf, mateOf, besideFor};
 
 // Effect i with each of these, which are independent of it:
 // `mates` gets what the two are together in, and `beside` has it joined to each proposition that the other adds.
@@ -88,7 +87,7 @@ fn keep_row(besides: &mut [u64], i: usize, r: &[u64], del: u64, width: usize)
     clear_cells(besides, i, del);
 }
 
-// All effects, into a table of empty words; none is beside what it deletes.
+// All effects, into rows of empty words; none is beside what it deletes.
 fn few_effects(
     needs: &[u32],
     adds: &[u32],
@@ -101,7 +100,7 @@ fn few_effects(
     n: usize,
     width: usize,
 )
-    requires { ⌜ Fewing n width (now needs) (now adds) (now dels) (now interferers) (now live) (now r) (now mates) (now besides) × (now mates ≡ listOver tableLength (λ k. 0)) ⌝ }
+    requires { ⌜ Fewing n width (now needs) (now adds) (now dels) (now interferers) (now live) (now r) (now mates) (now besides) × EmptyRows (length (now needs)) (now mates) ⌝ }
     ensures { λ _. ⌜ ((i j : ℕ) → i < length (now (needs .entry)) → j < rowLength → cell (now (mates .exit)) i j ≡ mateOf (now (needs .entry)) (now (interferers .entry)) (now (live .entry)) (now (r .entry)) i j)
         × ((i p : ℕ) → i < length (now (needs .entry)) → p < width → cell (now (besides .exit)) i p ≡ besideFor (now (needs .entry)) (now (adds .entry)) (now (dels .entry)) (now (interferers .entry)) (now (live .entry)) (now (r .entry)) i p) ⌝ }
 {
@@ -149,7 +148,7 @@ pub fn few(
     ensures { λ _. ⌜ ((i j : ℕ) → i < length (now (needs .entry)) → j < rowLength → cell (now (mates .exit)) i j ≡ mateOf (now (needs .entry)) (now (interferers .entry)) (now (live .entry)) (now (r .entry)) i j)
         × ((i p : ℕ) → i < length (now (needs .entry)) → p < width → cell (now (besides .exit)) i p ≡ besideFor (now (needs .entry)) (now (adds .entry)) (now (dels .entry)) (now (interferers .entry)) (now (live .entry)) (now (r .entry)) i p) ⌝ }
 {
-    clear(&mut *mates, TABLE);
+    clear(&mut *mates, needs.len() * ROW);
     few_effects(
         needs,
         adds,

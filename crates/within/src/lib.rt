@@ -56,7 +56,7 @@ fn build_sets(
     }
     let mut labels = [0u64; ROW];
     columns(&mut labels[..], possible);
-    build_over(file, c, depth, &mut labels[..], words)
+    build_over(file, c, depth, labels, words)
 }
 
 // Once the file is taken: it lends room for the sure sets.

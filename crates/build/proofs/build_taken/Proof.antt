@@ -11,9 +11,6 @@ slice-aggregate-start-labels c = search needs
 start-labels-requires : tie.Need-start-labels-requires
 start-labels-requires c κs = (c .before .before .before .pre, zeros 32 32 (omega arith))
 
-slice-aggregate-build-over : tie.Need-slice-aggregate-build-over
-slice-aggregate-build-over c = search needs
-
 build-over-requires : tie.Need-build-over-requires
 build-over-requires c κs = search needs
 
@@ -21,7 +18,7 @@ same-length : tie.Need-same-length
 same-length c = search needs
 
 returns : tie.Need-returns
-returns c = c .before .before .before .build-over .ensures _ (c .before .before .before .before .before .before .before .start-labels .ensures)
+returns c = c .before .before .build-over .ensures _ (c .before .before .before .before .before .start-labels .ensures)
 
 pub build-taken-spec : {M : Type 1} → statement M
 build-taken-spec =
@@ -29,7 +26,6 @@ build-taken-spec =
     (tie.spec
     slice-aggregate-start-labels
     start-labels-requires
-    slice-aggregate-build-over
     build-over-requires
     same-length
     returns)

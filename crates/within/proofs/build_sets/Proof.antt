@@ -1,9 +1,12 @@
 -- `build_sets` meets its contract: the labels of layer 0 are the list's, turned round.
-use mathlib.Core.Path.{_≡_, refl, sym, _∙_}
+use mathlib.Core.Path.{_≡_, refl, sym, ap, _∙_}
 use native.Mathlib.Omega.{arith}
 use borrow.Author.Needs.{needs}
+use lib.ListN.{length}
+use Rattle.rules.proofs.Layers.{length-listOver}
 use Rattle.words.proofs.Zeros.{zeros}
 use Rattle.graph.specs.Verdict.{accepted}
+use Rattle.graph.specs.Format.{startOf}
 use Rattle.graph.specs.Checks.{checkVerdict}
 use Rattle.graph.proofs.Verdicts.{told, then-refused, then-accepted}
 use Rattle.build.proofs.Answers.{count-refused, count-same}
@@ -43,10 +46,16 @@ slice-aggregate-columns c = search needs
 columns-requires : tie.Need-columns-requires
 columns-requires c κs =
     let start = to-start (c .before) in
-    (omega arith, omega (arith, right-length _ _ _ _ (passed (c .before)), start .pre .0 .ranged .states), zeros 32 32 (omega arith))
-
-slice-aggregate-build-over : tie.Need-slice-aggregate-build-over
-slice-aggregate-build-over c = search needs
+    let a = start .args in (
+      omega arith,
+      omega (
+        arith,
+        right-length _ _ _ _ (passed (c .before)),
+        ap length (start .pre .1) ∙ length-listOver (a .c .states) (startOf (a .file .now) (a .c)),
+        start .pre .0 .ranged .states,
+      ),
+      zeros 32 32 (omega arith),
+    )
 
 build-over-requires : tie.Need-build-over-requires
 build-over-requires c κs = search needs
@@ -57,10 +66,11 @@ same-length c = search needs
 returns-2 : tie.Need-returns-2
 unfolding withinTaken
 returns-2 c =
-    let taken = c .before .before .before .before .before .before .before .before .before in
+    let taken = c .before .before .before .before .before .before .before in
+    let a = to-start taken .args in
     let right = passed taken in
     count-same _ refl (sym (then-accepted _ _ tt right))
-    (c .before .before .before .build-over .ensures _ (labels-are (to-start taken .args .c) _ _ (right-length _ _ _ _ right) (c .before .before .before .before .before .before .before .columns .ensures)))
+    (c .before .before .build-over .ensures _ (labels-are (a .c) (a .possible .now) _ (right-length _ _ _ _ right) (c .before .before .before .before .before .columns .ensures)))
 
 pub build-sets-spec : {M : Type 1} → statement M
 build-sets-spec =
@@ -72,7 +82,6 @@ build-sets-spec =
     enum-told
     slice-aggregate-columns
     columns-requires
-    slice-aggregate-build-over
     build-over-requires
     same-length
     returns-2)

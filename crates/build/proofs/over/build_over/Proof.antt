@@ -16,7 +16,7 @@ use Rattle.build.proofs.over.build_over.Tie as tie
 
 -- places, each from a later one
 abbrev to-start : tie.After-enum-told → tie.Start
-to-start c = c .before .before .before .before .before .before
+to-start c = c .before .before .before .before .before
 
 check-graph-requires : tie.Need-check-graph-requires
 check-graph-requires c κs = search needs
@@ -35,8 +35,8 @@ passed c = told checkVerdict (c .before .before .check-graph .ensures) (c .enum-
 
 build-words-requires : tie.Need-build-words-requires
 build-words-requires c κs =
-    let start = to-start (c .before .before) in
-    let p = graph-means _ _ _ _ (passed (c .before .before)) in
+    let start = to-start (c .before) in
+    let p = graph-means _ _ _ _ (passed (c .before)) in
     (start .pre .0, p .deep, p .fits, start .pre .1)
 
 shape-requires : tie.Need-shape-requires
@@ -44,7 +44,7 @@ shape-requires c κs = search needs
 
 word-count-requires : tie.Need-word-count-requires
 word-count-requires c κs =
-    let told-here = c .before .before .before .before .before .before .before .before in
+    let told-here = c .before .before .before .before .before in
     (subst Small (sym (c .shape .ensures)) (small-of _ (to-start told-here .pre .0 .ranged)), graph-means _ _ _ _ (passed told-here) .deep)
 
 returns : tie.Need-returns
@@ -55,15 +55,12 @@ returns c starts are =
 same-length : tie.Need-same-length
 same-length c = search needs
 
-same-length-2 : tie.Need-same-length-2
-same-length-2 c = search needs
-
 returns-2 : tie.Need-returns-2
 unfolding buildFor
 returns-2 c starts are =
-    let told-here = c .before .before .before .before .before .before .before .before .before in
+    let told-here = c .before .before .before .before .before .before in
     let start = to-start told-here in
-    let made = c .before .before .before .before .before .before .build-words .ensures starts are in
+    let made = c .before .before .before .before .build-words .ensures starts are in
     count-accepted _ _ _ _ _ _ _ (then-accepted _ _ _ (passed told-here))
     (c .word-count .ensures ∙ ap (λ (s : Shape). wordCount s (start .args .depth)) (c .before .shape .ensures)
     ∙ sym (graph-long (start .args .file .now) (start .args .c) starts (start .args .depth)))
@@ -81,5 +78,4 @@ build-over-spec =
     word-count-requires
     returns
     same-length
-    same-length-2
     returns-2)

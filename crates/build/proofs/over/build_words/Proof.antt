@@ -10,44 +10,44 @@ use Rattle.words.proofs.Zeros.{zeros}
 use Rattle.build.proofs.over.build_words.Statement.{statement}
 use Rattle.build.proofs.over.build_words.Tie as tie
 
+slice-aggregate-build-in : tie.Need-slice-aggregate-build-in
+slice-aggregate-build-in c = search needs
+
 array-borrow-prefix-needs : tie.Need-array-borrow-prefix-needs
 array-borrow-prefix-needs c = search needs
-
-slice-aggregate-build-in : tie.Need-slice-aggregate-build-in
-slice-aggregate-build-in c = sym (length-take-le _ _ (omega arith))
-
-array-borrow-prefix-adds : tie.Need-array-borrow-prefix-adds
-array-borrow-prefix-adds c = search needs
 
 slice-aggregate-build-in-2 : tie.Need-slice-aggregate-build-in-2
 slice-aggregate-build-in-2 c = sym (length-take-le _ _ (omega arith))
 
-array-borrow-prefix-dels : tie.Need-array-borrow-prefix-dels
-array-borrow-prefix-dels c = search needs
+array-borrow-prefix-adds : tie.Need-array-borrow-prefix-adds
+array-borrow-prefix-adds c = search needs
 
 slice-aggregate-build-in-3 : tie.Need-slice-aggregate-build-in-3
 slice-aggregate-build-in-3 c = sym (length-take-le _ _ (omega arith))
 
-array-borrow-prefix-owners : tie.Need-array-borrow-prefix-owners
-array-borrow-prefix-owners c = search needs
+array-borrow-prefix-dels : tie.Need-array-borrow-prefix-dels
+array-borrow-prefix-dels c = search needs
 
 slice-aggregate-build-in-4 : tie.Need-slice-aggregate-build-in-4
 slice-aggregate-build-in-4 c = sym (length-take-le _ _ (omega arith))
 
-array-borrow-prefix-adders : tie.Need-array-borrow-prefix-adders
-array-borrow-prefix-adders c = search needs
+array-borrow-prefix-owners : tie.Need-array-borrow-prefix-owners
+array-borrow-prefix-owners c = search needs
 
 slice-aggregate-build-in-5 : tie.Need-slice-aggregate-build-in-5
 slice-aggregate-build-in-5 c = sym (length-take-le _ _ (omega arith))
 
-array-borrow-prefix-interferers : tie.Need-array-borrow-prefix-interferers
-array-borrow-prefix-interferers c = search needs
+array-borrow-prefix-adders : tie.Need-array-borrow-prefix-adders
+array-borrow-prefix-adders c = search needs
 
 slice-aggregate-build-in-6 : tie.Need-slice-aggregate-build-in-6
 slice-aggregate-build-in-6 c = sym (length-take-le _ _ (omega arith))
 
+array-borrow-prefix-interferers : tie.Need-array-borrow-prefix-interferers
+array-borrow-prefix-interferers c = search needs
+
 slice-aggregate-build-in-7 : tie.Need-slice-aggregate-build-in-7
-slice-aggregate-build-in-7 c = search needs
+slice-aggregate-build-in-7 c = sym (length-take-le _ _ (omega arith))
 
 slice-aggregate-build-in-8 : tie.Need-slice-aggregate-build-in-8
 slice-aggregate-build-in-8 c = search needs
@@ -64,8 +64,11 @@ slice-aggregate-build-in-11 c = search needs
 slice-aggregate-build-in-12 : tie.Need-slice-aggregate-build-in-12
 slice-aggregate-build-in-12 c = search needs
 
+slice-aggregate-build-in-13 : tie.Need-slice-aggregate-build-in-13
+slice-aggregate-build-in-13 c = search needs
+
 build-in-requires : tie.Need-build-in-requires
-build-in-requires c κs = let start = c .before .before .before .before .before .before .before .before .before .before .before .before .before .before .before .before .before in
+build-in-requires c κs = let start = c .before .before .before .before .before .before .before .before .before .before .before .before .before .before .before .before in
     let few = length-take-le {A = ℕ} (start .args .c .props) (replicate 32 0) (start .pre .0 .ranged .props) in (
       (start .pre .0, start .pre .1, start .pre .2),
       record {
@@ -89,10 +92,7 @@ build-in-requires c κs = let start = c .before .before .before .before .before 
     )
 
 same-length : tie.Need-same-length
-same-length c = c .before .before .before .before .before .before .before .before .before .before .before .before .before .before .before .before .build-in .kept .1 .1 .1 .0
-
-same-length-2 : tie.Need-same-length-2
-same-length-2 c = c .before .before .before .before .before .before .before .before .before .before .before .before .before .before .before .before .build-in .kept .1 .1 .1 .1 .0
+same-length c = c .before .before .before .before .before .before .before .before .before .before .before .before .before .before .before .build-in .kept .1 .1 .1 .1 .0
 
 returns : tie.Need-returns
 returns c = search needs
@@ -101,25 +101,25 @@ pub build-words-spec : {M : Type 1} → statement M
 build-words-spec =
     tie.close
     (tie.spec
-    array-borrow-prefix-needs
     slice-aggregate-build-in
-    array-borrow-prefix-adds
+    array-borrow-prefix-needs
     slice-aggregate-build-in-2
-    array-borrow-prefix-dels
+    array-borrow-prefix-adds
     slice-aggregate-build-in-3
-    array-borrow-prefix-owners
+    array-borrow-prefix-dels
     slice-aggregate-build-in-4
-    array-borrow-prefix-adders
+    array-borrow-prefix-owners
     slice-aggregate-build-in-5
-    array-borrow-prefix-interferers
+    array-borrow-prefix-adders
     slice-aggregate-build-in-6
+    array-borrow-prefix-interferers
     slice-aggregate-build-in-7
     slice-aggregate-build-in-8
     slice-aggregate-build-in-9
     slice-aggregate-build-in-10
     slice-aggregate-build-in-11
     slice-aggregate-build-in-12
+    slice-aggregate-build-in-13
     build-in-requires
     same-length
-    same-length-2
     returns)

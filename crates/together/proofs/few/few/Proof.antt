@@ -1,20 +1,33 @@
--- The table is emptied first.
-use mathlib.Core.Path.{sym, _∙_}
+-- The effects' rows are emptied first.
+use Prim.Native.Nat.{_+_, _*_, _≤_}
+use mathlib.Core.Path.{ap, _∙_}
+use mathlib.Core.List.{List}
 use native.Mathlib.Omega.{arith}
 use borrow.Author.Needs.{needs}
-use Rattle.rules.proofs.Layers.{length-listOver}
-use Rattle.words.specs.Rows.{tableLength}
-use Rattle.words.proofs.Writes.{put-whole}
+use lib.ListN.{length, getD}
+use Rattle.words.specs.Rows.{rowLength, cell}
+use Rattle.words.proofs.Writes.{front-word}
 use Rattle.together.proofs.few.few.Statement.{statement}
 use Rattle.together.proofs.few.few.Tie as tie
 
+abbrev to-start : tie.After-clear-arg → tie.Start
+to-start c = c .before .before .before .before .before .before .before .before .before
+
+-- they lie in the table
+inside : (c : tie.After-clear-arg) → length (to-start c .args .needs .now) * rowLength ≤ length (to-start c .args .mates .now)
+inside c = let p = to-start c .pre in omega (arith, p .wide .effects, p .mates-long)
+
+mul-clear : tie.Need-mul-clear
+mul-clear c = omega (arith, to-start c .pre .wide .effects)
+
 clear-requires : tie.Need-clear-requires
-clear-requires c κs = search needs
+clear-requires c κs = inside c
 
 few-effects-requires : tie.Need-few-effects-requires
+unfolding cell
 few-effects-requires c κs =
     let at-clear = c .before .before .before .before in
-    let start = at-clear .before .before .before .before .before .before .before .before .before .before in
+    let start = to-start (at-clear .before) in
     let p = start .pre in (
       record {
         wide = p .wide;
@@ -26,7 +39,9 @@ few-effects-requires c κs =
         mates-long = omega arith;
         besides-long = p .besides-long;
       },
-      at-clear .clear .ensures ∙ put-whole _ (start .args .mates .now) (length-listOver tableLength _ ∙ sym (p .mates-long)),
+      λ i k l h.
+          ap (λ (w : List _). getD w (i * rowLength + k) 0) (at-clear .clear .ensures)
+          ∙ front-word _ (i * rowLength + k) (λ q. 0) (start .args .mates .now) (inside (at-clear .before)) (omega arith),
     )
 
 same-length : tie.Need-same-length
@@ -40,4 +55,4 @@ returns c = search needs
 
 pub few-spec : {M : Type 1} → statement M
 few-spec =
-    tie.close (tie.spec clear-requires few-effects-requires same-length same-length-2 returns)
+    tie.close (tie.spec mul-clear clear-requires few-effects-requires same-length same-length-2 returns)

@@ -20,7 +20,7 @@ loop-holds c =
     let start = c .before .before .before .before .before .before .before .before in
     let a = start .args in
     effects-none (a .needs .now) (a .adds .now) (a .dels .now) (a .interferers .now) (a .live .now) (a .r .now)
-    (start .pre .0 .wide .parts) (start .pre .1) (start .pre .0 .besides-long)
+    (start .pre .0 .wide .parts) (start .pre .0 .mates-long) (start .pre .1) (start .pre .0 .besides-long)
 
 mul-wide : tie.Need-mul-wide Inv-loop μ-loop
 mul-wide c = omega arith
@@ -115,7 +115,7 @@ loop-again c =
     let at-keep-row = at-few-effect .before .before .before .before .before .before in
     let at-loop = at-keep-row .before .before .before .before .before in
     let start = at-loop .before .before .before .before .before .before .before .before .before in
-    effects-more (at-loop .loop .inv) (start .pre .0 .wide .parts) (omega arith) (omega arith) (at-keep-row .before .wide .ensures)
+    effects-more (at-loop .loop .inv) (start .pre .0 .wide .parts) (omega arith) (omega arith) (omega arith) (at-keep-row .before .wide .ensures)
     (at-keep-row .keep-row .ensures) (at-few-effect .few-effect .ensures .0) (at-few-effect .few-effect .ensures .1)
 
 same-length : tie.Need-same-length Inv-loop μ-loop

@@ -5,11 +5,11 @@ use Rattle.within.proofs.Possibles.{wrong-length, some-open, all-right}
 use Rattle.within.proofs.possible.check_possible.Statement.{statement}
 use Rattle.within.proofs.possible.check_possible.Tie as tie
 
-returns : tie.Need-returns
-returns c = wrong-length _ _ _ _ (c .if1 .taken)
-
 first-open-requires : tie.Need-first-open-requires
 first-open-requires c κs = search needs
+
+returns : tie.Need-returns
+returns c = wrong-length _ _ _ _ (c .if1 .taken)
 
 returns-2 : tie.Need-returns-2
 returns-2 c = some-open _ _ _ _ (c .before .before .if1 .left) _ (c .before .first-open .ensures) (c .if2 .taken)
