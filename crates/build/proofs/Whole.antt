@@ -17,7 +17,7 @@ use Rattle.rules.specs.Scan.{looksFrom}
 use Rattle.rules.proofs.Layers.{getD-listOver}
 use Rattle.rules.proofs.Layouts.{count-stride}
 use Rattle.words.specs.Memory.{putAt}
-use Rattle.words.specs.Rows.{rowLength, cell}
+use Rattle.words.specs.Rows.{cell}
 use Rattle.layers.specs.Step.{Told, Deletes, Tells}
 use Rattle.graph.specs.Format.{actionsOf, shapeIn}
 use Rattle.graph.specs.File.{Taken}

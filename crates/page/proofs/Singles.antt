@@ -54,7 +54,9 @@ module _ (c : Counts) (depth set : ℕ) (words : List ℕ) (passed : Passed c de
   unmet-single : depth < firstMet (shapeIn c) depth set goal words
       → unmetEntry (shapeIn c) depth words ≡ entryOf (accepted (levelOf (shapeIn c) depth set goal words))
   unfolding unmetEntry choose
-  unmet-single h = go (below (firstRest (shapeIn c) depth words) depth) ∙ ap (λ (l : Level). entryOf (accepted l)) (level-none (shapeIn c) depth set goal words _ refl h)
+  unmet-single h =
+      go (below (firstRest (shapeIn c) depth words) depth)
+      ∙ ap (λ (l : Level). entryOf (accepted l)) (level-none (shapeIn c) depth set goal words _ refl h)
     where
       go : (b : Bool) → choose b neverEntry notByDepthEntry ≡ entryOf (accepted (choose b never notByDepth))
       go true = refl

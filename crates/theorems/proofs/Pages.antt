@@ -100,12 +100,15 @@ module _ {file : List ℕ} {depth set : ℕ} {goals words : List ℕ} {room : �
       by v e s = ap (λ (x : Verdict Level). saidBy (entryOf x)) (sym e) ∙ s ∙ e
 
       at : first ≤ depth → saidBy (entryOf (accepted answer)) ≡ accepted answer
-      at h = by (accepted (level first)) (ap accepted (level-at (shapeIn (m .c)) depth set goal words first refl h)) (told-level first (omega (arith, m .passed .deep)))
+      at h =
+          by (accepted (level first)) (ap accepted (level-at (shapeIn (m .c)) depth set goal words first refl h))
+          (told-level first (omega (arith, m .passed .deep)))
 
       none : (first ≤ depth → ⊥) → saidBy (entryOf (accepted answer)) ≡ accepted answer
       none h =
           let rests = below (firstRest (shapeIn (m .c)) depth words) depth in
-          by (accepted (choose rests never notByDepth)) (ap accepted (level-none (shapeIn (m .c)) depth set goal words first refl (omega arith))) (told-none rests)
+          by (accepted (choose rests never notByDepth)) (ap accepted (level-none (shapeIn (m .c)) depth set goal words first refl (omega arith)))
+          (told-none rests)
 
 -- ---- which pages are accepted
 

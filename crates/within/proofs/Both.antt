@@ -7,7 +7,7 @@ use lib.ListN.{length}
 use Rattle.rules.specs.Layer.{wordCount}
 use Rattle.rules.specs.Level.{Level, levelOf}
 use Rattle.rules.specs.declared.Shape.{Shape}
-use Rattle.graph.specs.Verdict.{Verdict, accepted, refused, andThen}
+use Rattle.graph.specs.Verdict.{Verdict, accepted, refused}
 use Rattle.graph.specs.Format.{shapeIn}
 use Rattle.graph.specs.File.{fileRule}
 use Rattle.graph.specs.Checks.{memoryRule, askedRule, graphRule}
@@ -16,7 +16,7 @@ use Rattle.graph.proofs.Links.{deep-enough}
 use Rattle.graph.proofs.Ladder.{graph-means}
 use Rattle.graph.proofs.Verdicts.{then-refused, then-accepted}
 use Rattle.level.specs.Rule.{levelTaken, levelRule}
-use Rattle.within.specs.Rule.{Levels, both, levelsTaken, levelsRule}
+use Rattle.within.specs.Rule.{both, levelsTaken, levelsRule}
 
 module _ (v w : Verdict Level) where
   pub first-refused : (number place : ℕ) → v ≡ refused number place → both v w ≡ refused number place

@@ -1,6 +1,6 @@
 -- When a list is one of the possible sets, and its labels of layer 0.
 -- Assumes nothing.
-use mathlib.Core.Path.{_≡_, sym, ap, ap₂, _∙_}
+use mathlib.Core.Path.{_≡_, sym, ap, _∙_}
 use mathlib.Core.Bool.{true, false, So, false≢true}
 use mathlib.Core.List.{List}
 use Prim.Native.Nat.{ℕ, _^_, _≤_, _<_}
@@ -8,14 +8,13 @@ use native.Mathlib.Omega.{arith}
 use lib.ListN.{length, getD}
 use Rattle.rules.specs.Test.{_and_, fails, same, below, choose}
 use Rattle.rules.specs.Word.{within}
-use Rattle.rules.specs.Over.{firstBelow}
 use Rattle.rules.specs.Lists.{listOver}
 use Rattle.rules.specs.Shared.{startLabel}
 use Rattle.rules.proofs.Tests.{fails-of, fails-at, same-of, same-at, same-not, below-of, below-not}
 use Rattle.rules.proofs.Firsts.{first-eq, first-unique}
 use Rattle.rules.proofs.Layers.{length-listOver, getD-listOver}
 use Rattle.words.specs.Rows.{rowLength, columnsOf}
-use Rattle.graph.specs.Verdict.{Verdict, accepted, refused}
+use Rattle.graph.specs.Verdict.{accepted, refused}
 use Rattle.graph.specs.Format.{startOf}
 use Rattle.graph.specs.declared.format.Counts.{Counts}
 use Rattle.graph.proofs.Verdicts.{passed-if}

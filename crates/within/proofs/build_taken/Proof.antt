@@ -27,7 +27,8 @@ build-sets-requires : tie.Need-build-sets-requires
 build-sets-requires c κs =
     let start = c .before .before .before .before .before .before .before .before .before .before in
     let n : ℕ = start .args .c .states in
-    let long : length (take {A = ℕ} (n - 0) (replicate 64 0)) ≡ n - 0 = length-take-le {A = ℕ} (n - 0) (replicate 64 0) (omega (arith, start .pre .ranged .states)) in (
+    let long : length (take {A = ℕ} (n - 0) (replicate 64 0)) ≡ n - 0 =
+    length-take-le {A = ℕ} (n - 0) (replicate 64 0) (omega (arith, start .pre .ranged .states)) in (
       start .pre,
       c .before .before .before .before .lay-starts .ensures ∙ put-whole _ _ (omega (arith, length-listOver n (startOf (start .args .file .now) (start .args .c)), long)),
     )

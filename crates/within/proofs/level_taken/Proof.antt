@@ -31,7 +31,8 @@ passed c = graph-asked _ _ _ (c .before .before .before .check-asked .ensures) (
 -- so of those of the sure sets it is what was found of their memory
 again : (c : tie.After-check-memory)
     → let a = to-start (passed-first c) .args in
-    (v : Verdict (Unit {0})) → checkVerdict (c .check-memory .result) ≡ v → graphRule (a .c) (a .depth) (askedRule (a .c) (a .set .0) (a .goal .0)) (length (a .sure .now)) ≡ v
+    (v : Verdict (Unit {0})) → checkVerdict (c .check-memory .result) ≡ v
+    → graphRule (a .c) (a .depth) (askedRule (a .c) (a .set .0) (a .goal .0)) (length (a .sure .now)) ≡ v
 again c v e =
     let a = to-start (passed-first c) .args in
     graph-again _ _ _ _ _ (passed (passed-first c))

@@ -1,16 +1,12 @@
 -- The lists that were read make the file's graph: layer 0, the steps behind it, and copies of the last one where the graph rests; and its looks.
-use mathlib.Core.Path.{_≡_, sym, ap, subst, _∙_}
+use mathlib.Core.Path.{sym, ap, subst, _∙_}
 use Prim.Native.Nat.{_≤_}
 use native.Mathlib.Omega.{arith}
 use borrow.Author.Needs.{needs}
 use lib.ListN.{length}
 use Rattle.rules.specs.declared.Shape.{Shape}
 use Rattle.rules.specs.Layer.{size, wordCount}
-use Rattle.rules.specs.Shared.{startLabel}
-use Rattle.rules.proofs.Layers.{length-listOver}
-use Rattle.words.specs.Rows.{rowLength}
 use Rattle.together.proofs.Rows.{parts-le}
-use Rattle.graph.specs.Format.{startOf}
 use Rattle.graph.specs.Checks.{Small}
 use Rattle.graph.proofs.Ladder.{small-of}
 use Rattle.build.proofs.Listings.{wide-for, spans-for, adders-inside, interferers-inside, adds-same, dels-same, adders-count, interferers-same, steps-fit}

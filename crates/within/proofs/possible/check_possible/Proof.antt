@@ -1,5 +1,4 @@
 -- `possible::check_possible` meets its contract.
-use mathlib.Core.Path.{_∙_}
 use borrow.Author.Needs.{needs}
 use Rattle.within.proofs.Possibles.{wrong-length, some-open, all-right}
 use Rattle.within.proofs.possible.check_possible.Statement.{statement}

@@ -1,11 +1,11 @@
 -- `possible::first_open` meets its contract: the sets before the first wrong one are right.
-use mathlib.Core.Path.{_≡_, sym, subst, _∙_}
-use Prim.Native.Nat.{ℕ, _-_, _≤_}
+use mathlib.Core.Path.{sym, _∙_}
+use Prim.Native.Nat.{_-_, _≤_}
 use native.Mathlib.Omega.{arith}
 use borrow.Author.Count.{below-more}
 use borrow.Author.Tests.{not-true, not-false}
 use lib.ListN.{length}
-use Rattle.within.specs.Rule.{setOf, firstOpen}
+use Rattle.within.specs.Rule.{setOf}
 use Rattle.within.proofs.Possibles.{Enclosed, open-here, none-open}
 use Rattle.within.proofs.possible.first_open.Statement.{statement}
 use Rattle.within.proofs.possible.first_open.Tie as tie
