@@ -130,7 +130,7 @@ fn build_words(file: &[u8], c: Counts, depth: usize, labels: [u64; ROW], words: 
     )
 }
 
-// Causes 6 and 9, or the words.
+// Causes 6 and 9, or the words. The labels come by value: of a row that is lent the compiler would not know that the words lie apart from it.
 pub fn build_over(
     file: &[u8],
     c: Counts,
