@@ -36,6 +36,7 @@ use Rattle.graph.proofs.Ladder.{taken-linked, taken-means}
 use Rattle.graph.proofs.WithStates.{placed-taken, placed-actions, placed-starts, placed-build, placed-looks}
 use Rattle.level.specs.Rule.{levelRule, restRule}
 use Rattle.within.specs.Rule.{encloses, firstOpen, boundsRule, possibleRule, withinTaken, withinRule, countWithin, Levels, both, levelsRule}
+use Rattle.within.proofs.Possibles.{wrong-length, some-open}
 use Rattle.page.specs.Rule.{pageTaken, pageRule}
 use Rattle.extract.specs.Rule.{extractRule}
 use Rattle.plan.specs.Plan.{plannedVerdict, planTaken, planRule}
@@ -103,15 +104,14 @@ module _ (file : List ℕ) (c : Counts) (possible : List ℕ) where
   )
 
   not-long : (length possible ≡ c .states → ⊥) → possibleRule file c possible ≡ refused 17 (c .states)
-  unfolding boundsRule
-  not-long n = choose-failed _ _ (fails-of (λ t. n (same-at t)))
+  not-long n = sym (wrong-length _ _ _ _ n)
 
   module _ (long : length possible ≡ c .states) where
     first-of : {s : ℕ} → FirstOpen file c possible s → possibleRule file c possible ≡ refused 17 s
-    unfolding boundsRule firstOpen
+    unfolding firstOpen
     first-of {s} o =
         let e : s ≡ first = first-unique (omega (arith, o .state)) (λ i l. right-of (o .first i l)) (λ l. wrong-of s (o .wrong)) in
-        choose-held _ (same-of long) ∙ choose-held _ (below-of (omega (arith, o .state))) ∙ ap (λ (x : ℕ). refused 17 x) (sym e)
+        sym (some-open _ _ _ _ long s e (o .state))
 
     first-at-17 : {s : ℕ} → possibleRule file c possible ≡ refused 17 s → FirstOpen file c possible s
     unfolding boundsRule firstOpen
