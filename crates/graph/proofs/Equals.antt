@@ -1,26 +1,27 @@
 -- Equal actions: when the rule turns a file away for them, that files with the same actions have the same verdict, and how they are found by their marks.
 -- Assumes nothing.
 use mathlib.Core.Path.{_≡_, refl, sym, ap, ap₂, subst, _∙_}
-use mathlib.Core.Bool.{Bool, So, false}
+use mathlib.Core.Bool.{Bool, So, true, false, false≢true}
 use mathlib.Core.Logic.{⊎-elim, by-cases}
 use mathlib.Core.List.{List}
-use Prim.Native.Nat.{ℕ, _+_, _*_, _≤_, _<_}
+use Prim.Native.Nat.{ℕ, suc, _+_, _-_, _*_, _≤_, _<_}
 use borrow.Author.Count.{below-more}
 use native.Mathlib.Decide.{decLe}
 use native.Mathlib.Omega.{arith}
-use lib.Bits.{bitAnd, bitOr, and-le-l, and-le-r, or-add-and}
-use lib.ListN.{length, getD, set, length-set}
+use lib.ListN.{getD, set, replicate, length-set, getD-replicate}
 use lib.Seq.{getD-set-same, getD-set-other}
 use Rattle.rules.specs.Test.{_and_, fails, same, below, choose}
-use Rattle.rules.specs.Over.{anyBelow, firstBelow}
+use Rattle.rules.specs.Over.{firstBelow}
 use Rattle.rules.specs.Domain.{Actions, SameActions}
-use Rattle.rules.proofs.Tests.{choose-failed, fails-of, fails-at, is-fails, holds-or, and-left, and-right, same-of, same-not, same-at, below-of, below-not}
+use Rattle.rules.proofs.Tests.{choose-failed, fails-of, fails-at, is-fails, holds-or, test-eq, and-left, and-right}
+use Rattle.rules.proofs.Tests.{same-of, same-not, same-at, below-of, below-not}
 use Rattle.rules.proofs.Overs.{any-of, any-at, any-eq}
 use Rattle.rules.proofs.Firsts.{first-eq, first-unique}
+use Rattle.graph.specs.Limits.{maxActions}
 use Rattle.graph.specs.Verdict.{Verdict, accepted, refused, andThen}
 use Rattle.graph.specs.Format.{longHead, setBytes, plainVersion, plain, actionAt, preAt, actionsOf}
 use Rattle.graph.specs.File.{Ranged, ownersRule, actionsRule, equalActions, equalsEarlier, firstEqual, equalRule}
-use Rattle.graph.specs.Marks.{marks, spread, markOf, AllLone, Marked, After}
+use Rattle.graph.specs.Marks.{marks, spread, markOf, Last, Chained, Marked, After}
 use Rattle.graph.specs.declared.format.Counts.{Counts}
 use Rattle.graph.proofs.Verdicts.{then-accepted}
 use Rattle.graph.proofs.Places.{pre-plain}
@@ -104,68 +105,118 @@ equal-marks A b a t =
     let q : A .add b ≡ A .add a = same-at (and-left _ (and-right _ t)) in
     ap₂ spread p q
 
--- so where no two marks meet there are no equal actions
-pub all-lone : (file : List ℕ) (c : Counts) → AllLone (actionsOf file c) (c .actions) → c .actions ≡ firstEqual (actionsOf file c)
-unfolding firstEqual equalsEarlier actionsOf
-all-lone file c each =
-    let A = actionsOf file c in
-    first-unique (omega arith) (λ a l t. let (b, k, e) = any-at t in each a l b k (equal-marks A b a e)) (λ l. absurd (omega arith))
+-- ---- from one action back to the one before it with its mark
+
+-- `left`, counted from 1, is the next action to compare a with: it has a's mark, and no action after it and before a equals a
+pub record Walked (A : Actions) (a left : ℕ) : Type 0 where
+  pub within : left ≤ a
+  pub marked : (b : ℕ) → left ≡ suc b → markOf A b ≡ markOf A a
+  pub earlier : (b : ℕ) → b < a → So (equalActions A b a) → b < left
+
+module _ {A : Actions} {a : ℕ} where
+  pub walked-none : {last : ℕ} → Last A a (markOf A a) last → Walked A a last
+  walked-none s = record { within = s .within; marked = s .marked; earlier = λ b l t. s .none-later b l (equal-marks A b a t) }
+
+  module _ {left : ℕ} (s : Walked A a left) where
+    pub walked-more : {next : ℕ} → 0 < left → equalActions A (left - 1) a ≡ false → Last A (left - 1) (markOf A (left - 1)) next → Walked A a next
+    walked-more h e f =
+        let own : markOf A (left - 1) ≡ markOf A a = s .marked (left - 1) (omega arith) in
+        record {
+          within = omega (arith, s .within, f .within);
+          marked = λ b q. f .marked b q ∙ own;
+          earlier = λ b l t.
+              let other : b ≡ left - 1 → ⊥ = λ q. fails-at (is-fails e) (subst (λ (x : ℕ). So (equalActions A x a)) q t) in
+              f .none-later b (omega (arith, s .earlier b l t)) (equal-marks A b a t ∙ sym own);
+        }
+
+    pub walked-found : 0 < left → So (equalActions A (left - 1) a) → true ≡ equalsEarlier A a
+    unfolding equalsEarlier
+    walked-found h t = sym (any-of (λ b. equalActions A b a) (omega (arith, s .within)) t)
+
+    pub walked-done : left ≤ 0 → false ≡ equalsEarlier A a
+    unfolding equalsEarlier
+    walked-done h = test-eq (λ f. absurd (false≢true f)) (λ t. let (b, l, e) = any-at t in absurd (omega (arith, s .earlier b l e)))
 
 -- ---- marking one action after the other
 
--- the first i of n actions are marked, and where nothing was met no two of them have one mark
-pub record Marking (A : Actions) (n i : ℕ) (marked : List ℕ) (met : ℕ) : Type 0 where
-  pub within : i ≤ n
-  pub so-far : Marked A i marked
-  pub lone : met ≡ 0 → AllLone A i
-
-module _ {A : Actions} {n : ℕ} {marked : List ℕ} where
-  pub marking-none : length marked ≡ marks → Marking A n 0 marked 0
-  marking-none full = record {
+module _ {A : Actions} (a : ℕ) {m : ℕ} where
+  last-own : markOf A a ≡ m → Last A (a + 1) m (a + 1)
+  last-own e = record {
     within = omega arith;
-    so-far = record { full = full; last = λ a h. absurd (omega arith) };
-    lone = λ z a h. absurd (omega arith);
+    marked = λ b q. let w : a ≡ b = omega arith in subst (λ (x : ℕ). markOf A x ≡ m) w e;
+    none-later = λ b l q. l;
   }
 
-  pub marking-more : {i m met k : ℕ} → Marking A n i marked met → i < n → m ≡ markOf A i → m < marks → k ≡ i + 1
-      → Marking A n (i + 1) (set marked m k) (bitOr met (getD marked m 0))
-  marking-more {i} {m} {met} {k} s h is fits e = record {
+  last-other : {last : ℕ} → (markOf A a ≡ m → ⊥) → Last A a m last → Last A (a + 1) m last
+  last-other other s = record {
+    within = omega (arith, s .within);
+    marked = s .marked;
+    none-later = below-more _ _ (s .none-later) (λ q. absurd (other q));
+  }
+
+-- where all is 0 no action is marked
+module _ (A : Actions) where
+  pub marked-none : Marked A 0 (replicate marks 0)
+  marked-none = record {
+    full = refl;
+    each = λ m l. subst (Last A 0 m) (sym (getD-replicate marks m 0 0 l)) (record {
+      within = omega arith;
+      marked = λ b q. absurd (omega arith);
+      none-later = λ b l. absurd (omega arith);
+    });
+  }
+
+  pub chained-none : Chained A 0 (replicate maxActions 0)
+  chained-none = record { room = refl; each = λ a l. absurd (omega arith) }
+
+-- the first a of n actions are marked, and none of them equals an earlier one
+pub record Marking (A : Actions) (n a : ℕ) (lasts befores : List ℕ) : Type 0 where
+  pub within : a ≤ n
+  pub marked : Marked A a lasts
+  pub chained : Chained A a befores
+  pub none : (b : ℕ) → b < a → So (equalsEarlier A b) → ⊥
+
+module _ {A : Actions} {n : ℕ} {lasts befores : List ℕ} where
+  pub marking-none : Marked A 0 lasts → Chained A 0 befores → Marking A n 0 lasts befores
+  marking-none s t = record { within = omega arith; marked = s; chained = t; none = λ b l. absurd (omega arith) }
+
+  pub marking-last : {a m : ℕ} → Marking A n a lasts befores → m ≡ markOf A a → m < marks → Last A a (markOf A a) (getD lasts m 0)
+  marking-last {a} {m} s is fits = subst (λ (x : ℕ). Last A a x (getD lasts m 0)) is (s .marked .each m fits)
+
+  pub marking-more : {a m k : ℕ} → Marking A n a lasts befores → a < n → n ≤ maxActions → m ≡ markOf A a → m < marks → k ≡ a + 1
+      → equalsEarlier A a ≡ false → Marking A n (a + 1) (set lasts m k) (set befores a (getD lasts m 0))
+  marking-more {a} {m} {k} s h few is fits e f = record {
     within = omega arith;
-    so-far = record {
-      full = length-set marked m k ∙ s .so-far .full;
-      last = below-more _ _ (λ a l. ⊎-elim
-          (λ t. here a (same-at t) (omega arith))
-          (λ t. subst (λ (x : ℕ). a < x) (sym (getD-set-other marked m (markOf A a) k 0 (λ q. fails-at t (same-of (sym q))))) (s .so-far .last a l))
-          (holds-or (same m (markOf A a)))) (here i is (omega arith));
+    marked = record {
+      full = length-set lasts m k ∙ s .marked .full;
+      each = λ j l. ⊎-elim
+          (λ t. subst (Last A (a + 1) j)
+          (sym (ap (λ (x : ℕ). getD (set lasts m k) x 0) (sym (same-at t)) ∙ getD-set-same lasts m k 0 (omega (arith, s .marked .full)) ∙ e))
+          (last-own a (sym is ∙ same-at t)))
+          (λ t. subst (Last A (a + 1) j) (sym (getD-set-other lasts m j k 0 (λ q. fails-at t (same-of (sym q)))))
+          (last-other a (λ q. fails-at t (same-of (is ∙ q))) (s .marked .each j l)))
+          (holds-or (same m j));
     };
-    lone = λ z. below-more _ _ (s .lone (omega (arith, ors))) (λ b l q.
-        let w : getD marked (markOf A b) 0 ≡ getD marked m 0 = ap (λ (x : ℕ). getD marked x 0) (q ∙ sym is) in
-        omega (arith, ors, s .so-far .last b l));
+    chained = record {
+      room = length-set befores a last ∙ s .chained .room;
+      each = below-more _ _
+          (λ b l. subst (Last A b (markOf A b)) (sym (getD-set-other befores a b last 0 (λ q. omega arith))) (s .chained .each b l))
+          (subst (Last A a (markOf A a)) (sym (getD-set-same befores a last 0 (omega (arith, s .chained .room)))) (marking-last s is fits));
+    };
+    none = below-more _ _ (s .none) (λ t. fails-at (is-fails f) t);
   }
     where
-      here : (a : ℕ) → m ≡ markOf A a → a < i + 1 → a < getD (set marked m k) (markOf A a) 0
-      here a q l =
-          subst (λ (x : ℕ). a < x) (sym (ap (λ (x : ℕ). getD (set marked m k) x 0) (sym q) ∙ getD-set-same marked m k 0 (omega (arith, s .so-far .full)) ∙ e)) l
+      last : ℕ
+      last = getD lasts m 0
 
-      ors : (bitOr met (getD marked m 0) + bitAnd met (getD marked m 0) ≡ met + getD marked m 0) × (bitAnd met (getD marked m 0) ≤ met)
-          × (bitAnd met (getD marked m 0) ≤ getD marked m 0)
-      ors = (or-add-and met (getD marked m 0), and-le-l met (getD marked m 0), and-le-r met (getD marked m 0))
+module _ (file : List ℕ) (c : Counts) {a : ℕ} {lasts befores : List ℕ} (s : Marking (actionsOf file c) (c .actions) a lasts befores) where
+  pub marking-found : So (equalsEarlier (actionsOf file c) a) → a ≡ firstEqual (actionsOf file c)
+  unfolding firstEqual actionsOf
+  marking-found t = first-unique (s .within) (s .none) (λ l. t)
 
-  -- once all are marked
-  pub marking-done : {i met : ℕ} → Marking A n i marked met → n ≤ i → Marked A n marked × (met ≡ 0 → AllLone A n)
-  marking-done {i} {met} s h =
-      let e : i ≡ n = omega (arith, s .within) in
-      (subst (λ (x : ℕ). Marked A x marked) e (s .so-far), subst (λ (x : ℕ). met ≡ 0 → AllLone A x) e (s .lone))
-
-  -- where an action's own number stands at its mark, it equals no later one
-  pub last-none : {b : ℕ} → Marked A n marked → getD marked (markOf A b) 0 ≡ b + 1 → (end : ℕ) → end ≤ n → After A b end end
-  last-none {b} m e end h = record {
-    within = omega arith;
-    found = λ l. absurd (omega arith);
-    none = λ a k l t.
-        let q : getD marked (markOf A b) 0 ≡ getD marked (markOf A a) 0 = ap (λ (x : ℕ). getD marked x 0) (equal-marks A b a t) in
-        omega (arith, m .last a (omega arith));
-  }
+  pub marking-done : c .actions ≤ a → c .actions ≡ firstEqual (actionsOf file c)
+  unfolding firstEqual actionsOf
+  marking-done h = first-unique (omega arith) (λ b l. s .none b (omega arith)) (λ l. absurd (omega arith))
 
 -- ---- looking for one action after the other
 
@@ -204,7 +255,8 @@ pub firsts-more : {A : Actions} {n b first r : ℕ} → Firsts A n b first → A
 unfolding equalsEarlier
 firsts-more {A} {n} {b} {first} {r} s f = record {
   within = omega (arith, s .within, f .within);
-  found = λ l. by-cases (decLe first r) (λ g. let e : first ≡ r = omega (arith, f .within) in subst (λ (x : ℕ). So (equalsEarlier A x)) e (s .found (omega arith)))
+  found = λ l. by-cases (decLe first r)
+      (λ g. let e : first ≡ r = omega (arith, f .within) in subst (λ (x : ℕ). So (equalsEarlier A x)) e (s .found (omega arith)))
       (λ g. let (k, t) = f .found (omega arith) in any-of (λ b. equalActions A b r) k t);
   none = below-more _ _ (λ b l a k m. s .none b l a k (omega (arith, f .within))) (f .none);
 }

@@ -1,26 +1,25 @@
-// Two actions of a file of version 1 with the same three sets. Such actions have the same mark, so that only those whose marks meet are compared set by set. Most files have none.
+// Two actions of a file of version 1 with the same three sets. Such actions have the same mark, so that only those with one mark are compared set by set.
 use crate::file::set_at;
 use crate::format::Counts;
 use crate::format::SET_BYTES;
 use crate::format::action_at;
+use crate::limits::MAX_ACTIONS;
 use crate::refusal::Check;
 use crate::refusal::Refusal;
 ghost use mathlib.Core.Path.{_≡_};
-ghost use mathlib.Core.Bool.{false};
 ghost use Prim.Native.Nat.{_≤_, _<_};
-ghost use lib.ListN.{length};
 ghost use Rattle.graph.specs.Checks.{checkVerdict};
-ghost use Rattle.graph.specs.File.{equalActions, firstEqual, equalRule};
+ghost use Rattle.graph.specs.File.{equalActions, equalsEarlier, firstEqual, equalRule};
 ghost use Rattle.graph.specs.Format.{actionsOf};
-ghost use Rattle.graph.specs.Marks.{PlainFile, marks, markOf, AllLone, Marked, After};
+ghost use Rattle.graph.specs.Marks.{PlainFile, marks, markOf, Last, Chained, Marked, After};
 
 // So many actions are compared without marks.
 const FEW: usize = 4;
 
 // How many marks there are, and over how many numbers of 32 bits each reaches.
-const MARKS: usize = 1024;
+const MARKS: usize = 256;
 
-const MARK_SPAN: usize = 4194304;
+const MARK_SPAN: usize = 16777216;
 
 // What spreads an action over the numbers of 32 bits: a weight for what it adds, so that it does not count as a need, and 2^32 divided by the golden ratio.
 const ADD_WEIGHT: usize = 5;
@@ -63,20 +62,6 @@ fn mark(file: &[u8], c: Counts, a: usize) -> usize
     spread / MARK_SPAN
 }
 
-// Marks all actions with their numbers, counted from 1; whether two marks meet. No way leads out of the loop, which has no branch.
-fn marks_meet(file: &[u8], c: Counts, marked: &mut [u8]) -> bool
-    requires { ⌜ PlainFile (now file) c × (length (now marked) ≡ marks) ⌝ }
-    ensures { λ r. ⌜ Marked (actionsOf (now (file .entry)) c) (c .actions) (now (marked .exit)) × (r ≡ false → AllLone (actionsOf (now (file .entry)) c) (c .actions)) ⌝ }
-{
-    let mut met = 0u8;
-    for a in 0..c.actions {
-        let m = mark(file, c, a);
-        met = met | marked[m];
-        marked[m] = (a + 1) as u8;
-    }
-    met != 0
-}
-
 // Whether two actions have the same three sets.
 fn same_sets(file: &[u8], c: Counts, b: usize, a: usize) -> bool
     requires { ⌜ PlainFile (now file) c × (b < c .actions) × (a < c .actions) ⌝ }
@@ -97,50 +82,58 @@ fn equal_after(file: &[u8], c: Counts, b: usize, end: usize) -> usize
     ensures { λ r. ⌜ After (actionsOf (now (file .entry)) c) b end r ⌝ }
 {
     let next = b + 1;
-    for a in next..end {
-        let equal = same_sets(file, c, b, a);
+    for later in next..end {
+        let equal = same_sets(file, c, b, later);
         if equal {
-            return a;
+            return later;
         }
     }
     end
 }
 
-// The same once all are marked: where no later action has the mark of b, none is compared with it.
-fn equal_marked(file: &[u8], c: Counts, marked: &[u8], b: usize, end: usize) -> usize
-    requires { ⌜ PlainFile (now file) c × Marked (actionsOf (now file) c) (c .actions) (now marked) × (b < c .actions) × (end ≤ c .actions) ⌝ }
-    ensures { λ r. ⌜ After (actionsOf (now (file .entry)) c) b end r ⌝ }
+// Whether an action equals an earlier one: of those with its mark the last is given, and each leads to the one before it.
+fn equals_earlier(file: &[u8], c: Counts, befores: &[u8], last: usize, a: usize) -> bool
+    requires { ⌜ PlainFile (now file) c × (a < c .actions) × Chained (actionsOf (now file) c) a (now befores)
+        × Last (actionsOf (now file) c) a (markOf (actionsOf (now file) c) a) last ⌝ }
+    ensures { λ r. ⌜ r ≡ equalsEarlier (actionsOf (now (file .entry)) c) a ⌝ }
 {
-    let m = mark(file, c, b);
-    if marked[m] as usize == b + 1 {
-        return end;
+    let mut left = last;
+    while 0 < left {
+        let b = left - 1;
+        let equal = same_sets(file, c, b, a);
+        if equal {
+            return true;
+        }
+        left = befores[b] as usize;
     }
-    equal_after(file, c, b, end)
+    false
 }
 
-// The first action that equals an earlier one, and the number of actions where there is none: each is looked for only before the one found last.
-fn first_marked(file: &[u8], c: Counts, marked: &[u8]) -> usize
-    requires { ⌜ PlainFile (now file) c × Marked (actionsOf (now file) c) (c .actions) (now marked) ⌝ }
+// The first action that equals an earlier one, and the number of actions where there is none. Each is put before those with its mark.
+fn first_marked(file: &[u8], c: Counts, lasts: &mut [u8], befores: &mut [u8]) -> usize
+    requires { ⌜ PlainFile (now file) c × Marked (actionsOf (now file) c) 0 (now lasts) × Chained (actionsOf (now file) c) 0 (now befores) ⌝ }
     ensures { λ r. ⌜ r ≡ firstEqual (actionsOf (now (file .entry)) c) ⌝ }
 {
-    let mut first = c.actions;
-    for b in 0..c.actions {
-        first = equal_marked(file, c, marked, b, first);
+    for a in 0..c.actions {
+        let m = mark(file, c, a);
+        let last = lasts[m];
+        if equals_earlier(file, c, &befores[..], last as usize, a) {
+            return a;
+        }
+        befores[a] = last;
+        lasts[m] = (a + 1) as u8;
     }
-    first
+    c.actions
 }
 
-// The same by marks, of many actions.
+// The same with no action marked yet.
 fn first_of_many(file: &[u8], c: Counts) -> usize
     requires { ⌜ PlainFile (now file) c ⌝ }
     ensures { λ r. ⌜ r ≡ firstEqual (actionsOf (now (file .entry)) c) ⌝ }
 {
-    let mut marked = [0u8; MARKS];
-    let meet = marks_meet(file, c, &mut marked[..]);
-    if !meet {
-        return c.actions;
-    }
-    first_marked(file, c, &marked[..])
+    let mut lasts = [0u8; MARKS];
+    let mut befores = [0u8; MAX_ACTIONS];
+    first_marked(file, c, &mut lasts[..], &mut befores[..])
 }
 
 // The same without marks, of few actions: to clear the marks takes longer.

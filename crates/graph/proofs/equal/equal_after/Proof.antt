@@ -1,5 +1,5 @@
 -- `equal::equal_after` meets its contract: the loop is left at the first action that is equal; at its end none is.
-use mathlib.Core.Path.{_≡_, sym, _∙_}
+use mathlib.Core.Path.{sym, _∙_}
 use Prim.Native.Nat.{_-_}
 use native.Mathlib.Omega.{arith}
 use borrow.Author.Needs.{needs}
@@ -9,10 +9,10 @@ use Rattle.graph.proofs.equal.equal_after.Statement.{statement}
 use Rattle.graph.proofs.equal.equal_after.Tie as tie
 
 abbrev Inv-loop : tie.InvT-loop
-Inv-loop file c b end next a₀ a = Looked (actionsOf file c) b a
+Inv-loop file c b end next later₀ later = Looked (actionsOf file c) b later
 
 abbrev μ-loop : tie.MeasureT-loop
-μ-loop file c b end next a₀ a = end - a
+μ-loop file c b end next later₀ later = end - later
 
 add-next : tie.Need-add-next Inv-loop μ-loop
 add-next c = omega arith
@@ -26,8 +26,8 @@ same-sets-requires c κs = search needs
 returns : tie.Need-returns Inv-loop μ-loop
 returns c = looked-found (c .before .before .before .loop .inv) (search needs) (sym (c .before .same-sets .ensures) ∙ c .if1 .taken)
 
-add-a : tie.Need-add-a Inv-loop μ-loop
-add-a c = omega arith
+add-later : tie.Need-add-later Inv-loop μ-loop
+add-later c = omega arith
 
 loop-less : tie.Need-loop-less Inv-loop μ-loop
 loop-less c = omega arith
@@ -48,7 +48,7 @@ equal-after-spec =
     loop-holds
     same-sets-requires
     returns
-    add-a
+    add-later
     loop-less
     loop-again
     returns-2)

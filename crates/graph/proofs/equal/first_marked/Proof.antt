@@ -1,38 +1,112 @@
--- `equal::first_marked` meets its contract: the loop goes over the earlier action of a pair, and keeps the first later one.
-use mathlib.Core.Path.{_≡_}
+-- `equal::first_marked` meets its contract: the loop compares one action after the other with those marked before it, and marks it.
+use mathlib.Core.Path.{refl, sym, _∙_}
 use Prim.Native.Nat.{_-_}
 use native.Mathlib.Omega.{arith}
 use borrow.Author.Needs.{needs}
 use Rattle.graph.specs.Format.{actionsOf}
-use Rattle.graph.proofs.Equals.{Firsts, firsts-none, firsts-more, firsts-done}
+use Rattle.graph.proofs.Equals.{Marking, marking-none, marking-last, marking-more, marking-found, marking-done}
 use Rattle.graph.proofs.equal.first_marked.Statement.{statement}
 use Rattle.graph.proofs.equal.first_marked.Tie as tie
 
 abbrev Inv-loop : tie.InvT-loop
-Inv-loop file c marked first₀ b₀ b-end first b = Firsts (actionsOf file c) (c .actions) b first
+Inv-loop file c lasts₀ befores₀ a₀ a-end lasts befores a = Marking (actionsOf file c) (c .actions) a lasts befores
 
 abbrev μ-loop : tie.MeasureT-loop
-μ-loop file c marked first₀ b₀ b-end first b = c .actions - b
+μ-loop file c lasts₀ befores₀ a₀ a-end lasts befores a = c .actions - a
 
 loop-holds : tie.Need-loop-holds Inv-loop μ-loop
-loop-holds c = firsts-none
+loop-holds c = let start = c .before .before .before in marking-none (start .pre .1) (start .pre .2)
 
-equal-marked-requires : tie.Need-equal-marked-requires Inv-loop μ-loop
-equal-marked-requires c κs = search needs
+mark-requires : tie.Need-mark-requires Inv-loop μ-loop
+mark-requires c κs = search needs
 
-add-b : tie.Need-add-b Inv-loop μ-loop
-add-b c = omega arith
+slice-read-last : tie.Need-slice-read-last Inv-loop μ-loop
+slice-read-last c = omega (arith, c .before .mark .ensures .1, c .before .before .before .loop .inv .marked .full)
+
+cast-equals-earlier : tie.Need-cast-equals-earlier Inv-loop μ-loop
+cast-equals-earlier c = omega (arith, c .before .slice-known3 .given (c .before .before .mark .result))
+
+equals-earlier-requires : tie.Need-equals-earlier-requires Inv-loop μ-loop
+equals-earlier-requires c κs =
+    let start = c .before .before .before .before .before .before .before .before in
+    let loop = c .before .before .before .before .loop in
+    let (is, fits) = c .before .before .mark .ensures in
+    (start .pre .0, omega arith, loop .inv .chained, marking-last (loop .inv) is fits)
+
+same-length : tie.Need-same-length Inv-loop μ-loop
+same-length c = c .before .before .before .before .before .before .loop .inv .marked .full
+    ∙ sym (c .before .before .before .before .before .before .before .before .before .before .pre .1 .full)
+
+same-length-2 : tie.Need-same-length-2 Inv-loop μ-loop
+same-length-2 c = c .before .before .before .before .before .before .loop .inv .chained .room
+    ∙ sym (c .before .before .before .before .before .before .before .before .before .before .pre .2 .room)
+
+returns : tie.Need-returns Inv-loop μ-loop
+returns c = marking-found _ _ (c .before .before .before .before .before .before .loop .inv) (sym (c .before .equals-earlier .ensures) ∙ c .if1 .taken)
+
+slice-write-befores : tie.Need-slice-write-befores Inv-loop μ-loop
+slice-write-befores c =
+    let start = c .before .before .before .before .before .before .before .before .before .before in
+    omega (arith, start .pre .0 .0 .actions, c .before .before .before .before .before .before .loop .inv .chained .room)
+
+add-lasts : tie.Need-add-lasts Inv-loop μ-loop
+add-lasts c = omega arith
+
+cast-lasts : tie.Need-cast-lasts Inv-loop μ-loop
+cast-lasts c =
+    omega (arith, c .before .before .before .before .before .before .before .before .before .before .pre .0 .0 .actions)
+
+slice-write-lasts : tie.Need-slice-write-lasts Inv-loop μ-loop
+slice-write-lasts c =
+    omega (
+      arith,
+      c .before .before .before .before .mark .ensures .1,
+      c .before .before .before .before .before .before .loop .inv .marked .full,
+    )
+
+add-a : tie.Need-add-a Inv-loop μ-loop
+add-a c = omega arith
 
 loop-less : tie.Need-loop-less Inv-loop μ-loop
 loop-less c = omega arith
 
 loop-again : tie.Need-loop-again Inv-loop μ-loop
-loop-again c = firsts-more (c .before .before .loop .inv) (c .equal-marked .ensures)
+loop-again c =
+    let start = c .before .before .before .before .before .before .before .before .before .before in
+    let (is, fits) = c .before .before .before .before .mark .ensures in
+    marking-more (c .before .before .before .before .before .before .loop .inv) (omega arith) (start .pre .0 .0 .actions) is fits refl
+    (sym (c .before .equals-earlier .ensures) ∙ c .if1 .left)
 
-returns : tie.Need-returns Inv-loop μ-loop
-returns c = firsts-done _ _ (c .before .loop .inv) (omega arith)
+same-length-3 : tie.Need-same-length-3 Inv-loop μ-loop
+same-length-3 c = c .before .loop .inv .marked .full ∙ sym (c .before .before .before .before .before .pre .1 .full)
+
+same-length-4 : tie.Need-same-length-4 Inv-loop μ-loop
+same-length-4 c = c .before .loop .inv .chained .room ∙ sym (c .before .before .before .before .before .pre .2 .room)
+
+returns-2 : tie.Need-returns-2 Inv-loop μ-loop
+returns-2 c = marking-done _ _ (c .before .loop .inv) (omega arith)
 
 pub first-marked-spec : {M : Type 1} → statement M
 first-marked-spec =
     tie.close
-    (tie.spec Inv-loop μ-loop loop-holds equal-marked-requires add-b loop-less loop-again returns)
+    (tie.spec
+    Inv-loop
+    μ-loop
+    loop-holds
+    mark-requires
+    slice-read-last
+    cast-equals-earlier
+    equals-earlier-requires
+    same-length
+    same-length-2
+    returns
+    slice-write-befores
+    add-lasts
+    cast-lasts
+    slice-write-lasts
+    add-a
+    loop-less
+    loop-again
+    same-length-3
+    same-length-4
+    returns-2)
