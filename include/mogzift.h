@@ -13,6 +13,10 @@
  *   goals, goals_len  a page of goals, each a set of propositions
  *   possible, possible_len
  *                     the possible sets, of each start state the propositions that may hold in it
+ *   weights, weights_len
+ *                     the weights, one for each start state, 0 to 65,535
+ *   numerator, denominator
+ *                     a share of the weight of all states, as a fraction
  *   words, words_len  graph memory, in 64-bit words; so are possible_words and sure_words, of possible_len and sure_len
  *   list, list_len    a sequence of action numbers, a byte each
  *   out, out_len      output, in elements
@@ -25,7 +29,7 @@
  * writes what another reads or writes.
  *
  * WHAT A CALL RETURNS AND TELLS
- * It returns 0 if it is accepted, else the number of its refusal, 1 to 17. Every call writes all three numbers of the
+ * It returns 0 if it is accepted, else the number of its refusal, 1 to 18. Every call writes all three numbers of the
  * answer. answer[0] is the kind:
  *   MOGZIFT_REFUSED       answer[1] is the number returned, answer[2] the place
  *   MOGZIFT_ANSWERED      answer[1] and answer[2] are the call's, as said there; 0 where nothing is said
@@ -70,8 +74,8 @@
  *
  * REFUSALS
  * The first cause that holds, in the order of this list, of those that the call can have: rising numbers, but 16, 15 and
- * 17 behind 5. 1 to 5, 16 and 15 are for the file's writer to mend, 17 and 6 to 11 for the caller; 12 and 13 lie in the
- * problem; at 14 someone altered the graph's words.
+ * 17 behind 5, and 18 behind 8. 1 to 5, 16 and 15 are for the file's writer to mend, 17, 18 and 6 to 11 for the caller; 12
+ * and 13 lie in the problem; at 14 someone altered the graph's words.
  *   number                          cause                                                        place
  *    1 MOGZIFT_BAD_HEAD             under 8 bytes, no SAG, or version 2 and under 9 bytes        0
  *    2 MOGZIFT_BAD_VERSION          a version other than 1 and 2                                 3
@@ -86,6 +90,8 @@
  *    6 MOGZIFT_BAD_DEPTH            depth above 255                                              255
  *    7 MOGZIFT_BAD_STATE_SET        set empty, or with bit N or above                            0
  *    8 MOGZIFT_BAD_GOAL             goal with bit P or above                                     0
+ *   18 MOGZIFT_BAD_SHARE            weights_len is not N, all weights are 0, denominator 0, or   0
+ *                                   numerator above denominator
  *    9 MOGZIFT_SHORT_MEMORY         words_len, or a length of one of two graphs, too small       the words needed
  *   10 MOGZIFT_SHORT_OUTPUT         out_len too small                                            the elements needed
  *   11 MOGZIFT_BAD_SEQUENCE         list longer than 65,535; else an action number of A or above 65,535; else its index
@@ -138,7 +144,8 @@ enum {
     MOGZIFT_UNCOVERED = 14,
     MOGZIFT_EQUAL_ACTION = 15,
     MOGZIFT_EFFECT_ACTION = 16,
-    MOGZIFT_BAD_POSSIBLE_SET = 17
+    MOGZIFT_BAD_POSSIBLE_SET = 17,
+    MOGZIFT_BAD_SHARE = 18
 };
 
 /* The bytes of output that mogzift_levels_text asks for: the longest text's. */
@@ -195,6 +202,8 @@ static inline const char *mogzift_message(size_t number) {
         return "an effect, at the place, has an action number of A or above: name only 0 to A - 1, or count A up";
     case MOGZIFT_BAD_POSSIBLE_SET:
         return "not N possible sets, or the one at the place lacks a sure proposition or has bit P or above: mend the list";
+    case MOGZIFT_BAD_SHARE:
+        return "not N weights, all of them 0, denominator 0, or numerator above it: weigh each state, and ask for 1 at most";
     default:
         return "no call returns this number";
     }
@@ -250,6 +259,18 @@ size_t mogzift_level(const uint8_t *file, size_t file_len, size_t depth, uint64_
 size_t mogzift_level_within(const uint8_t *file, size_t file_len, size_t depth, uint64_t set, uint32_t goal,
                             const uint64_t *possible_words, size_t possible_len, const uint64_t *sure_words,
                             size_t sure_len, uint64_t answer[3]);
+
+/*
+ * The first layer that holds the goal for enough of the weight: where the weight of the states that hold it, times the
+ * denominator, is at least the weight of all states, times the numerator. A state holds the goal in a layer if it is in
+ * each goal's label and in no mutex word of two goals; an empty goal is held by all. Bits from N up weigh nothing. With
+ * share 1 and no weight 0 this is mogzift_level for all states.
+ * Answered: answer[1] is the layer. Never: there is no such layer, and the graph rests. Not by depth: there is none, and
+ * the graph does not rest. Refused: 1 to 5, 16, 15, 6, 8, 18, 9.
+ */
+size_t mogzift_level_share(const uint8_t *file, size_t file_len, size_t depth, uint32_t goal, const uint16_t *weights,
+                           size_t weights_len, uint16_t numerator, uint16_t denominator, const uint64_t *words,
+                           size_t words_len, uint64_t answer[3]);
 
 /*
  * The levels of a page of goals for the states of the set. Entry i of out is what mogzift_level gives for goal i: the

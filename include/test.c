@@ -57,6 +57,9 @@ enum { DOOR = 1, DESK = 2, LIT = 4, WALK = 0, LIGHT = 1, BOTH = 3, MARK = 0xA5 }
 /* what may hold in the lamp's states: what the file says, and that it is lit */
 static const uint32_t LIT_TOO[3] = {DOOR | LIT, DESK | LIT, 0};
 
+/* weights of the lamp's states, the same for both */
+static const uint16_t EVEN[3] = {1, 1, 1};
+
 /* a page of goals, one of which is no set of the lamp's propositions */
 enum { GOALS = 5 };
 static const uint32_t PAGE[GOALS] = {DOOR, DESK, 8, LIT, DOOR | LIT};
@@ -153,6 +156,13 @@ static size_t level_within(size_t depth, uint64_t set, uint32_t goal, const uint
                            const uint64_t *sure, size_t sure_len) {
     mark();
     return mogzift_level_within(file, file_len, depth, set, goal, possible, possible_len, sure, sure_len, answer);
+}
+
+static size_t level_share(size_t depth, uint32_t goal, const uint16_t *weights, size_t weights_len, uint16_t numerator,
+                          uint16_t denominator, const uint64_t *graph, size_t len) {
+    mark();
+    return mogzift_level_share(file, file_len, depth, goal, weights, weights_len, numerator, denominator, graph, len,
+                               answer);
 }
 
 /* a page of so many of the goals */
@@ -365,6 +375,8 @@ static void equal_actions(void) {
     CHECK(refused(level(256, 0, 8, words, 0), MOGZIFT_EQUAL_ACTION, 20));
     CHECK(refused(level_within(2, BOTH, LIT, lit, 48, words, 48), MOGZIFT_EQUAL_ACTION, 20));
     CHECK(refused(level_within(256, 0, 8, lit, 0, words, 0), MOGZIFT_EQUAL_ACTION, 20));
+    CHECK(refused(level_share(2, LIT, EVEN, 2, 1, 2, words, 48), MOGZIFT_EQUAL_ACTION, 20));
+    CHECK(refused(level_share(256, 8, EVEN, 1, 1, 0, words, 0), MOGZIFT_EQUAL_ACTION, 20));
     CHECK(refused(page(2, BOTH, GOALS, words, 48, GOALS), MOGZIFT_EQUAL_ACTION, 20));
     CHECK(refused(page(256, 0, GOALS, words, 0, 0), MOGZIFT_EQUAL_ACTION, 20));
     CHECK(refused(extract(2, DESK, 48, 49), MOGZIFT_EQUAL_ACTION, 20));
@@ -424,6 +436,129 @@ static void levels_within(void) {
     CHECK(refused(level_within(2, BOTH, LIT, lit, 48, words, 47), MOGZIFT_SHORT_MEMORY, 48));
     CHECK(refused(level_within(2, BOTH, LIT, lit, 47, words, 47), MOGZIFT_SHORT_MEMORY, 48));
     CHECK(refused(level_within(2, BOTH, 0, lit, 0, words, 0), MOGZIFT_SHORT_MEMORY, 48));
+}
+
+/* A share at depth 2 with these weights. */
+static size_t share(uint32_t goal, uint16_t door, uint16_t desk, uint16_t numerator, uint16_t denominator) {
+    uint16_t weights[2];
+    size_t code;
+    weights[0] = door;
+    weights[1] = desk;
+    code = level_share(2, goal, weights, 2, numerator, denominator, words, 48);
+    CHECK(weights[0] == door && weights[1] == desk);
+    return code;
+}
+
+/* Whether a share of the weight is met at this layer. */
+static int met(size_t code, uint64_t layer) {
+    return answered(code, MOGZIFT_ANSWERED, layer, 0);
+}
+
+/* Lit: no state in layer 0, that at the desk in layer 1, both in layer 2. */
+static void levels_by_share(void) {
+    static uint64_t junk[69];
+    size_t i;
+    uint32_t goal;
+    CHECK(met(share(LIT, 1, 1, 0, 1), 0));
+    CHECK(met(share(LIT, 1, 1, 1, 65535), 1));
+    CHECK(met(share(LIT, 1, 1, 1, 2), 1));
+    CHECK(met(share(LIT, 1, 1, 32768, 65535), 2)); /* a little above a half */
+    CHECK(met(share(LIT, 1, 1, 1, 1), 2));
+    CHECK(met(share(LIT, 1, 1, 65535, 65535), 2));
+    CHECK(met(share(LIT, 65535, 1, 0, 1), 0));
+    CHECK(met(share(LIT, 65535, 1, 1, 65535), 2)); /* 1 of 65,536 is less than that */
+    CHECK(met(share(LIT, 65535, 1, 1, 2), 2));
+    CHECK(met(share(LIT, 65535, 1, 1, 1), 2));
+    CHECK(met(share(LIT, 65534, 1, 1, 65535), 1)); /* and 1 of 65,535 is that */
+    CHECK(met(share(LIT, 1, 65535, 65534, 65535), 1));
+    CHECK(met(share(LIT, 2, 65535, 65534, 65535), 2));
+    CHECK(met(share(LIT, 1, 65535, 1, 1), 2));
+    CHECK(met(share(LIT, 65535, 65535, 1, 2), 1));
+    CHECK(met(share(LIT, 65535, 65535, 65535, 65535), 2));
+    CHECK(met(share(LIT, 0, 1, 1, 1), 1));
+    CHECK(met(share(LIT, 1, 0, 1, 65535), 2));
+    /* at the door: one state of two, at once or never */
+    CHECK(met(share(DOOR, 1, 1, 1, 2), 0));
+    CHECK(met(share(DOOR, 1, 0, 1, 1), 0));
+    CHECK(answered(share(DOOR, 1, 1, 1, 1), MOGZIFT_NOT_BY_DEPTH, 0, 0));
+    CHECK(answered(share(DOOR, 0, 1, 1, 65535), MOGZIFT_NOT_BY_DEPTH, 0, 0));
+    CHECK(answered(level_share(3, DOOR, EVEN, 2, 1, 1, deeper, 69), MOGZIFT_NEVER, 0, 0));
+    /* two goals: each in some state, both in one, mutex */
+    CHECK(met(share(DESK | LIT, 1, 1, 1, 2), 1));
+    CHECK(met(share(DESK | LIT, 1, 1, 1, 1), 2));
+    CHECK(answered(share(DOOR | DESK, 1, 1, 1, 65535), MOGZIFT_NOT_BY_DEPTH, 0, 0));
+    CHECK(answered(share(DOOR | LIT, 1, 1, 1, 65535), MOGZIFT_NOT_BY_DEPTH, 0, 0));
+    CHECK(answered(level_share(3, DOOR | LIT, EVEN, 2, 1, 65535, deeper, 69), MOGZIFT_NEVER, 0, 0));
+    CHECK(met(share(DOOR | LIT, 1, 1, 0, 65535), 0));
+    /* no goal */
+    CHECK(met(share(0, 1, 1, 1, 1), 0));
+    CHECK(met(level_share(0, 0, EVEN, 2, 1, 1, words, 6), 0));
+    CHECK(answered(level_share(0, LIT, EVEN, 2, 1, 2, words, 6), MOGZIFT_NOT_BY_DEPTH, 0, 0));
+
+    /* all of the weight is the level of both states */
+    for (goal = 0; goal < 8; goal++) {
+        uint64_t kind, layer;
+        CHECK(level(2, BOTH, goal, words, 48) == 0);
+        kind = answer[0];
+        layer = answer[1];
+        CHECK(answered(share(goal, 1, 1, 1, 1), kind, layer, 0));
+        CHECK(answered(share(goal, 65535, 2, 3, 3), kind, layer, 0));
+        CHECK(level(3, BOTH, goal, deeper, 69) == 0);
+        kind = answer[0];
+        layer = answer[1];
+        CHECK(answered(level_share(3, goal, EVEN, 2, 9, 9, deeper, 69), kind, layer, 0));
+    }
+
+    /* states that do not exist hold everything, or are mutex everywhere: they weigh nothing */
+    for (i = 0; i < 69; i++) {
+        junk[i] = deeper[i] | ~(uint64_t)BOTH;
+    }
+    for (goal = 0; goal < 8; goal++) {
+        uint16_t numerator;
+        for (numerator = 0; numerator < 3; numerator++) {
+            uint64_t kind, layer;
+            CHECK(level_share(3, goal, EVEN, 2, numerator, 2, deeper, 69) == 0);
+            kind = answer[0];
+            layer = answer[1];
+            CHECK(answered(level_share(3, goal, EVEN, 2, numerator, 2, junk, 69), kind, layer, 0));
+        }
+    }
+    for (i = 0; i < 69; i++) {
+        junk[i] = (i & 1) != 0 ? ~(uint64_t)BOTH : 0;
+    }
+    CHECK(met(level_share(3, LIT, EVEN, 2, 0, 1, junk, 69), 0));
+    CHECK(answered(level_share(3, DESK, EVEN, 2, 1, 65535, junk, 69), MOGZIFT_NOT_BY_DEPTH, 0, 0));
+    CHECK(met(level_share(3, 0, EVEN, 2, 1, 1, junk, 69), 0));
+    /* what a label loses counts in that layer only */
+    memcpy(junk, deeper, sizeof junk);
+    junk[44] = 0; /* lit, layer 2 */
+    CHECK(met(level_share(3, LIT, EVEN, 2, 1, 2, junk, 69), 1));
+    CHECK(met(level_share(3, LIT, EVEN, 2, 1, 1, junk, 69), 3));
+
+    /* each form of 18 */
+    CHECK(refused(level_share(2, LIT, EVEN, 1, 1, 2, words, 48), MOGZIFT_BAD_SHARE, 0));
+    CHECK(refused(level_share(2, LIT, EVEN, 0, 1, 2, words, 48), MOGZIFT_BAD_SHARE, 0));
+    CHECK(refused(level_share(2, LIT, EVEN, 3, 1, 2, words, 48), MOGZIFT_BAD_SHARE, 0));
+    CHECK(refused(share(LIT, 0, 0, 1, 2), MOGZIFT_BAD_SHARE, 0));
+    CHECK(refused(share(LIT, 0, 0, 0, 1), MOGZIFT_BAD_SHARE, 0));
+    CHECK(refused(share(LIT, 1, 1, 0, 0), MOGZIFT_BAD_SHARE, 0));
+    CHECK(refused(share(LIT, 1, 1, 1, 0), MOGZIFT_BAD_SHARE, 0));
+    CHECK(refused(share(LIT, 1, 1, 2, 1), MOGZIFT_BAD_SHARE, 0));
+    CHECK(refused(share(LIT, 1, 1, 65535, 65534), MOGZIFT_BAD_SHARE, 0));
+    CHECK(refused(share(0, 0, 0, 0, 0), MOGZIFT_BAD_SHARE, 0));
+    /* behind the file's causes, 6 and 8, and before 9 */
+    CHECK(refused(level_share(256, 8, EVEN, 1, 1, 0, words, 0), MOGZIFT_BAD_DEPTH, 255));
+    CHECK(refused(level_share(256, LIT, EVEN, 2, 1, 2, words, 48), MOGZIFT_BAD_DEPTH, 255));
+    CHECK(refused(level_share(2, 8, EVEN, 1, 1, 0, words, 0), MOGZIFT_BAD_GOAL, 0));
+    CHECK(refused(level_share(2, 0x80000000, EVEN, 2, 1, 2, words, 48), MOGZIFT_BAD_GOAL, 0));
+    CHECK(refused(level_share(2, LIT, EVEN, 1, 1, 2, words, 47), MOGZIFT_BAD_SHARE, 0));
+    CHECK(refused(level_share(2, LIT, EVEN, 2, 2, 1, words, 0), MOGZIFT_BAD_SHARE, 0));
+    CHECK(refused(level_share(2, LIT, EVEN, 2, 1, 2, words, 47), MOGZIFT_SHORT_MEMORY, 48));
+    CHECK(refused(level_share(2, LIT, EVEN, 2, 0, 1, words, 0), MOGZIFT_SHORT_MEMORY, 48));
+    CHECK(refused(level_share(2, 0, EVEN, 2, 1, 1, words, 0), MOGZIFT_SHORT_MEMORY, 48));
+    file[7] = 1;
+    CHECK(refused(level_share(256, 8, EVEN, 1, 1, 0, words, 0), MOGZIFT_BAD_LENGTH, file_len - 4));
+    file[7] = 2;
 }
 
 static void pages(void) {
@@ -571,6 +706,7 @@ static void effects_of_no_action(void) {
     CHECK(refused(rest(256, words, 0), MOGZIFT_EFFECT_ACTION, FIRST_EFFECT));
     CHECK(refused(level(256, 0, 8, words, 0), MOGZIFT_EFFECT_ACTION, FIRST_EFFECT));
     CHECK(refused(level_within(256, 0, 8, lit, 0, words, 0), MOGZIFT_EFFECT_ACTION, FIRST_EFFECT));
+    CHECK(refused(level_share(256, 8, EVEN, 1, 1, 0, words, 0), MOGZIFT_EFFECT_ACTION, FIRST_EFFECT));
     CHECK(refused(page(256, 0, GOALS, words, 0, 0), MOGZIFT_EFFECT_ACTION, FIRST_EFFECT));
     CHECK(refused(extract(256, 0, 0, 0), MOGZIFT_EFFECT_ACTION, FIRST_EFFECT));
     CHECK(refused(run(0, list, 1, 0), MOGZIFT_EFFECT_ACTION, FIRST_EFFECT));
@@ -716,13 +852,13 @@ static void effect_counts(void) {
 static void messages(void) {
     size_t i, j;
     CHECK(strcmp(mogzift_message(0), "accepted") == 0);
-    for (i = 0; i <= MOGZIFT_BAD_POSSIBLE_SET + 1; i++) {
+    for (i = 0; i <= MOGZIFT_BAD_SHARE + 1; i++) {
         CHECK(strlen(mogzift_message(i)) > 0);
         for (j = 0; j < i; j++) {
             CHECK(strcmp(mogzift_message(i), mogzift_message(j)) != 0);
         }
     }
-    CHECK(strcmp(mogzift_message((size_t)-1), mogzift_message(MOGZIFT_BAD_POSSIBLE_SET + 1)) == 0);
+    CHECK(strcmp(mogzift_message((size_t)-1), mogzift_message(MOGZIFT_BAD_SHARE + 1)) == 0);
 }
 
 int main(void) {
@@ -742,6 +878,7 @@ int main(void) {
     equal_actions();
     rests_and_levels();
     levels_within();
+    levels_by_share();
     pages();
     extracts();
     runs();
@@ -760,6 +897,7 @@ int main(void) {
     effects_of_no_action();
     rests_and_levels();
     levels_within();
+    levels_by_share();
     pages();
     extracts();
     runs_2();
@@ -774,6 +912,7 @@ int main(void) {
     CHECK(memcmp(words, LAMP_WORDS, sizeof LAMP_WORDS) == 0 && marked_from(words, sizeof words, sizeof LAMP_WORDS));
     CHECK(memcmp(lit, LIT_WORDS, sizeof LIT_WORDS) == 0 && marked_from(lit, sizeof lit, sizeof LIT_WORDS));
     CHECK(LIT_TOO[0] == (DOOR | LIT) && LIT_TOO[1] == (DESK | LIT) && LIT_TOO[2] == 0);
-    printf("the lamp through 11 calls, in both versions: %d checks, %d failed\n", checks, failures);
+    CHECK(EVEN[0] == 1 && EVEN[1] == 1 && EVEN[2] == 1);
+    printf("the lamp through 12 calls, in both versions: %d checks, %d failed\n", checks, failures);
     return failures == 0 ? 0 : 1;
 }

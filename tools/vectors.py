@@ -11,22 +11,22 @@ The script reads them as text and knows nothing of what a call does. It writes c
 - A file is: how many cases of each kind it holds, a number for each kind; the store's length, a number;
   the store's bytes; the cases, each a row of numbers. What is no number stands in the store, once, and
   a case has two numbers for it, where it starts in the store and how many bytes it has.
-- calls.bin has nine kinds, in the order of KINDS. A case has the values of CALL in their order, 26 numbers,
+- calls.bin has ten kinds, in the order of KINDS. A case has the values of CALL in their order, 28 numbers,
   since `file`, `edits`, `list` and `edits2` are parts of the store. `graph` is 0 where the line has none,
   1 for the memory as the build left it, cut to `words`, 2 for a fill by `base` and `mask`; `edits` is a row
   of pairs of numbers, a word's index and what is xored to it; `list` is a run's actions, a byte each, or a
-  page's goals or a build's possible sets, a row of numbers, how many and then each. Where a line has two
-  graphs, `words` to `edits` are of the sure sets, and `words2` to `edits2` the same of the possible ones,
-  with the memory as the build for possible sets left it. `answer` is the answer's place in ANSWERS, `first`
-  and `second` are its numbers; of two levels, 256 stands for `never` and 257 for `not-by-depth`. What a line
-  lacks is 0.
+  page's goals, a build's possible sets or the weights of the states, a row of numbers, how many and then each.
+  Where a line has two graphs, `words` to `edits` are of the sure sets, and `words2` to `edits2` the same of the
+  possible ones, with the memory as the build for possible sets left it. `numerator` and `denominator` are those
+  of the share. `answer` is the answer's place in ANSWERS, `first` and `second` are its numbers; of two levels,
+  256 stands for `never` and 257 for `not-by-depth`. What a line lacks is 0.
 - levels.bin has one kind. A case is three parts of the store: the file's name, its bytes, the text.
 """
 import pathlib
 import re
 import sys
 
-KINDS = ['build', 'rest', 'level', 'extract', 'plan', 'run', 'page', 'build-within', 'level-within']
+KINDS = ['build', 'rest', 'level', 'extract', 'plan', 'run', 'page', 'build-within', 'level-within', 'weighted']
 KEYS = {
     'build': 'file depth words fill',
     'rest': 'file depth words graph',
@@ -37,9 +37,13 @@ KEYS = {
     'page': 'file depth set goals words graph out fill',
     'build-within': 'file possible depth words fill',
     'level-within': 'file depth set goal words possible words2 sure',
+    'weighted': 'file depth goal weights share words graph',
 }
+# The lists that are rows of numbers: of which kind, under which key, and how many bits a number has.
+LISTS = {'page': ('goals', 32), 'build-within': ('possible', 32), 'weighted': ('weights', 16)}
 CALL = ['kind', 'file', 'depth', 'set', 'goal', 'words', 'graph', 'base', 'mask', 'edits', 'list', 'out', 'fill',
-        'answer', 'first', 'second', 'digest', 'words2', 'graph2', 'base2', 'mask2', 'edits2']
+        'answer', 'first', 'second', 'digest', 'words2', 'graph2', 'base2', 'mask2', 'edits2',
+        'numerator', 'denominator']
 ANSWERS = ['refused # #', 'built # looked #', 'rest #', 'none', 'level #', 'never', 'not by depth', 'extracted #',
            'plan # count #', 'ran #', 'paged #', 'levels # #']
 
@@ -92,12 +96,19 @@ def graph(text, words, name, built):
     return {'words': words, 'graph': 1, 'edits': b''.join(number(int(i)) + number(int(x, 16)) for i, x in pairs)}
 
 
-def sets(text):
-    """A list of sets as a row of numbers, of which the first says how many there are."""
+def listed(text, bits):
+    """A list of numbers of so many bits as a row, of which the first says how many there are."""
     some = [] if text == '-' else [int(one, 16) for one in text.split(',')]
-    if len(some) > LISTED or any(one >= 2 ** 32 for one in some):
+    if len(some) > LISTED or any(one >= 2 ** bits for one in some):
         raise ValueError(f'the program has not so much room: {text}')
     return b''.join(map(number, [len(some), *some]))
+
+
+def fraction(text):
+    numerator, denominator = map(int, text.split('/'))
+    if max(numerator, denominator) >= 2 ** 16:
+        raise ValueError(f'the program has not so much room: {text}')
+    return {'numerator': numerator, 'denominator': denominator}
 
 
 def answer(text):
@@ -128,8 +139,9 @@ def call(line, built):
     if list(given) != KEYS[kind].split() or bool(digest) != ('fill' in given):
         raise ValueError(f'keys of {line}')
     case = {'kind': KINDS.index(kind), 'file': octets(given['file'])}
-    listed = {'page': 'goals', 'build-within': 'possible'}.get(kind)
-    case['list'] = sets(given[listed]) if listed else octets(given.get('list', '-'))
+    key, bits = LISTS.get(kind, ('list', 8))
+    case['list'] = octets(given.get(key, '-')) if bits == 8 else listed(given[key], bits)
+    case |= fraction(given['share']) if 'share' in given else {}
     case |= {key: int(given[key]) for key in ('depth', 'words', 'out', 'fill') if key in given}
     case |= {key: int(given[key], 16) for key in ('set', 'goal') if key in given}
     case |= graphs(kind, given, built)

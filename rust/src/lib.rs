@@ -34,6 +34,10 @@
 //! let levels = mogzift::level_within(&file, 2, 0b11, 1 << 2, &possible, &words);
 //! assert_eq!(levels, Ok(mogzift::Levels { possible: mogzift::Level::At(0), sure: mogzift::Level::At(2) }));
 //!
+//! // At the desk lie three quarters of the weight: enough for a share of 1/2, not for one of 9/10.
+//! assert_eq!(mogzift::level_share(&file, 2, 1 << 2, &[1, 3], 1, 2, &words), Ok(mogzift::Level::At(1)));
+//! assert_eq!(mogzift::level_share(&file, 2, 1 << 2, &[1, 3], 9, 10, &words), Ok(mogzift::Level::At(2)));
+//!
 //! assert_eq!(mogzift::build(&file, 2, &mut words[..47]), Err(mogzift::Refusal::Memory(48)));
 //! ```
 
@@ -167,6 +171,19 @@ mod proved {
             sure_len: usize,
             answer: *mut [u64; 3],
         ) -> usize;
+        pub fn mogzift_level_share(
+            file: *const u8,
+            file_len: usize,
+            depth: usize,
+            goal: u32,
+            weights: *const u16,
+            weights_len: usize,
+            numerator: u16,
+            denominator: u16,
+            words: *const u64,
+            words_len: usize,
+            answer: *mut [u64; 3],
+        ) -> usize;
         pub fn mogzift_page(
             file: *const u8,
             file_len: usize,
@@ -263,6 +280,15 @@ fn built(answer: (u64, usize, usize)) -> Built {
     }
 }
 
+fn level_of(answer: (u64, usize, usize)) -> Level {
+    match answer {
+        (ANSWERED, layer, 0) => Level::At(layer),
+        (NONE, 0, 0) => Level::Never,
+        (NOT_BY_DEPTH, 0, 0) => Level::NotByDepth,
+        _ => unreachable!("{answer:?} of a level"),
+    }
+}
+
 // In each call below the pointers and lengths are those of slices that live as long as the call, and what is written is
 // borrowed alone. The library asks nothing else.
 
@@ -309,15 +335,10 @@ pub fn rest(file: &[u8], depth: usize, words: &[u64]) -> Result<Rest, Refusal> {
 
 /// The level of a goal for a set of states.
 pub fn level(file: &[u8], depth: usize, set: u64, goal: u32, words: &[u64]) -> Result<Level, Refusal> {
-    let answer = told(|answer| unsafe {
+    told(|answer| unsafe {
         proved::mogzift_level(file.as_ptr(), file.len(), depth, set, goal, words.as_ptr(), words.len(), answer)
-    })?;
-    Ok(match answer {
-        (ANSWERED, layer, 0) => Level::At(layer),
-        (NONE, 0, 0) => Level::Never,
-        (NOT_BY_DEPTH, 0, 0) => Level::NotByDepth,
-        _ => unreachable!("{answer:?} of a level"),
     })
+    .map(level_of)
 }
 
 /// The levels of a goal for a set of states in two graphs: the first one's words are those of [`build_within`], for the
@@ -353,6 +374,38 @@ pub fn level_within(
         (ANSWERED, first, second) => Levels { possible: level(first), sure: level(second) },
         _ => unreachable!("{answer:?} of two levels"),
     })
+}
+
+/// The first layer that holds a goal for enough of the weight.
+///
+/// Each state has a weight, and the share is a fraction, 0 to 1. The layer is the first where the weight of the states
+/// that hold the whole goal, free of mutexes, times the denominator, is at least the weight of all states, times the
+/// numerator. With share 1 and no weight 0 it is the [`level`] of all states.
+pub fn level_share(
+    file: &[u8],
+    depth: usize,
+    goal: u32,
+    weights: &[u16],
+    numerator: u16,
+    denominator: u16,
+    words: &[u64],
+) -> Result<Level, Refusal> {
+    told(|answer| unsafe {
+        proved::mogzift_level_share(
+            file.as_ptr(),
+            file.len(),
+            depth,
+            goal,
+            weights.as_ptr(),
+            weights.len(),
+            numerator,
+            denominator,
+            words.as_ptr(),
+            words.len(),
+            answer,
+        )
+    })
+    .map(level_of)
 }
 
 /// The levels of a page of goals for a set of states; answers the number of entries written, which is that of the goals.

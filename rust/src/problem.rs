@@ -1,7 +1,7 @@
 //! Problem files put together, and a graph with memory of its own.
 
-use crate::{build, build_within, entry, extract, fitting_depth, level, level_within, page, plan, rest, word_count};
-use crate::{Level, Levels, Plan, Refusal, Rest};
+use crate::{build, build_within, entry, extract, fitting_depth, page, plan, rest, word_count};
+use crate::{level, level_share, level_within, Level, Levels, Plan, Refusal, Rest};
 
 /// What problems of both versions have: so many propositions, and start states.
 #[derive(Clone, Debug, PartialEq, Eq)]
@@ -364,6 +364,27 @@ impl Graph {
     /// another problem or depth is read as if it were of this one's.
     pub fn level_within(&self, possible: &Graph, set: u64, goal: u32) -> Result<Levels, Refusal> {
         level_within(&self.file, self.depth, set, goal, &possible.words, &self.words)
+    }
+
+    /// The first layer that holds a goal for enough of the weight: of each state its weight, and the share as numerator
+    /// and denominator.
+    ///
+    /// ```
+    /// use mogzift::{Level, Problem, Refusal};
+    ///
+    /// # fn main() -> Result<(), Refusal> {
+    /// // The paper's lamp: it is lit at layer 1 for who is at the desk, and at layer 2 for who is at the door.
+    /// let graph = Problem::new(3)?.action(1, 2, 1)?.action(2, 4, 0)?.state(1)?.state(2)?.graph(2)?;
+    /// assert_eq!(graph.level_share(0b100, &[1, 9], 9, 10)?, Level::At(1));
+    /// assert_eq!(graph.level_share(0b100, &[2, 9], 9, 10)?, Level::At(2));
+    ///
+    /// assert_eq!(graph.level_share(0b100, &[1], 9, 10), Err(Refusal::Share)); // two states
+    /// assert_eq!(graph.level_share(0b100, &[1, 9], 11, 10), Err(Refusal::Share)); // more than all
+    /// # Ok(())
+    /// # }
+    /// ```
+    pub fn level_share(&self, goal: u32, weights: &[u16], numerator: u16, denominator: u16) -> Result<Level, Refusal> {
+        level_share(&self.file, self.depth, goal, weights, numerator, denominator, &self.words)
     }
 
     /// The levels of a page of goals for a set of states: of each goal what [`level`](Graph::level) answers.
@@ -752,6 +773,14 @@ mod tests {
         assert_eq!(graph.level_within(&possible, 0b01, door | lit), levels(Level::At(0), Level::NotByDepth));
         assert_eq!(graph.level_within(&possible, 0b11, door), levels(Level::Never, Level::NotByDepth));
         assert_eq!(graph.level_within(&lamp().graph(1).unwrap(), 0b11, lit), Err(Refusal::Memory(48)));
+        assert_eq!(graph.level_share(lit, &[1, 1], 1, 2), Ok(Level::At(1)));
+        assert_eq!(graph.level_share(lit, &[1, 1], 1, 1), graph.level(0b11, lit));
+        assert_eq!(graph.level_share(door, &[1, 1], 2, 3), Ok(Level::NotByDepth));
+        assert_eq!(lamp().graph(3).unwrap().level_share(door, &[1, 1], 2, 3), Ok(Level::Never));
+        assert_eq!(graph.level_share(8, &[0, 0], 1, 1), Err(Refusal::Goal));
+        assert_eq!(graph.level_share(lit, &[0, 0], 1, 1), Err(Refusal::Share));
+        assert_eq!(graph.level_share(lit, &[1, 1, 1], 1, 1), Err(Refusal::Share));
+        assert_eq!(graph.level_share(lit, &[1, 1], 0, 0), Err(Refusal::Share));
         assert_eq!(graph.within(&[door, desk]).as_ref(), Ok(&graph));
         assert_eq!(graph.within(&[door]), Err(Refusal::PossibleSet(2)));
         assert_eq!(graph.within(&[door, lit]), Err(Refusal::PossibleSet(1)));

@@ -19,6 +19,7 @@
 //!   Where few propositions are touched, the pairs of all others keep their counts.
 //! - Extract cuts out runs of states by shifts where they are few, and else copies what repeats.
 //! - Level looks first at the word that stood in the goal's way one layer before, and for a rest from the top.
+//! - Level by share keeps the states that did not weigh enough: fewer do not, either, and of more it weighs the new ones.
 //! - Page remembers in which layers such a word stands in the way, for all goals to come, and looks for a rest once.
 //! - Plan goes over the propositions that are needed only, and over the effects that add one as a set.
 //! - Run follows a sequence of version 1 once, for all states, and asks whether all preconditions held after many steps at
@@ -29,6 +30,23 @@
 use crate::{word_count, Built, Level, Levels, Plan, Refusal, Rest, TEXT_ROOM};
 use crate::{ENTRY_GOAL, ENTRY_NEVER, ENTRY_NOT_BY_DEPTH};
 use std::fmt::Write;
+
+/// The members of a set of states, rising.
+struct States(u64);
+
+impl Iterator for States {
+    type Item = usize;
+
+    #[inline(always)]
+    fn next(&mut self) -> Option<usize> {
+        if self.0 == 0 {
+            return None;
+        }
+        let s = self.0.trailing_zeros() as usize;
+        self.0 &= self.0 - 1;
+        Some(s)
+    }
+}
 
 /// The members of a set of up to R effects or propositions, rising. R is a power of two, up to 32.
 struct Members<const R: usize>(u32);
@@ -301,6 +319,17 @@ impl<'a> Problem<'a> {
             return Err(Refusal::Goal);
         }
         Ok(())
+    }
+
+    /// The weight of all states, or cause 18.
+    fn check_share(&self, weights: &[u16], numerator: u16, denominator: u16) -> Result<u64, Refusal> {
+        if weights.len() != self.states || denominator == 0 || numerator > denominator {
+            return Err(Refusal::Share);
+        }
+        match weights.iter().map(|&weight| weight as u32).sum() {
+            0 => Err(Refusal::Share),
+            total => Ok(total as u64),
+        }
     }
 
     /// The graph's words in a memory of so many, or cause 9.
@@ -1170,11 +1199,63 @@ impl<'a> Layers<'a> {
     /// The level of the goal.
     #[inline(always)]
     fn level(&self, set: u64, goal: u32) -> Level {
-        match self.first_met(set, goal) {
+        self.level_at(self.first_met(set, goal))
+    }
+
+    /// The level at this layer, or what it is called if there is none.
+    #[inline(always)]
+    fn level_at(&self, first: Option<usize>) -> Level {
+        match first {
             Some(t) => Level::At(t),
             None if self.rests() => Level::Never,
             None => Level::NotByDepth,
         }
+    }
+
+    /// Those of the states that hold the whole goal in a layer, free of mutexes. It looks no further once all that are left
+    /// are among those not asked for.
+    #[inline(always)]
+    fn holders(&self, layer: &[u64], states: u64, goal: u32, unasked: u64) -> u64 {
+        let mut held = states;
+        for p in Members::<32>(goal) {
+            held &= layer[p];
+            if held & !unasked == 0 {
+                return held;
+            }
+        }
+        let mut goals = Members::<32>(goal);
+        while let Some(p) = goals.next() {
+            // word (p, q) stands at row + q
+            let row = self.props + p * (2 * self.props - p - 1) / 2 - p - 1;
+            for q in Members::<32>(goals.0) {
+                held &= !layer[row + q];
+            }
+            if held & !unasked == 0 {
+                return held;
+            }
+        }
+        held
+    }
+
+    /// The first layer in which the holders of the goal weigh enough. Those that do not are kept: fewer weigh no more,
+    /// and of more only the new ones are weighed.
+    fn first_enough(&self, states: u64, goal: u32, weights: &[u16], enough: impl Fn(u64) -> bool) -> Option<usize> {
+        if enough(0) {
+            return Some(0);
+        }
+        let weigh = |set: u64| States(set).map(|s| weights[s] as u64).sum::<u64>();
+        let (mut short, mut weight) = (0, 0);
+        for t in 0..self.depth + 1 {
+            let held = self.holders(self.layer(t), states, goal, short);
+            if held & !short != 0 {
+                weight = weight + weigh(held & !short) - weigh(short & !held);
+                if enough(weight) {
+                    return Some(t);
+                }
+                short = held;
+            }
+        }
+        None
     }
 
     /// The first layer from this one on in which the word is not in the way, or the one behind the last.
@@ -1236,6 +1317,25 @@ pub fn level_within(
     problem.check_goal(goal)?;
     let (possible, sure) = (problem.layers(depth, possible)?, problem.layers(depth, sure)?);
     Ok(Levels { possible: possible.level(set, goal), sure: sure.level(set, goal) })
+}
+
+/// The first layer that holds a goal for enough of the weight.
+pub fn level_share(
+    file: &[u8],
+    depth: usize,
+    goal: u32,
+    weights: &[u16],
+    numerator: u16,
+    denominator: u16,
+    words: &[u64],
+) -> Result<Level, Refusal> {
+    let problem = Problem::open(file)?;
+    check_depth(depth)?;
+    problem.check_goal(goal)?;
+    let wanted = problem.check_share(weights, numerator, denominator)? * numerator as u64;
+    let layers = problem.layers(depth, words)?;
+    let enough = |weight: u64| weight * denominator as u64 >= wanted;
+    Ok(layers.level_at(layers.first_enough(problem.all_states(), goal, weights, enough)))
 }
 
 /// The words of the widest layer of propositions.

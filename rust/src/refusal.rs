@@ -3,7 +3,7 @@
 use std::fmt;
 
 /// The texts of `mogzift_message` in include/mogzift.h, from number 1 on.
-const MESSAGES: [&str; 17] = [
+const MESSAGES: [&str; 18] = [
     "not a problem file: begin it with SAG, the version and its counts, 8 bytes in all, 9 in version 2",
     "another version: write 1 and 0, or 2 and 0, at offsets 3 and 4",
     "a count is out of range, at the place: 1 to 32 propositions, 0 to 32 actions and effects, 1 to 64 states",
@@ -21,12 +21,13 @@ const MESSAGES: [&str; 17] = [
     "an action, at the place, has the same three sets as an earlier one: leave it out, and count A down",
     "an effect, at the place, has an action number of A or above: name only 0 to A - 1, or count A up",
     "not N possible sets, or the one at the place lacks a sure proposition or has bit P or above: mend the list",
+    "not N weights, all of them 0, denominator 0, or numerator above it: weigh each state, and ask for 1 at most",
 ];
 
 /// Why a call is turned away: the paper's causes in the order of their numbers, with the place where it varies.
 ///
 /// The first cause that holds is told. They are looked for in the order of their numbers, but 16, then 15 and then 17
-/// right behind 5.
+/// right behind 5, and 18 right behind 8.
 ///
 /// It displays as its [`message`](Refusal::message), number and place.
 #[derive(Clone, Copy, Debug, PartialEq, Eq, Hash)]
@@ -66,10 +67,12 @@ pub enum Refusal {
     /// The possible sets are not N (that number), else one lacks a proposition of its state in the file or has bit P or
     /// above, with the number of the first such state.
     PossibleSet(usize),
+    /// The weights are not N, or all 0, or the share's denominator is 0 or its numerator above the denominator.
+    Share,
 }
 
 impl Refusal {
-    /// The paper's number, 1 to 17.
+    /// The paper's number, 1 to 18.
     pub fn number(self) -> usize {
         match self {
             Refusal::Head => 1,
@@ -89,13 +92,14 @@ impl Refusal {
             Refusal::EqualAction(_) => 15,
             Refusal::EffectAction(_) => 16,
             Refusal::PossibleSet(_) => 17,
+            Refusal::Share => 18,
         }
     }
 
     /// The paper's place.
     pub fn place(self) -> usize {
         match self {
-            Refusal::Head | Refusal::StateSet | Refusal::Goal => 0,
+            Refusal::Head | Refusal::StateSet | Refusal::Goal | Refusal::Share => 0,
             Refusal::Version => 3,
             Refusal::Depth => 255,
             Refusal::Count(place)
@@ -137,6 +141,7 @@ impl Refusal {
             15 => Refusal::EqualAction(place),
             16 => Refusal::EffectAction(place),
             17 => Refusal::PossibleSet(place),
+            18 => Refusal::Share,
             _ => unreachable!("no refusal has the number {number}"),
         };
         assert_eq!(refusal.place(), place, "the place of refusal {number}");

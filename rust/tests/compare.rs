@@ -4,12 +4,13 @@
 //! too, the graph of actions to that of the same actions as effects, and the number of a build's looks to a count that
 //! makes each look, where that does not take too long. A build for possible sets is held to one for the file that has them
 //! as its states, two levels to the single calls for them, and the levels of states chosen between the sure and the
-//! possible sets to these two.
+//! possible sets to these two. A level by share is held to a weighing of the states one by one, and on built words to the
+//! levels of single states, to that of all of them, and to those by other shares.
 //!
 //! Prints how often each kind of answer came up, and fails where one that the paper has never did.
 
 use mogzift::{reference, word_count, Built, Level, Levels, Plan, Refusal, Rest, TEXT_ROOM};
-use std::collections::BTreeMap;
+use std::collections::{BTreeMap, BTreeSet};
 use std::fmt::Debug;
 use std::time::Instant;
 
@@ -377,6 +378,56 @@ fn list_wrong(file: &[u8], possible: &[u32]) -> Option<(&'static str, usize)> {
     None
 }
 
+/// What is wrong with weights and a share for a file that is in order.
+fn share_wrong(file: &[u8], weights: &[u16], numerator: u16, denominator: u16) -> Option<&'static str> {
+    let states = file[7] as usize;
+    if weights.len() < states {
+        Some("too few weights")
+    } else if weights.len() > states {
+        Some("too many weights")
+    } else if weights.iter().all(|&weight| weight == 0) {
+        Some("no weight")
+    } else if denominator == 0 {
+        Some("a share over 0")
+    } else if numerator > denominator {
+        Some("a share above 1")
+    } else {
+        None
+    }
+}
+
+/// Whether so much weight is enough of so much.
+fn enough(weight: u128, total: u128, numerator: u16, denominator: u16) -> bool {
+    weight * denominator as u128 >= total * numerator as u128
+}
+
+/// Of an accepted file, depth, goal, weights and share: the first layer in which the states are enough that hold the goal,
+/// each asked by itself.
+fn first_enough(
+    file: &[u8],
+    depth: usize,
+    goal: u32,
+    weights: &[u16],
+    numerator: u16,
+    denominator: u16,
+    words: &[u64],
+) -> Option<usize> {
+    let (props, adds) = vertices(file);
+    let [layer, over] = [props, adds.len()].map(|n| n * (n + 1) / 2);
+    let goals: Vec<usize> = (0..props).filter(|&p| goal >> p & 1 == 1).collect();
+    let total = weights.iter().map(|&weight| weight as u128).sum();
+    (0..=depth).find(|t| {
+        let layer = Layer { elements: props, words: &words[t * (layer + over)..][..layer] };
+        let has = |word: u64, s: usize| word >> s & 1 == 1;
+        let holds = |s: usize| {
+            goals.iter().all(|&p| has(layer.words[p], s))
+                && goals.iter().all(|&p| goals.iter().all(|&q| p >= q || !has(layer.mutex(p, q), s)))
+        };
+        let weight = (0..weights.len()).filter(|&s| holds(s)).map(|s| weights[s] as u128).sum();
+        enough(weight, total, numerator, denominator)
+    })
+}
+
 // ---- looks, one by one
 
 /// A count of looks that may take more than so many steps, one for each two propositions and two vertices, is not made.
@@ -447,7 +498,7 @@ fn looks(file: &[u8], depth: usize, words: &[u64]) -> Option<usize> {
 
 // ---- the two versions side by side
 
-const REFUSED: [&str; 17] = [
+const REFUSED: [&str; 18] = [
     "refused 1",
     "refused 2",
     "refused 3",
@@ -465,6 +516,7 @@ const REFUSED: [&str; 17] = [
     "refused 15",
     "refused 16",
     "refused 17",
+    "refused 18",
 ];
 
 /// What an answer is counted as.
@@ -508,6 +560,15 @@ impl Kind for Levels {
 struct List(&'static str);
 
 impl Kind for List {
+    fn kind(&self) -> &'static str {
+        self.0
+    }
+}
+
+/// What weights and a share are.
+struct Share(&'static str);
+
+impl Kind for Share {
     fn kind(&self) -> &'static str {
         self.0
     }
@@ -608,6 +669,11 @@ struct Tally {
     /// The levels of chosen states that were held to two others, and those of them that could be another one's.
     chosen: usize,
     loose: usize,
+    /// The levels by share on built words, those of them between the first and the last of the states' own, and those of
+    /// all of the weight that were held to the level of all states.
+    weighed: usize,
+    partial: usize,
+    whole: usize,
     kinds: BTreeMap<(usize, &'static str, &'static str), usize>,
     places: BTreeMap<(usize, usize, usize), usize>,
 }
@@ -733,17 +799,61 @@ impl Tally {
         }
     }
 
+    /// The level, if the call is accepted. Both it and a refusal are held to what is found state by state.
+    #[allow(clippy::too_many_arguments)] // the call's own
+    fn level_share(
+        &mut self,
+        file: &[u8],
+        depth: usize,
+        goal: u32,
+        weights: &[u16],
+        numerator: u16,
+        denominator: u16,
+        words: &[u64],
+    ) -> Option<Level> {
+        let input = || {
+            let share = format!("share {numerator}/{denominator} of {weights:?}");
+            format!("depth {depth}, goal {goal:x}, {share}, file {file:02x?}, words {words:x?}")
+        };
+        let proved = mogzift::level_share(file, depth, goal, weights, numerator, denominator, words);
+        let plain = reference::level_share(file, depth, goal, weights, numerator, denominator, words);
+        self.compare("level_share", file, proved, plain, input);
+        let wanted = match mogzift::fitting_depth(file, 0) {
+            Err(Refusal::Memory(_)) if depth > 255 => Err(Refusal::Depth),
+            Err(Refusal::Memory(_)) if (goal as u64) >> file[5] != 0 => Err(Refusal::Goal),
+            Err(Refusal::Memory(_)) => {
+                let wrong = share_wrong(file, weights, numerator, denominator);
+                let right = if numerator == 0 {
+                    "share of nothing"
+                } else if numerator == denominator {
+                    "share of all"
+                } else {
+                    "share of some"
+                };
+                self.count("share", file, &Ok(Share(wrong.unwrap_or(right))));
+                match (wrong, mogzift::rest(file, depth, words)) {
+                    (Some(_), _) => Err(Refusal::Share),
+                    (None, Err(why)) => Err(why),
+                    (None, Ok(rest)) => {
+                        let first = first_enough(file, depth, goal, weights, numerator, denominator, words);
+                        let no_layer = if rest == Rest::None { Level::NotByDepth } else { Level::Never };
+                        Ok(first.map_or(no_layer, Level::At))
+                    }
+                }
+            }
+            other => other.map(|depth| unreachable!("depth {depth} in no words")),
+        };
+        assert!(proved == wanted, "level_share {proved:?}, state by state {wanted:?}; {}", input());
+        proved.ok()
+    }
+
     /// The level of states chosen between is no smaller than the first and no larger than the second; no layer is larger
     /// than any. The calls that answer are compared elsewhere.
     fn between(&mut self, file: &[u8], levels: Result<Levels, Refusal>, chosen: Result<Level, Refusal>) {
-        let layer = |level: Level| match level {
-            Level::At(t) => t,
-            Level::Never | Level::NotByDepth => usize::MAX,
-        };
         match (levels, chosen) {
             (Ok(levels), Ok(chosen)) => {
-                let bounds = layer(levels.possible)..=layer(levels.sure);
-                assert!(bounds.contains(&layer(chosen)), "{chosen:?} is not between {levels:?}; file {file:02x?}");
+                let bounds = layer_of(levels.possible)..=layer_of(levels.sure);
+                assert!(bounds.contains(&layer_of(chosen)), "{chosen:?} is not between {levels:?}; file {file:02x?}");
                 self.chosen += 1;
                 self.loose += (bounds.start() < bounds.end()) as usize;
             }
@@ -890,6 +1000,75 @@ fn any_list(random: &mut Random, problem: &Problem) -> Vec<u32> {
     list
 }
 
+/// Weights of so many states, not all 0: of one kind, or of several.
+fn some_weights(random: &mut Random, states: usize) -> Vec<u16> {
+    let one = random.word() as u16;
+    let kind = random.below(8);
+    let mut weight = || match kind {
+        0 => 1,
+        1 => one.max(1),
+        2 => u16::MAX,
+        3 => random.below(4) as u16,
+        4 => random.pick(&[0, 0, 0, 1, u16::MAX]),
+        5 => random.pick(&[1, u16::MAX - 1, u16::MAX]),
+        6 => 1 + random.below(9) as u16,
+        _ => random.word() as u16,
+    };
+    let mut weights: Vec<u16> = (0..states).map(|_| weight()).collect();
+    if weights.iter().all(|&weight| weight == 0) {
+        weights[random.below(states)] = 1;
+    }
+    weights
+}
+
+/// A share up to 1. At times it is one that so many states of the same weight can have, or that such weights do have.
+fn some_share(random: &mut Random, weights: &[u16]) -> (u16, u16) {
+    let most = random.pick(&[1, 2, 10, 1000, u16::MAX as usize]);
+    let denominator = random.from(1, most);
+    let numerator = match random.below(8) {
+        0 => 0,
+        1 => denominator,
+        2 => denominator - 1,
+        3 => 1,
+        4..=5 => {
+            let total: u64 = weights.iter().map(|&weight| weight as u64).sum();
+            let part: u64 = weights.iter().filter(|_| random.one_in(2)).map(|&weight| weight as u64).sum();
+            return match (u16::try_from(part), u16::try_from(total)) {
+                (Ok(part), Ok(total)) => (part, total),
+                _ => (random.below(weights.len() + 1) as u16, weights.len() as u16),
+            };
+        }
+        _ => random.from(0, denominator),
+    };
+    (numerator as u16, denominator as u16)
+}
+
+/// Mostly such weights, at times fewer or more, or all 0.
+fn any_weights(random: &mut Random, states: usize) -> Vec<u16> {
+    let mut weights = some_weights(random, states);
+    match random.below(16) {
+        0 => weights.truncate(random.below(states)),
+        1 => {
+            weights.pop();
+        }
+        2 => weights.extend((0..random.from(1, 3)).map(|_| random.word() as u16)),
+        3 => weights.fill(0),
+        _ => {}
+    }
+    weights
+}
+
+/// Mostly such a share, at times one above 1, or over 0.
+fn any_share(random: &mut Random, weights: &[u16]) -> (u16, u16) {
+    let (numerator, denominator) = some_share(random, weights);
+    match random.below(16) {
+        0 => (numerator, 0),
+        1 => (denominator.saturating_add(1), denominator),
+        2 => (random.word() as u16, random.word() as u16),
+        _ => (numerator, denominator),
+    }
+}
+
 fn call_depth(random: &mut Random, depth: usize) -> usize {
     match random.below(40) {
         0 => random.pick(&[256, 257, 1000, 1 << 32, usize::MAX]),
@@ -975,7 +1154,7 @@ fn list(random: &mut Random, problem: &Problem, set: u64) -> Vec<u8> {
     list
 }
 
-/// One of the eleven calls, over a file whose problem was this before it was changed, if it was.
+/// One of the twelve calls, over a file whose problem was this before it was changed, if it was.
 fn any_call(tally: &mut Tally, random: &mut Random, problem: &Problem, file: &[u8], depth: usize, built: &[u64]) {
     let depth = call_depth(random, depth);
     // a deeper call than was built wants more words than there are; they are not made, so that it is turned away
@@ -984,7 +1163,12 @@ fn any_call(tally: &mut Tally, random: &mut Random, problem: &Problem, file: &[u
     let goal = goal_set(random, problem.props);
     let mut words = graph_words(random, problem, built);
     words.truncate(random.room(needed).min(words.len()));
-    match random.below(20) {
+    match random.below(23) {
+        20..=22 => {
+            let weights = any_weights(random, problem.starts.len());
+            let (numerator, denominator) = any_share(random, &weights);
+            tally.level_share(file, depth, goal, &weights, numerator, denominator, &words);
+        }
         18..=19 => {
             let mut sure = graph_words(random, problem, built);
             sure.truncate(random.room(needed).min(sure.len()));
@@ -1056,6 +1240,67 @@ fn bounds(tally: &mut Tally, random: &mut Random, problem: &Problem, file: &[u8]
     }
 }
 
+/// Levels by share on built words. There a state holds a goal from its own level on, so that the layer can be told by the
+/// levels of single states; a larger share never has an earlier one; and all of the weight, where each state has some, is
+/// the level of all states.
+fn shares(tally: &mut Tally, random: &mut Random, problem: &Problem, file: &[u8], depth: usize, built: &[u64]) {
+    let states = problem.starts.len();
+    let level = |set: u64, goal: u32| mogzift::level(file, depth, set, goal, built).expect("a level call in order");
+    for _ in 0..4 {
+        // of some goals the one with the most different levels: with most goals it is 0 or no layer
+        let goals = (0..6).map(|_| goal_set(random, problem.props) & (u32::MAX >> (32 - problem.props)));
+        let singles = |goal: u32| (0..states).map(|s| layer_of(level(1 << s, goal))).collect::<Vec<usize>>();
+        let layers = goals.map(|goal| (goal, singles(goal)));
+        let (goal, singles) = layers.max_by_key(|(_, all)| BTreeSet::from_iter(all).len()).expect("a goal");
+
+        let weights = some_weights(random, states);
+        let mut rising: Vec<(u16, u16)> = (0..4).map(|_| some_share(random, &weights)).chain([(1, 1)]).collect();
+        rising.sort_by(|&(a, b), &(c, d)| (a as u32 * d as u32).cmp(&(c as u32 * b as u32)));
+        let mut before = 0;
+        for (numerator, denominator) in rising {
+            let input = || format!("{numerator}/{denominator} of {weights:?}, goal {goal:x}, file {file:02x?}");
+            let answer = tally.level_share(file, depth, goal, &weights, numerator, denominator, built);
+            let answer = answer.expect("a share in order");
+            let layer = layer_of(answer);
+            let wanted = by_singles(&singles, &weights, numerator, denominator);
+            assert!(layer == wanted, "{answer:?}, by the states' {singles:?} {wanted}; {}", input());
+            assert!(before <= layer, "{answer:?}, by a smaller share {before}; {}", input());
+            before = layer;
+            if numerator == denominator && !weights.contains(&0) {
+                let all = level(u64::MAX >> (64 - states), goal);
+                assert!(answer == all, "{answer:?}, of all states {all:?}; {}", input());
+                tally.whole += 1;
+            }
+            tally.weighed += 1;
+            tally.partial += (singles.iter().min() < Some(&layer) && Some(&layer) < singles.iter().max()) as usize;
+        }
+    }
+}
+
+/// The layer of a level. No layer is larger than any.
+fn layer_of(level: Level) -> usize {
+    match level {
+        Level::At(t) => t,
+        Level::Never | Level::NotByDepth => usize::MAX,
+    }
+}
+
+/// The first of the states' layers by which enough of the weight has come, or 0 if none is asked for.
+fn by_singles(layers: &[usize], weights: &[u16], numerator: u16, denominator: u16) -> usize {
+    let total = weights.iter().map(|&weight| weight as u128).sum();
+    let mut by_layer: Vec<(usize, u16)> = layers.iter().copied().zip(weights.iter().copied()).collect();
+    by_layer.sort();
+    let mut come = 0;
+    let mut layer = 0;
+    for (next, weight) in by_layer {
+        if enough(come, total, numerator, denominator) {
+            break;
+        }
+        (layer, come) = (next, come + weight as u128);
+    }
+    layer
+}
+
 fn problem_calls(tally: &mut Tally, random: &mut Random) {
     let kinds = [scattered, chained, scattered_effects, chained_effects];
     let problem = random.pick(&kinds)(random);
@@ -1071,6 +1316,9 @@ fn problem_calls(tally: &mut Tally, random: &mut Random) {
     let (built, _) = built;
     if random.one_in(2) {
         bounds(tally, random, &problem, &file, depth, &built[..problem.words(depth)]);
+    }
+    if random.one_in(2) {
+        shares(tally, random, &problem, &file, depth, &built);
     }
     // fewer calls where there are many words to copy for each
     let calls = if built.len() < 20_000 { 30 } else { 6 };
@@ -1108,6 +1356,7 @@ fn deepest_calls(tally: &mut Tally, random: &mut Random, problem: &Problem) {
     let before = random.words(problem.words(depth));
     let (built, _) = tally.build(&file, depth, before);
     bounds(tally, random, problem, &file, depth, &built);
+    shares(tally, random, problem, &file, depth, &built);
     for _ in 0..10 {
         any_call(tally, random, problem, &file, depth, &built);
     }
@@ -1116,8 +1365,9 @@ fn deepest_calls(tally: &mut Tally, random: &mut Random, problem: &Problem) {
 // ---- what came up
 
 /// Some are no calls: an entry is a goal of a page that was accepted, a list what was given to a build within bounds whose
-/// file was in order, a bound one of the two levels of a call that was accepted.
-const CALLS: [&str; 14] = [
+/// file was in order, a bound one of the two levels of a call that was accepted, a share what was given to a level by share
+/// whose file, depth and goal were in order.
+const CALLS: [&str; 16] = [
     "build",
     "build_within",
     "list",
@@ -1125,6 +1375,8 @@ const CALLS: [&str; 14] = [
     "level",
     "level_within",
     "bound",
+    "level_share",
+    "share",
     "page",
     "entry",
     "extract",
@@ -1213,6 +1465,22 @@ fn check_kinds(tally: &Tally, version: usize) {
         ("bound", "level above 0"),
         ("bound", "never"),
         ("bound", "not by depth"),
+        ("level_share", "level 0"),
+        ("level_share", "level above 0"),
+        ("level_share", "never"),
+        ("level_share", "not by depth"),
+        ("level_share", REFUSED[5]),
+        ("level_share", REFUSED[7]),
+        ("level_share", REFUSED[17]),
+        ("level_share", REFUSED[8]),
+        ("share", "share of nothing"),
+        ("share", "share of some"),
+        ("share", "share of all"),
+        ("share", "too few weights"),
+        ("share", "too many weights"),
+        ("share", "no weight"),
+        ("share", "a share over 0"),
+        ("share", "a share above 1"),
         ("page", "written"),
         ("page", "empty page"),
         ("page", REFUSED[9]),
@@ -1238,12 +1506,12 @@ fn check_kinds(tally: &Tally, version: usize) {
     }
     // a file of another version than these is counted as version 1
     let others: &[usize] = if version == 1 { &[16] } else { &[2, 15] };
-    for number in 1..=17 {
+    for number in 1..=18 {
         let count = tally.refusals(version, number, |_| true);
         assert_eq!(count > 0, !others.contains(&number), "version {version}: {count} refused with {number}");
     }
     let own = if version == 1 { 15 } else { 16 };
-    for call in ["build", "build_within", "rest", "level", "level_within", "page", "extract", "run", "plan", "depth"] {
+    for call in CALLS.into_iter().filter(|call| !["list", "bound", "share", "entry", "text"].contains(call)) {
         assert!(tally.answers(version, call, REFUSED[own - 1]) > 0, "no {call} was refused with {own}");
     }
 }
@@ -1260,10 +1528,15 @@ fn main() {
     println!("seed {SEED}: {} calls in {:.1} s, all alike", tally.calls, began.elapsed().as_secs_f64());
     println!("{} builds whose looks were made one by one, too", tally.looked);
     println!("{} levels of chosen states, {} of them between two levels that differ", tally.chosen, tally.loose);
+    let Tally { weighed, partial, whole, .. } = tally;
+    println!(
+        "{weighed} levels by share on built words, {partial} between those of single states, {whole} of all states"
+    );
     [1, 2].into_iter().for_each(|version| print_kinds(&tally, version));
     print_places(&tally);
     assert!(tally.calls >= 100_000, "too few calls");
     assert!(tally.looked >= PROBLEMS / 2, "too few counts of looks");
     assert!(tally.loose >= PROBLEMS / 2, "too few levels of chosen states");
+    assert!(tally.partial >= PROBLEMS / 10 && tally.whole >= PROBLEMS / 10, "too few levels by share");
     [1, 2].into_iter().for_each(|version| check_kinds(&tally, version));
 }

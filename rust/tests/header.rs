@@ -8,7 +8,7 @@ use std::thread;
 const HEADER: &str = include_str!("../../include/mogzift.h");
 
 /// The refusals by the header's names, in the order of their numbers, each with a place that it can have.
-const REFUSALS: [(&str, Refusal); 17] = [
+const REFUSALS: [(&str, Refusal); 18] = [
     ("MOGZIFT_BAD_HEAD", Refusal::Head),
     ("MOGZIFT_BAD_VERSION", Refusal::Version),
     ("MOGZIFT_BAD_COUNT", Refusal::Count(5)),
@@ -26,6 +26,7 @@ const REFUSALS: [(&str, Refusal); 17] = [
     ("MOGZIFT_EQUAL_ACTION", Refusal::EqualAction(20)),
     ("MOGZIFT_EFFECT_ACTION", Refusal::EffectAction(17)),
     ("MOGZIFT_BAD_POSSIBLE_SET", Refusal::PossibleSet(1)),
+    ("MOGZIFT_BAD_SHARE", Refusal::Share),
 ];
 
 /// What stands in the header between these two, once.
@@ -94,6 +95,7 @@ fn a_thread_of_the_headers_stack_makes_the_deepest_calls() {
             assert_eq!(plan, Plan { level: 31, count: 31 });
             let levels = mogzift::level_within(&file, 40, 1, 1 << 31, &words, &words).unwrap();
             assert_eq!(levels, Levels { possible: Level::At(31), sure: Level::At(31) });
+            assert_eq!(mogzift::level_share(&file, 40, 1 << 31, &[9], 1, 1, &words), Ok(Level::At(31)));
             mogzift::run(&file, 1, &[0, 1, 2], &mut out).unwrap();
             mogzift::levels_text(&file, &mut text).unwrap();
         }

@@ -15,7 +15,8 @@ use Rattle.rules.specs.Domain.{Domain, Actions, domain}
 use Rattle.rules.specs.Layer.{size, layerOf}
 use Rattle.rules.specs.Shared.{startLabel, startLayer, actionLayer, nextLayer, propFrom, propLayer, vertexLayer, graphWords}
 use Rattle.rules.specs.Together.{layerBy}
-use Rattle.rules.specs.Scan.{sumOver, stepLooks, looksFrom}
+use Rattle.rules.specs.Over.{sumOver}
+use Rattle.rules.specs.Scan.{stepLooks, looksFrom}
 use Rattle.rules.proofs.Layers.{length-layerOf, layer-eq}
 use Rattle.rules.proofs.Scans.{looks-left}
 use Rattle.words.specs.Memory.{putAt}

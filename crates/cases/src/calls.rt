@@ -8,6 +8,7 @@ use crate::line::WORDS;
 use crate::line::cut;
 use crate::line::fitting;
 use crate::line::number;
+use crate::line::short;
 use crate::line::size;
 use crate::show;
 use crate::show::EXTRACTED;
@@ -38,21 +39,25 @@ use plan::PlanAnswer;
 use plan::plan;
 use run::RunAnswer;
 use run::run;
+use share::level_share;
 use within::WithinAnswer;
 use within::build_within;
 use within::level_within;
 use words::sets::Props;
 use words::sets::States;
 
-// Where the list of a run, the goals of a page and the possible sets begin, behind the longest file.
+// Where the list of a run, the goals of a page and the possible sets begin, behind the longest file; a byte there says how many weights there are, which
+// begin behind it.
 const LIST: usize = 900;
+
+const WEIGHTS: usize = 901;
 
 // How many sets there are for a plan or a run, and what each holds before it.
 const SETS: usize = 3;
 
 const FRESH: u32 = 9;
 
-// How many goals there are for a page, one fewer than entries, or possible sets for a build, and what an entry holds before it.
+// How many goals there are for a page, one fewer than entries, possible sets for a build, or weights, and what an entry holds before it.
 const LISTED: usize = 5;
 
 const FRESH_ENTRY: u16 = 9;
@@ -82,12 +87,16 @@ fn wide(b: u8) -> u32 {
     b as u32
 }
 
-// Set i of a list, 0 where there are fewer.
-fn set_at(list: &[u8], i: usize) -> u32 {
+// Byte i of a list, 0 where there are fewer.
+fn byte_at(list: &[u8], i: usize) -> u8 {
     if i < list.len() {
-        return wide(list[i]);
+        return list[i];
     }
     0
+}
+
+fn set_at(list: &[u8], i: usize) -> u32 {
+    wide(byte_at(list, i))
 }
 
 // The sets of a list, a byte each.
@@ -118,17 +127,58 @@ pub fn rest_of(line: &[u8], file: &[u8], graph: &[u64]) {
     }
 }
 
+fn say_level_or_why(answer: LevelAnswer) {
+    match answer {
+        LevelAnswer::Level(level) => say_level(level),
+        LevelAnswer::Refused(why) => say_refusal(why),
+    }
+}
+
 pub fn level_of(line: &[u8], file: &[u8], graph: &[u64]) {
-    match level(
+    say_level_or_why(level(
         file,
         size(line, DEPTH),
         states(line),
         Props(number(line, GOAL)),
         graph,
-    ) {
-        LevelAnswer::Level(level) => say_level(level),
-        LevelAnswer::Refused(why) => say_refusal(why),
-    }
+    ));
+}
+
+fn weight(low: u8, high: u8) -> u16 {
+    low as u16 + high as u16 * 256
+}
+
+// The weight whose two bytes, the lower one first, stand at `at`.
+fn weight_at(list: &[u8], at: usize) -> u16 {
+    weight(
+        byte_at(list, at),
+        byte_at(list, std::num::wrapping_add_usize(at, 1)),
+    )
+}
+
+// The weights in the byte memory.
+fn weights(memory: &[u8]) -> [u16; LISTED] {
+    [
+        weight_at(memory, WEIGHTS),
+        weight_at(memory, WEIGHTS + 2),
+        weight_at(memory, WEIGHTS + 4),
+        weight_at(memory, WEIGHTS + 6),
+        weight_at(memory, WEIGHTS + 8),
+    ]
+}
+
+pub fn share_of(line: &[u8], file: &[u8], memory: &[u8], graph: &[u64]) {
+    let room = weights(memory);
+    let n = fitting(byte_at(memory, LIST) as usize, LISTED);
+    say_level_or_why(level_share(
+        file,
+        size(line, DEPTH),
+        Props(number(line, GOAL)),
+        &room[0..n],
+        short(line, SET),
+        short(line, OUT),
+        graph,
+    ));
 }
 
 pub fn levels_of(line: &[u8], file: &[u8], possible: &[u64], sure: &[u64]) {

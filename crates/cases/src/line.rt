@@ -2,7 +2,7 @@
 ghost use Prim.Native.Nat.{_≤_};
 
 // Where the numbers of a line begin, six columns each: bytes of the file, depth, set of states, goal, words of graph memory, elements of output, which
-// of two graphs are the words of the possible sets.
+// of two graphs are the words of the possible sets. Where a share is asked for, its numerator stands for the set, its denominator for the output.
 pub const FILE: usize = 1;
 
 pub const DEPTH: usize = 7;
@@ -53,6 +53,11 @@ pub fn number(line: &[u8], at: usize) -> u32 {
 
 pub fn size(line: &[u8], at: usize) -> usize {
     number(line, at) as usize
+}
+
+// The same as a number of 16 bits.
+pub fn short(line: &[u8], at: usize) -> u16 {
+    (number(line, at) % 65536) as u16
 }
 
 // n, or none where there are fewer.

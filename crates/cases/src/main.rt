@@ -1,10 +1,11 @@
 // The paper's cases that run, a line of standard input for each step: a letter, six numbers in columns of six (see `line`), and from TEXT on
 // a text that is printed before the step's own words. The letters:
-// e puts the byte DEPTH at offset FILE of the byte memory, which holds the file, and from `calls::LIST` on the list of a run, the goals of a page or the
-// possible sets; w puts the word DEPTH at index FILE of the graph memory;
+// e puts the byte DEPTH at offset FILE of the byte memory, which holds the file, and from `calls::LIST` on the list of a run, the goals of a page, the
+// possible sets or the weights; w puts the word DEPTH at index FILE of the graph memory;
 // b build (with no text it prints nothing), r rest, l level, x extract, p plan, n run (of DEPTH steps), m page (of GOAL goals, a byte each),
 // B build for GOAL possible sets, a byte each, into a graph memory of their own (with no text it prints nothing), L the levels from both graphs, with OUT
-// words of that memory: a call, whose answer is printed, and behind that the output of a plan, a run and a page;
+// words of that memory, s the level at the share SET / OUT of the weights (how many they are, a byte, and then each, two bytes, the lower one first):
+// a call, whose answer is printed, and behind that the output of a plan, a run and a page;
 // g, G, o print the words FILE to DEPTH of the graph memory, of that of the possible sets, of the extract's output.
 mod calls;
 mod line;
@@ -80,6 +81,7 @@ fn reading_step(
         b'r' => calls::rest_of(line, file, graph),
         b'l' => calls::level_of(line, file, graph),
         b'L' => calls::levels_of(line, file, part(possible, 0, size(line, line::OUT)), graph),
+        b's' => calls::share_of(line, file, memory, graph),
         b'x' => calls::extract_to(line, file, graph, out),
         b'm' => calls::page_of(line, file, memory, graph),
         b'g' => show_part(line, words),

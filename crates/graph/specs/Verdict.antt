@@ -30,6 +30,7 @@ numberOf (cause.Uncovered i) = 14
 numberOf (cause.EqualAction i) = 15
 numberOf (cause.EffectAction i) = 16
 numberOf (cause.PossibleSet i) = 17
+numberOf cause.Share = 18
 
 -- and its place
 abbrev pub placeOf : Refusal → ℕ
@@ -50,6 +51,7 @@ placeOf (cause.Uncovered i) = i
 placeOf (cause.EqualAction i) = i
 placeOf (cause.EffectAction i) = i
 placeOf (cause.PossibleSet i) = i
+placeOf cause.Share = 0
 
 -- a call turned away for this cause
 abbrev pub turnedAway : {X : Type 0} → Refusal → Verdict X

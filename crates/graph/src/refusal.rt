@@ -3,7 +3,7 @@ use crate::limits::MAX_DEPTH;
 ghost use mathlib.Core.Path.{_≡_};
 ghost use Rattle.graph.specs.Verdict.{numberOf, placeOf};
 
-// The causes in the order of their numbers, 1 to 17, with the place where it varies.
+// The causes in the order of their numbers, 1 to 18, with the place where it varies.
 pub enum Refusal {
     Head,
     Version,
@@ -22,6 +22,7 @@ pub enum Refusal {
     EqualAction(usize),
     EffectAction(usize),
     PossibleSet(usize),
+    Share,
 }
 
 // What a single check comes to.
@@ -51,6 +52,7 @@ pub fn number(r: Refusal) -> usize
         Refusal::EqualAction(_) => 15,
         Refusal::EffectAction(_) => 16,
         Refusal::PossibleSet(_) => 17,
+        Refusal::Share => 18,
     }
 }
 
@@ -75,5 +77,6 @@ pub fn place(r: Refusal) -> usize
         Refusal::EqualAction(i) => i,
         Refusal::EffectAction(i) => i,
         Refusal::PossibleSet(i) => i,
+        Refusal::Share => 0,
     }
 }

@@ -8,12 +8,12 @@ use native.Mathlib.Omega.{arith}
 use lib.ListN.{length, getD}
 use Rattle.rules.specs.Test.{same, choose}
 use Rattle.rules.specs.Word.{bit, common, union, without, single}
-use Rattle.rules.specs.Over.{joinOf}
+use Rattle.rules.specs.Over.{joinOf, sumOver}
 use Rattle.rules.specs.Domain.{Actions, persistence, addsOf, domain}
 use Rattle.rules.specs.Layer.{labelIn, freeIn}
 use Rattle.rules.specs.Shared.{nextLabel, nextLayer}
 use Rattle.rules.specs.Together.{layerBy}
-use Rattle.rules.specs.Scan.{Scan, scanAt, look, scanWhere, scanOf, scanned, sumOver, pairLooks, looksOf, stepLooks}
+use Rattle.rules.specs.Scan.{Scan, scanAt, look, scanWhere, scanOf, scanned, pairLooks, looksOf, stepLooks}
 use Rattle.rules.proofs.Words.{bit-below, common-lt, without-lt}
 use Rattle.rules.proofs.Layers.{label-back}
 use Rattle.rules.proofs.Members.{join-only, bit-startLabel, startLabel-lt}

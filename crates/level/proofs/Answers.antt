@@ -7,7 +7,7 @@ use Prim.Native.Nat.{ℕ, suc, _≤_, _<_}
 use native.Mathlib.Omega.{arith}
 use lib.ListN.{length}
 use Rattle.rules.specs.Test.{below, choose}
-use Rattle.rules.specs.Level.{firstMet, firstRest, level, never, notByDepth, levelOf, restsAt, none, restOf}
+use Rattle.rules.specs.Level.{firstMet, firstRest, level, never, notByDepth, levelBy, restsAt, none, restOf}
 use Rattle.rules.specs.declared.Shape.{Shape}
 use Rattle.rules.proofs.Tests.{below-of, below-not}
 use Rattle.rules.proofs.Firsts.{first-le}
@@ -23,23 +23,19 @@ pub met-le : (S : Shape) (k set : ℕ) (words : List ℕ) (goal : ℕ) → first
 unfolding firstMet
 met-le S k set words goal = first-le _ _
 
-module _ (S : Shape) (k set goal : ℕ) (words : List ℕ) (t : ℕ) (met : t ≡ firstMet S k set goal words) where
-  pub level-at : t ≤ k → level t ≡ levelOf S k set goal words
-  unfolding levelOf choose
-  level-at h = simp (sym met, below-of {i = t} {j = suc k} (omega arith))
-
-  pub level-none : k < t → choose (below (firstRest S k words) k) never notByDepth ≡ levelOf S k set goal words
-  unfolding levelOf choose
-  level-none h = simp (sym met, below-not {i = t} {j = suc k} (omega arith))
+module _ (S : Shape) (k : ℕ) (words : List ℕ) (t : ℕ) where
+  pub level-at : t ≤ k → level t ≡ levelBy S k words t
+  unfolding levelBy choose
+  level-at h = simp (below-of {i = t} {j = suc k} (omega arith))
 
   module _ (above : k < t) where
-    pub level-never : below (firstRest S k words) k ≡ true → never ≡ levelOf S k set goal words
-    unfolding choose
-    level-never h = ap (λ (b : Bool). choose b never notByDepth) (sym h) ∙ level-none above
+    pub level-never : below (firstRest S k words) k ≡ true → never ≡ levelBy S k words t
+    unfolding levelBy choose
+    level-never h = simp (h, below-not {i = t} {j = suc k} (omega arith))
 
-    pub level-not-by-depth : below (firstRest S k words) k ≡ false → notByDepth ≡ levelOf S k set goal words
-    unfolding choose
-    level-not-by-depth h = ap (λ (b : Bool). choose b never notByDepth) (sym h) ∙ level-none above
+    pub level-not-by-depth : below (firstRest S k words) k ≡ false → notByDepth ≡ levelBy S k words t
+    unfolding levelBy choose
+    level-not-by-depth h = simp (h, below-not {i = t} {j = suc k} (omega arith))
 
 module _ (S : Shape) (k : ℕ) (words : List ℕ) (t : ℕ) (rest : t ≡ firstRest S k words) where
   pub rest-at : t < k → accepted (restsAt t) ≡ accepted (restOf S k words)

@@ -200,12 +200,11 @@ pub fn rests(words: &[u64], s: Shape, depth: usize) -> bool
     false
 }
 
-// The level over words of this shape: 'never' and 'not by depth' only once no layer meets the goal.
-pub fn level_over(words: &[u64], s: Shape, depth: usize, set: States, goal: Props) -> Level
+// The answer by the first layer that has what is sought: 'never' and 'not by depth' only once none has.
+pub fn level_by(words: &[u64], s: Shape, depth: usize, t: usize) -> Level
     requires { ⌜ Room s depth (now words) ⌝ }
-    ensures { λ r. ⌜ R.levelSaid r ≡ L.levelOf s depth (set .0) (goal .0) (now (words .entry)) ⌝ }
+    ensures { λ r. ⌜ R.levelSaid r ≡ L.levelBy s depth (now (words .entry)) t ⌝ }
 {
-    let t = first_met(words, s, depth, set, goal);
     if t <= depth {
         return Level::At(t);
     }
@@ -213,4 +212,13 @@ pub fn level_over(words: &[u64], s: Shape, depth: usize, set: States, goal: Prop
         return Level::Never;
     }
     Level::NotByDepth
+}
+
+// The level over words of this shape.
+pub fn level_over(words: &[u64], s: Shape, depth: usize, set: States, goal: Props) -> Level
+    requires { ⌜ Room s depth (now words) ⌝ }
+    ensures { λ r. ⌜ R.levelSaid r ≡ L.levelOf s depth (set .0) (goal .0) (now (words .entry)) ⌝ }
+{
+    let t = first_met(words, s, depth, set, goal);
+    level_by(words, s, depth, t)
 }

@@ -4,7 +4,6 @@ mod tell;
 use build::build;
 use extract::ExtractAnswer;
 use extract::extract;
-use level::LevelAnswer;
 use level::RestAnswer;
 use level::level;
 use level::rest;
@@ -18,6 +17,7 @@ use report::depth::fitting_depth;
 use report::levels_text;
 use run::RunAnswer;
 use run::run;
+use share::level_share;
 use tell::tell;
 use tell::tell_build;
 use tell::tell_level;
@@ -32,8 +32,10 @@ ghost use mathlib.Core.Path.{_≡_};
 ghost use lib.ListN.{length};
 ghost use Rattle.graph.specs.Verdict.{laid, written};
 ghost use Rattle.graph.specs.Build.{buildRule, countRule};
+ghost use Rattle.rules.specs.Share.{shareOf};
 ghost use Rattle.level.specs.Rule.{levelRule, restRule};
 ghost use Rattle.within.specs.Rule.{withinRule, countWithin, levelsRule};
+ghost use Rattle.share.specs.Rule.{shareRule};
 ghost use Rattle.page.specs.Rule.{pageRule};
 ghost use Rattle.extract.specs.Rule.{extractRule};
 ghost use Rattle.run.specs.Run.{runRule};
@@ -102,10 +104,8 @@ pub extern "C" fn mogzift_level(
     ensures { λ r. ⌜ (r ≡ codeOf (levelRule (now (file .entry)) depth set goal (now (words .entry))))
         × (now (answer .exit) ≡ answerOf levelSays (levelRule (now (file .entry)) depth set goal (now (words .entry)))) ⌝ }
 {
-    match level(file, depth, States(set), Props(goal), words) {
-        LevelAnswer::Level(found) => tell_level(answer, found),
-        LevelAnswer::Refused(why) => tell_refusal(answer, why),
-    }
+    let answered = level(file, depth, States(set), Props(goal), words);
+    tell_level(answer, answered)
 }
 
 #[no_mangle]
@@ -125,6 +125,32 @@ pub extern "C" fn mogzift_level_within(
         WithinAnswer::Levels(first, second) => tell_levels(answer, first, second),
         WithinAnswer::Refused(why) => tell_refusal(answer, why),
     }
+}
+
+#[no_mangle]
+pub extern "C" fn mogzift_level_share(
+    file: &[u8],
+    depth: usize,
+    goal: u32,
+    weights: &[u16],
+    numerator: u16,
+    denominator: u16,
+    words: &[u64],
+    answer: &mut [u64; 3],
+) -> usize
+    ensures { λ r. ⌜ (r ≡ codeOf (shareRule (now (file .entry)) depth goal (shareOf (now (weights .entry)) numerator denominator) (now (words .entry))))
+        × (now (answer .exit) ≡ answerOf levelSays (shareRule (now (file .entry)) depth goal (shareOf (now (weights .entry)) numerator denominator) (now (words .entry)))) ⌝ }
+{
+    let answered = level_share(
+        file,
+        depth,
+        Props(goal),
+        weights,
+        numerator,
+        denominator,
+        words,
+    );
+    tell_level(answer, answered)
 }
 
 #[no_mangle]

@@ -3,6 +3,7 @@ use build::BuildAnswer;
 use graph::refusal::Refusal;
 use graph::refusal::number;
 use graph::refusal::place;
+use level::LevelAnswer;
 use level::layers::Level;
 use page::NEVER;
 use page::NOT_BY_DEPTH;
@@ -10,7 +11,7 @@ ghost use mathlib.Core.Path.{_≡_};
 ghost use mathlib.Core.List.{[], _∷_};
 ghost use Rattle.graph.specs.Verdict.{accepted, numberOf, placeOf};
 ghost use Rattle.build.specs.Rooms.{buildVerdict};
-ghost use Rattle.level.specs.Rule.{levelSaid};
+ghost use Rattle.level.specs.Rule.{levelSaid, levelVerdict};
 ghost use Rattle.page.specs.Rule.{entryOf};
 ghost use Rattle.mogzift.specs.Answer.{codeOf, answerOf, buildSays, levelSays, levelsSays};
 
@@ -23,7 +24,7 @@ pub fn tell(answer: &mut [u64; 3], kind: u64, first: usize, second: usize) -> us
 }
 
 // Of a level: its kind tells it.
-pub fn tell_level(answer: &mut [u64; 3], found: Level) -> usize
+fn tell_found(answer: &mut [u64; 3], found: Level) -> usize
     ensures { λ r. ⌜ (r ≡ 0) × (now (answer .exit) ≡ levelSays (levelSaid found)) ⌝ }
 {
     match found {
@@ -70,5 +71,15 @@ pub fn tell_build(answer: &mut [u64; 3], built: BuildAnswer) -> usize
     match built {
         BuildAnswer::Built(count, looked) => tell(answer, 1, count, looked),
         BuildAnswer::Refused(why) => tell_refusal(answer, why),
+    }
+}
+
+// Of a level's call.
+pub fn tell_level(answer: &mut [u64; 3], answered: LevelAnswer) -> usize
+    ensures { λ r. ⌜ (r ≡ codeOf (levelVerdict answered)) × (now (answer .exit) ≡ answerOf levelSays (levelVerdict answered)) ⌝ }
+{
+    match answered {
+        LevelAnswer::Level(found) => tell_found(answer, found),
+        LevelAnswer::Refused(why) => tell_refusal(answer, why),
     }
 }

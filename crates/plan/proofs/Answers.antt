@@ -12,7 +12,7 @@ use Rattle.rules.specs.Word.{bit}
 use Rattle.rules.specs.Over.{keep}
 use Rattle.rules.specs.Lists.{listOver}
 use Rattle.rules.specs.Domain.{Actions, domain, shapeOf}
-use Rattle.rules.specs.Level.{Level, level, never, notByDepth, firstMet, firstRest, levelOf}
+use Rattle.rules.specs.Level.{Level, level, never, notByDepth, firstMet, firstRest, levelBy, levelOf}
 use Rattle.rules.specs.Plan.{Planned, planned, stuck, descend, planAt, planOf, planCount}
 use Rattle.rules.specs.declared.Shape.{Shape}
 use Rattle.rules.proofs.Tests.{below-of, below-not}
@@ -58,7 +58,7 @@ module _ (A : Actions) (depth set goal : ℕ) (words : List ℕ) (t : ℕ) (met 
   level-by : (b : Bool) → below t (suc depth) ≡ b
       → levelOf (shapeOf (domain A)) depth set goal words
       ≡ choose b (level t) (choose (below (firstRest (shapeOf (domain A)) depth words) depth) never notByDepth)
-  unfolding levelOf
+  unfolding levelBy levelOf
   level-by b e =
       ap (λ (x : ℕ). choose (below x (suc depth)) (level x) (choose (below (firstRest (shapeOf (domain A)) depth words) depth) never notByDepth)) (sym met)
       ∙ ap (λ (x : Bool). choose x (level t) (choose (below (firstRest (shapeOf (domain A)) depth words) depth) never notByDepth)) e

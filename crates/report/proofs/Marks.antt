@@ -8,7 +8,7 @@ use native.Mathlib.Omega.{arith}
 use lib.ListN.{length, length-append}
 use Rattle.rules.specs.Test.{below, choose}
 use Rattle.rules.specs.Word.{single}
-use Rattle.rules.specs.Level.{Level, level, never, notByDepth, firstMet, firstRest, levelOf, restsAt, none, restOf}
+use Rattle.rules.specs.Level.{Level, level, never, notByDepth, firstMet, firstRest, levelBy, levelOf, restsAt, none, restOf}
 use Rattle.rules.specs.declared.Shape.{Shape}
 use Rattle.rules.proofs.Tests.{choose-held, choose-failed, below-of, below-not, below-at, is-fails}
 use Rattle.level.proofs.Answers.{met-le}
@@ -65,11 +65,11 @@ module _ (t u depth : ℕ) where
 
 module _ (S : Shape) (depth set : ℕ) (words : List ℕ) where
   pub level-from : (goal t u : ℕ) → t ≡ firstMet S depth set goal words → u ≡ firstRest S depth words → levelFrom t u depth ≡ levelOf S depth set goal words
-  unfolding levelOf
+  unfolding levelBy levelOf
   level-from goal t u e q = ap₂ (λ (x y : ℕ). levelFrom x y depth) e q
 
   pub cell-short : depth ≤ maxDepth → (goal : ℕ) → length (cellText (levelOf S depth set goal words)) ≤ 4
-  unfolding levelOf
+  unfolding levelBy levelOf
   cell-short h goal = omega (arith, level-short (firstMet S depth set goal words) (firstRest S depth words) depth (omega (arith, met-le S depth set words goal)))
 
 -- ---- lines

@@ -12,7 +12,7 @@ use Rattle.rules.specs.Domain.{Actions, shapeOf, condition, persistence,
 use Rattle.rules.specs.Layer.{pairs, size, pairAt, rowOf, layerOf, paired, labelIn, mutexIn, stride, wordCount, propsIn, actionsIn}
 use Rattle.rules.specs.Shared.{startLabel, startLayer, needsLabel, needsApart, vertexLabel, needsMutex, vertexMutex, actionLayer, nextLabel, oneAdds}
 use Rattle.rules.specs.Shared.{twoAdd, nextMutex, nextLayer, propFrom, vertexLayer, graphWords}
-use Rattle.rules.specs.Level.{goalMet, firstMet, layerRests, firstRest, Level, level, never, levelOf}
+use Rattle.rules.specs.Level.{goalMet, firstMet, layerRests, firstRest, Level, level, never, levelBy, levelOf}
 use Rattle.rules.specs.Run.{ready, fires, fired, after, stepped, Ran, ended, runFrom, runOf}
 use Rattle.rules.specs.Plan.{takes, order, support, coverFrom, cover, Planned, planned, ground, onCover, descend, planAt, planOf}
 use Rattle.rules.specs.Plan.{relaxedStep, relaxedRun}
@@ -88,6 +88,6 @@ pub bag-table : computed ≡ table
 unfolding bag start built computed table _and_ _or_ _implies_ fails same below choose bit within meets keep joinOver meetOver removeOver allBelow
     anyBelow countBelow firstBelow listOver runOver condition persistence needsOf addsOf deletesOf siblings clobbers interfereOf domain pairs size pairAt
     rowOf layerOf paired labelIn mutexIn stride wordCount propsIn actionsIn startLabel startLayer needsLabel needsApart vertexLabel needsMutex
-    vertexMutex actionLayer nextLabel oneAdds twoAdd nextMutex nextLayer propFrom vertexLayer graphWords goalMet firstMet layerRests firstRest levelOf
+    vertexMutex actionLayer nextLabel oneAdds twoAdd nextMutex nextLayer propFrom vertexLayer graphWords goalMet firstMet layerRests firstRest levelBy levelOf
     ready fires fired after stepped runFrom runOf takes order support coverFrom cover ground onCover descend planAt planOf relaxedStep relaxedRun
 bag-table = refl

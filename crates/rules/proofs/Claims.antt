@@ -15,7 +15,7 @@ use Rattle.rules.specs.Domain.{Domain, shapeOf, Actions, Sound, domain}
 use Rattle.rules.specs.Layer.{size, propsIn}
 use Rattle.rules.specs.Own.{admits, ownStart, ownFrom, ownProps, ownLevel}
 use Rattle.rules.specs.Shared.{propLayer}
-use Rattle.rules.specs.Level.{goalMet, firstMet, layerRests, firstRest, Rest, restsAt, none, restOf, Level, level, never, notByDepth, levelOf}
+use Rattle.rules.specs.Level.{goalMet, firstMet, layerRests, firstRest, Rest, restsAt, none, restOf, Level, level, never, notByDepth, levelBy, levelOf}
 use Rattle.rules.specs.Run.{ended, runOf}
 use Rattle.rules.specs.Plan.{planned, stuck, noLevel, planAt, planOf}
 use Rattle.rules.proofs.Tests.{choose-held, choose-failed, implies-of, implies-at, holds-or, below-at, below-fails}
@@ -114,7 +114,7 @@ module _ (D : Domain) (n : ℕ) (start : ℕ → ℕ) (k : ℕ) (words words' : 
   layer-same h = props-in D n start k words built h ∙ sym (props-in D n start k words' built' h)
 
   pub level-same : (set goal : ℕ) → levelOf (shapeOf D) k set goal words ≡ levelOf (shapeOf D) k set goal words'
-  unfolding levelOf firstMet firstRest layerRests
+  unfolding levelBy levelOf firstMet firstRest layerRests
   level-same set goal =
       ap₂ (λ (t r : ℕ). choose (below t (suc k)) (level t) (choose (below r k) never notByDepth))
       (first-eq (suc k) (λ t h. ap (λ (l : List ℕ). goalMet (D .props) l set goal) (layer-same (omega arith))))

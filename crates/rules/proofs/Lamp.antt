@@ -7,13 +7,14 @@ use lib.ListN.{getD}
 use lib.Count.{ones}
 use Rattle.rules.specs.Test.{_and_, _or_, _implies_, fails, same, below, choose}
 use Rattle.rules.specs.Word.{bit, within, meets}
-use Rattle.rules.specs.Over.{keep, joinOver, meetOver, removeOver, allBelow, anyBelow, countBelow, firstBelow}
+use Rattle.rules.specs.Over.{keep, joinOver, meetOver, removeOver, allBelow, anyBelow, countBelow, sumOver, firstBelow}
 use Rattle.rules.specs.Lists.{listOver, runOver}
 use Rattle.rules.specs.Domain.{Actions, shapeOf, condition, persistence, needsOf, addsOf, deletesOf, siblings, clobbers, interfereOf, domain}
 use Rattle.rules.specs.Layer.{pairs, size, pairAt, rowOf, layerOf, paired, labelIn, mutexIn, stride, wordCount, propsIn, actionsIn}
 use Rattle.rules.specs.Shared.{startLabel, startLayer, needsLabel, needsApart, vertexLabel, needsMutex, vertexMutex, actionLayer, nextLabel, oneAdds}
 use Rattle.rules.specs.Shared.{twoAdd, nextMutex, nextLayer, propFrom, propLayer, vertexLayer, graphWords}
-use Rattle.rules.specs.Level.{goalMet, firstMet, layerRests, firstRest, Rest, restsAt, none, restOf, Level, level, never, notByDepth, levelOf}
+use Rattle.rules.specs.Level.{goalMet, firstMet, layerRests, firstRest, Rest, restsAt, none, restOf, Level, level, never, notByDepth, levelBy, levelOf}
+use Rattle.rules.specs.Share.{shareOf, weightOf, total, enough, firstEnough, shareLevel}
 use Rattle.rules.specs.Extract.{rank, closeUp, extractOf}
 use Rattle.rules.specs.Run.{ready, fires, fired, after, stepped, Ran, lacks, runFrom, runOf}
 use Rattle.rules.specs.Plan.{takes, order, support, coverFrom, cover, Planned, planned, stuck, noLevel, ground, onCover, descend, planAt, planOf}
@@ -57,6 +58,9 @@ pub record Figures : Type 0 where
   pub lit-desk : Level
   pub door-lit-2 : Level
   pub door-lit-3 : Level
+  pub lit-none : Level
+  pub lit-half : Level
+  pub lit-whole : Level
   pub rest-2 : Rest
   pub rest-3 : Rest
   pub plan : Planned
@@ -77,6 +81,9 @@ computed = record {
   lit-desk = levelOf (shapeOf (domain lamp)) 2 2 4 (built 2);
   door-lit-2 = levelOf (shapeOf (domain lamp)) 2 1 5 (built 2);
   door-lit-3 = levelOf (shapeOf (domain lamp)) 3 1 5 (built 3);
+  lit-none = shareLevel (shapeOf (domain lamp)) 2 (shareOf (1 ∷ 1 ∷ []) 0 1) 4 (built 2);
+  lit-half = shareLevel (shapeOf (domain lamp)) 2 (shareOf (1 ∷ 1 ∷ []) 1 2) 4 (built 2);
+  lit-whole = shareLevel (shapeOf (domain lamp)) 2 (shareOf (1 ∷ 1 ∷ []) 1 1) 4 (built 2);
   rest-2 = restOf (shapeOf (domain lamp)) 2 (built 2);
   rest-3 = restOf (shapeOf (domain lamp)) 3 (built 3);
   plan = planOf lamp 2 3 4 (built 2);
@@ -85,7 +92,7 @@ computed = record {
   walk = runOf lamp 2 start 3 (0 ∷ []);
 }
 
--- the figures, as the paper prints them
+-- the figures as the paper prints them, and the levels at shares of two equal weights
 unfoldable pub table : Figures
 table = record {
   words = 48;
@@ -98,6 +105,9 @@ table = record {
   lit-desk = level 1;
   door-lit-2 = notByDepth;
   door-lit-3 = never;
+  lit-none = level 0;
+  lit-half = level 1;
+  lit-whole = level 2;
   rest-2 = none;
   rest-3 = restsAt 2;
   plan = planned (3 ∷ 2 ∷ []);
@@ -111,6 +121,6 @@ unfolding lamp start built computed table _and_ _or_ _implies_ fails same below 
     anyBelow countBelow firstBelow listOver runOver condition persistence needsOf addsOf deletesOf siblings clobbers interfereOf domain pairs size
     pairAt rowOf layerOf paired labelIn mutexIn stride wordCount propsIn actionsIn startLabel startLayer needsLabel needsApart vertexLabel needsMutex
     vertexMutex actionLayer nextLabel oneAdds twoAdd nextMutex nextLayer propFrom vertexLayer graphWords goalMet firstMet layerRests firstRest restOf
-    levelOf rank closeUp extractOf ready fires fired after stepped runFrom runOf takes order support coverFrom cover ground onCover descend planAt planOf
-    planCount countIn ones
+    levelBy levelOf sumOver weightOf total enough firstEnough shareLevel rank closeUp extractOf ready fires fired after stepped runFrom runOf takes order
+    support coverFrom cover ground onCover descend planAt planOf planCount countIn ones
 lamp-table = refl

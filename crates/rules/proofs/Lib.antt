@@ -27,5 +27,6 @@ pub mod Lamp
 pub mod Bag
 pub mod Scans
 pub mod ScanSplits
+pub mod Shares
 pub mod SamePlans
 pub mod SameDomains

@@ -30,6 +30,11 @@ Fits k l = Matches (λ x y. x < 2 ^ k) l l
 fits-small : (k : ℕ) {l : List ℕ} → Fits k l → Small k l
 fits-small k f i = match-at (pow-pos k) f i
 
+-- the label of a vertex, in any layer of m propositions
+pub vertex-small : (m n : ℕ) (l : List ℕ) (needs : ℕ) → vertexLabel m (first n) l needs < 2 ^ n
+unfolding vertexLabel needsLabel
+vertex-small m n l needs = without-lt n (needsApart m l needs) (meetOver-lt n _ m (first-lt n))
+
 module _ (D : Domain) (n : ℕ) (start : ℕ → ℕ) where
   start-fits : Fits n (startLayer D n start)
   unfolding startLayer startLabel
@@ -37,15 +42,11 @@ module _ (D : Domain) (n : ℕ) (start : ℕ → ℕ) where
       match-layer _ _ _ _
       (λ p l. joinOver-lt n _ (λ s h. keep-lt n (λ t. single-lt h))) (λ p q l r. pow-pos n)
 
-  vertex-small : (l : List ℕ) (needs : ℕ) → vertexLabel (D .props) (first n) l needs < 2 ^ n
-  unfolding vertexLabel needsLabel
-  vertex-small l needs = without-lt n (needsApart (D .props) l needs) (meetOver-lt n _ (D .props) (first-lt n))
-
   actions-fits : (l : List ℕ) → Fits n (actionLayer D (first n) l)
   unfolding actionLayer vertexMutex
   actions-fits l =
-      match-layer _ _ _ _ (λ v _. vertex-small l (D .needs v))
-      (λ v w _ _. let both = common-lt n _ (vertex-small l (D .needs v)) in choose-lt (λ t. both) (common-lt n _ both))
+      match-layer _ _ _ _ (λ v _. vertex-small (D .props) n l (D .needs v))
+      (λ v w _ _. let both = common-lt n _ (vertex-small (D .props) n l (D .needs v)) in choose-lt (λ t. both) (common-lt n _ both))
 
   next-small : (a : List ℕ) → Small n a → (p : ℕ) → nextLabel (D .vertices) (D .adds) a p < 2 ^ n
   unfolding nextLabel

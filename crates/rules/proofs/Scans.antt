@@ -13,13 +13,13 @@ use lib.Count.{ones, ones-step}
 use lib.Pow.{shr-shr}
 use Rattle.rules.specs.Test.{_and_, _or_, fails, same, below, choose}
 use Rattle.rules.specs.Word.{bit, union, without, single, first, within, meets}
-use Rattle.rules.specs.Over.{keep, joinOver, meetOver, removeOver, countBelow}
+use Rattle.rules.specs.Over.{keep, joinOver, meetOver, removeOver, countBelow, sumOver}
 use Rattle.rules.specs.Lists.{listOver, runOver}
 use Rattle.rules.specs.Domain.{Domain, condition, persistence, needsOf, addsOf, deletesOf, siblings, clobbers, interfereOf, domain}
 use Rattle.rules.specs.Layer.{pairs, size, pairAt, rowOf, layerOf, paired, labelIn, mutexIn, freeIn}
 use Rattle.rules.specs.Shared.{startLabel, startLayer, needsLabel, needsApart, vertexLabel, needsMutex, vertexMutex, actionLayer, nextLabel, oneAdds}
 use Rattle.rules.specs.Shared.{twoAdd, nextMutex, nextLayer, propFrom}
-use Rattle.rules.specs.Scan.{Scan, scanAt, look, scanOver, scanWhere, scanOf, lookOnes, lookWith, lookTwos, scanned, sumOver, others, allLooks}
+use Rattle.rules.specs.Scan.{Scan, scanAt, look, scanOver, scanWhere, scanOf, lookOnes, lookWith, lookTwos, scanned, others, allLooks}
 use Rattle.rules.specs.Scan.{pairLooks, looksOf, stepLooks, looksFrom, looksIn}
 use Rattle.rules.proofs.Tests.{choose-held, choose-failed, and-right, and-true, is-fails, fails-of, fails-at, holds-or, same-of, same-at, same-not}
 use Rattle.rules.proofs.Words.{bit-union, bit-without, bit-zero, single-has, single-only, bit-below, without-lt, ext-all}
@@ -30,7 +30,7 @@ use Rattle.rules.proofs.Lamp.{lamp, start}
 
 -- ---- words
 
-less-none : (a : ℕ) → without a 0 ≡ a
+pub less-none : (a : ℕ) → without a 0 ≡ a
 unfolding _and_ fails
 less-none a = ext-all (λ i. bit-without i a 0 ∙ ap (λ (x : Bool). bit i a and fails x) (bit-zero i) ∙ go (bit i a))
   where
@@ -42,7 +42,7 @@ none-less : (b : ℕ) → without 0 b ≡ 0
 unfolding _and_ fails
 none-less b = ext-all (λ i. bit-without i 0 b ∙ ap (λ (x : Bool). x and fails (bit i b)) (bit-zero i) ∙ sym (bit-zero i))
 
-less-union : (a b c : ℕ) → without (without a b) c ≡ without a (union b c)
+pub less-union : (a b c : ℕ) → without (without a b) c ≡ without a (union b c)
 unfolding _and_ _or_ fails
 less-union a b c = ext-all (λ i.
     bit-without i (without a b) c ∙ ap (λ (x : Bool). x and fails (bit i c)) (bit-without i a b) ∙ go (bit i a) (bit i b) (bit i c)
@@ -122,7 +122,7 @@ unfolding sumOver
 sum-eq zero f g h = refl
 sum-eq (suc n) f g h = ap₂ _+_ (sum-eq n f g (λ i l. h i (omega arith))) (h n (omega arith))
 
-sum-add : (n : ℕ) (f g : ℕ → ℕ) → sumOver n f + sumOver n g ≡ sumOver n (λ i. f i + g i)
+pub sum-add : (n : ℕ) (f g : ℕ → ℕ) → sumOver n f + sumOver n g ≡ sumOver n (λ i. f i + g i)
 unfolding sumOver
 sum-add zero f g = refl
 sum-add (suc n) f g = omega (arith, sum-add n f g)

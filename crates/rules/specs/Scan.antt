@@ -5,7 +5,7 @@ use mathlib.Core.Bool.{Bool}
 use mathlib.Core.List.{List}
 use Rattle.rules.specs.Test.{_and_, fails, same, choose}
 use Rattle.rules.specs.Word.{bit, common, without, first}
-use Rattle.rules.specs.Over.{countBelow}
+use Rattle.rules.specs.Over.{countBelow, sumOver}
 use Rattle.rules.specs.Domain.{Domain}
 use Rattle.rules.specs.Layer.{labelIn, freeIn}
 use Rattle.rules.specs.Shared.{nextLabel, startLayer, actionLayer, propFrom}
@@ -50,11 +50,6 @@ lookTwos n adds a p q = scanWhere n (λ v. bit p (adds v)) (lookWith n adds a q)
 -- the scan of p and q over the layer a of n vertices, where their labels share `both`: the vertices, then the pairs
 unfoldable pub scanned : ℕ → (ℕ → ℕ) → List ℕ → ℕ → ℕ → ℕ → Scan
 scanned n adds a both p q = lookTwos n adds a p q (lookOnes n adds a p q (scanAt both 0))
-
--- f 0 + f 1 .. + f (n - 1)
-unfoldable pub sumOver : ℕ → (ℕ → ℕ) → ℕ
-sumOver zero f = 0
-sumOver (suc n) f = sumOver n f + f n
 
 -- how many vertices other than v add q
 unfoldable pub others : ℕ → (ℕ → ℕ) → ℕ → ℕ → ℕ

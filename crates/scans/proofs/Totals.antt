@@ -4,7 +4,7 @@ use mathlib.Core.Path.{_≡_, ap, ap₂, _∙_}
 use Prim.Native.Nat.{ℕ, suc, _+_, _-_, _*_, _≤_, _<_, zero-le}
 use native.Mathlib.Nat.{suc-mul}
 use native.Mathlib.Omega.{arith}
-use Rattle.rules.specs.Scan.{sumOver}
+use Rattle.rules.specs.Over.{sumOver}
 use Rattle.rules.proofs.Scans.{sum-eq}
 
 -- at index i, from `from` to `end`: the sum of f so far where H holds, and each part at most m

@@ -11,9 +11,9 @@ use lib.Count.{ones, ones-le}
 use lib.ListN.{length, getD}
 use Rattle.rules.specs.Test.{_and_, choose}
 use Rattle.rules.specs.Word.{bit, common, union, without, single}
-use Rattle.rules.specs.Over.{joinOf, countBelow}
+use Rattle.rules.specs.Over.{joinOf, countBelow, sumOver}
 use Rattle.rules.specs.Shared.{startLabel}
-use Rattle.rules.specs.Scan.{Scan, scanAt, look, scanOf, sumOver, allLooks}
+use Rattle.rules.specs.Scan.{Scan, scanAt, look, scanOf, allLooks}
 use Rattle.rules.proofs.Tests.{and-of, and-left, and-right, or-at}
 use Rattle.rules.proofs.Words.{bit-common, bit-union, bit-below, common-lt}
 use Rattle.rules.proofs.Scans.{Turn, turn-then, turn-where, sum-eq, count-eq, count-ones, Adders, adders-told, others-ones, all-ones}

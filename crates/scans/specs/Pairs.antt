@@ -7,8 +7,8 @@ use lib.Count.{ones}
 use lib.ListN.{length, getD}
 use Rattle.rules.specs.Test.{same, choose}
 use Rattle.rules.specs.Word.{bit, common, union, without, single}
-use Rattle.rules.specs.Over.{joinOf}
-use Rattle.rules.specs.Scan.{Scan, scanAt, look, scanOf, sumOver}
+use Rattle.rules.specs.Over.{joinOf, sumOver}
+use Rattle.rules.specs.Scan.{Scan, scanAt, look, scanOf}
 use Rattle.words.specs.Rows.{rowLength, tableLength, cell, Inside}
 
 -- the words that a scan looks at, one for each index: from `base` on, `step` apart

@@ -1,27 +1,29 @@
 -- What the calls promise together, of what they answer and write themselves: for every accepted file, every depth and memory that the build accepts,
 -- every goal over the file's propositions and every non-empty set S of its states, on memory that begins with the words which the build writes.
--- A call's answer and memory are what its rule says (buildRule and countRule, withinRule and countWithin, extractRule, levelRule, levelsRule, runRule,
--- planRule). The setting is that of Setting.
+-- A call's answer and memory are what its rule says (buildRule and countRule, withinRule and countWithin, extractRule, levelRule, levelsRule, shareRule,
+-- runRule, planRule). The setting is that of Setting.
 -- What is said of a page of goals (pageRule) holds on any memory, and what is said of equal actions and of effects without an action of any file.
 -- Assumes nothing.
 use mathlib.Core.Path.{_≡_, ap, _∙_}
 use mathlib.Core.Bool.{So}
 use mathlib.Core.List.{List}
-use Prim.Native.Nat.{ℕ, _+_, _*_, _≤_, _<_}
+use Prim.Native.Nat.{ℕ, _+_, _*_, _^_, _≤_, _<_}
 use lib.ListN.{length, getD}
 use Rattle.rules.specs.Test.{_or_}
-use Rattle.rules.specs.Word.{bit, common, union, without, single, within}
-use Rattle.rules.specs.Over.{countBelow}
+use Rattle.rules.specs.Word.{bit, common, union, without, single, first, within}
+use Rattle.rules.specs.Over.{countBelow, sumOver}
 use Rattle.rules.specs.Domain.{shapeOf, SameActions, condition, clobbers, domain}
 use Rattle.rules.specs.Layer.{labelIn, mutexIn, propsIn, actionsIn}
 use Rattle.rules.specs.Shared.{nextMutex}
-use Rattle.rules.specs.Scan.{Scan, scanned, sumOver, looksOf}
+use Rattle.rules.specs.Scan.{Scan, scanned, looksOf}
 use Rattle.rules.proofs.Scans.{scanned-left, scanned-none, looked-all, all-looks}
 use Rattle.rules.specs.Level.{Level, level, never, notByDepth}
+use Rattle.rules.specs.Share.{Share, weightOf, total, enough}
 use Rattle.rules.specs.Extract.{rank}
 use Rattle.rules.specs.Run.{after}
 use Rattle.rules.specs.Plan.{relaxedRun}
 use Rattle.rules.specs.Agreement.{OneState}
+use Rattle.graph.specs.Limits.{maxDepth}
 use Rattle.graph.specs.Verdict.{accepted, refused, written, laid}
 use Rattle.graph.specs.Format.{countsIn, actionsOf, startOf, domainOf, withCount, withStates}
 use Rattle.graph.specs.File.{fileRule}
@@ -29,6 +31,7 @@ use Rattle.graph.specs.Build.{buildRule, countRule}
 use Rattle.graph.specs.declared.format.Counts.{Counts}
 use Rattle.level.specs.Rule.{levelRule, restRule}
 use Rattle.within.specs.Rule.{possibleRule, withinRule, countWithin, Levels, levelsRule}
+use Rattle.share.specs.Rule.{weightsRule, shareRule}
 use Rattle.page.specs.Rule.{entryOf, pageRule}
 use Rattle.extract.specs.Rule.{extractRule, statesOf}
 use Rattle.run.specs.Run.{maxSteps, runRule}
@@ -36,6 +39,7 @@ use Rattle.plan.specs.Plan.{planRule}
 use Rattle.plan.proofs.Built.{plan-accepted}
 use Rattle.theorems.specs.Setting.{Exactly, Found, StatesOf, GoalOf, Each, alone, Largest, EndsWith, Reaches, saidBy, EqualPair, FirstPair}
 use Rattle.theorems.specs.Setting.{ByFired, Makes, Carries, FirstStray, Passes, Possible, NotPossible, Between}
+use Rattle.theorems.specs.Setting.{Weighted, Numbers, holding, Holds, FirstShare}
 use Rattle.theorems.proofs.Founds as founds
 use Rattle.theorems.proofs.Levels as levels
 use Rattle.theorems.proofs.Carried as carried
@@ -48,6 +52,7 @@ use Rattle.theorems.proofs.Pairs as pairs
 use Rattle.theorems.proofs.Effects as effects
 use Rattle.theorems.proofs.Looks as scans
 use Rattle.theorems.proofs.Within as lists
+use Rattle.theorems.proofs.Shares as shares
 
 -- the memory after an accepted build is of this setting
 pub build-leaves : (file : List ℕ) (c : Counts) (depth : ℕ) (memory words : List ℕ) → fileRule file ≡ accepted c
@@ -329,8 +334,9 @@ module _ (file : List ℕ) (c : Counts) (taken : fileRule file ≡ accepted c) (
     within-is-build = lists.within-is-build file c possible taken right
 
     -- .. and the calls that read a graph answer with the file what they answer with that one, on any words.
-    pub within-reads : (depth set goal : ℕ) (goals words : List ℕ) (room : ℕ)
+    pub within-reads : (depth set goal : ℕ) (share : Share) (goals words : List ℕ) (room : ℕ)
         → (levelRule file depth set goal words ≡ levelRule (withStates file c possible) depth set goal words)
+        × (shareRule file depth goal share words ≡ shareRule (withStates file c possible) depth goal share words)
         × (restRule file depth words ≡ restRule (withStates file c possible) depth words)
         × (pageRule file depth set goals words room ≡ pageRule (withStates file c possible) depth set goals words room)
         × (extractRule file depth set words room ≡ extractRule (withStates file c possible) depth set words room)
@@ -381,3 +387,81 @@ module _ (file : List ℕ) (c : Counts) (depth : ℕ) (possible p s : List ℕ) 
     -- Where each possible set is the sure one, both answers are the same.
     pub same-answers : ((i : ℕ) → i < c .states → getD possible i 0 ≡ startOf file c i) → answers .first ≡ answers .second
     same-answers same = lists.same-answers file c (builtS .taken) possible right same builtP builtS some over answers answered
+
+-- ---- 12: enough of the weight
+
+-- In files of either version. `holding` are the 'states with the whole goal, free of mutexes', in a layer of the words as found.
+module _ (file : List ℕ) (c : Counts) (taken : fileRule file ≡ accepted c) where
+  -- Weights and a share are accepted exactly when there is one weight for each state, not all of them 0, and the fraction is one of 0 to 1.
+  pub share-exactly : (share : Share) → Exactly (weightsRule (c .states) share ≡ accepted tt) (Weighted c share)
+  share-exactly = shares.share-exactly c
+
+  module _ (depth goal : ℕ) (words : List ℕ) where
+    -- The call answers cause 18, on any words, exactly when they are not, the depth and the goal being accepted ('after 8'), and with 'place 0' only.
+    pub not-share-exactly : (share : Share) (place : ℕ) → Exactly (shareRule file depth goal share words ≡ refused 18 place)
+        ((depth ≤ maxDepth) × GoalOf c goal × (Weighted c share → ⊥) × (place ≡ 0))
+    not-share-exactly = shares.refused-exactly file c taken depth goal words
+
+    -- 'With share 1 and no zero weight the answer must be the level of all states': on any words, and where the call is turned away too.
+    pub share-one-is-level : (share : Share) → Weighted c share → share .numerator ≡ share .denominator
+        → ((s : ℕ) → s < c .states → getD (share .weights) s 0 ≡ 0 → ⊥)
+        → shareRule file depth goal share words ≡ levelRule file depth (first (c .states)) goal words
+    share-one-is-level = shares.one-is-level file c taken depth goal words
+
+    -- No state but the file's ever counts.
+    pub share-counts-only : (t s : ℕ) → So (bit s (holding c words goal t)) → s < c .states
+    share-counts-only = shares.none-else c words goal
+
+    -- Two shares of the same weights, the second as large as the first or larger, on any words:
+    module _ (share share' : Share) (right : Weighted c share) (right' : Weighted c share') (alike : share .weights ≡ share' .weights)
+        (less : share .numerator * share' .denominator ≤ share' .numerator * share .denominator) where
+      -- the larger one never has an earlier level, nor one where the smaller has none ..
+      pub share-rises : (t' : ℕ) → shareRule file depth goal share' words ≡ accepted (level t')
+          → (t : ℕ) × (shareRule file depth goal share words ≡ accepted (level t)) × (t ≤ t')
+      share-rises = shares.larger-level file c taken depth goal words share share' right right' alike less
+
+      -- .. and where the smaller is answered 'never' or 'not by depth', so is the larger.
+      pub share-stays : (shareRule file depth goal share words ≡ accepted never → shareRule file depth goal share' words ≡ accepted never)
+          × (shareRule file depth goal share words ≡ accepted notByDepth → shareRule file depth goal share' words ≡ accepted notByDepth)
+      share-stays = (
+        shares.larger-never file c taken depth goal words share share' right right' alike less,
+        shares.larger-not-by-depth file c taken depth goal words share share' right right' alike less,
+      )
+
+  -- The two numbers that are compared stay below 2 ^ 38, whatever states count: with 64 states, weights and shares of 16 bits.
+  pub share-fits : (share : Share) → Weighted c share → Numbers share → (set : ℕ)
+      → (weightOf (share .weights) set * share .denominator < 2 ^ 38) × (total (share .weights) * share .numerator < 2 ^ 38)
+  share-fits = shares.fits-words file c taken
+
+module _ (file : List ℕ) (c : Counts) (depth : ℕ) (found : List ℕ) (built : Found file c depth found) (goal : ℕ) where
+  -- A state counts in a layer exactly when that layer of its own graph has the whole goal, free of mutexes.
+  pub share-counts : (t : ℕ) → t ≤ depth → (s : ℕ) → s < c .states → Exactly (So (bit s (holding c found goal t))) (Holds file c goal t s)
+  share-counts = shares.counts built goal
+
+  module _ (over : GoalOf c goal) (share : Share) (right : Weighted c share) where
+    -- The call answers a level, 'never' or 'not by depth'.
+    pub share-answered : (a : Level) × (shareRule file depth goal share found ≡ accepted a)
+    share-answered = (_, shares.share-answer built over right)
+
+    -- The level is t exactly when t is 'the first layer where the weight of states with the whole goal' is enough, up to the depth.
+    pub share-is-first : (t : ℕ) → Exactly (shareRule file depth goal share found ≡ accepted (level t)) ((t ≤ depth) × FirstShare c share found goal t)
+    share-is-first = shares.first-exactly built over right
+
+    module _ (set : ℕ) (some : StatesOf c set) where
+      -- 'with no such layer, never or not by depth as at the level': of any set that has none either
+      pub share-as-level : ((t : ℕ) → shareRule file depth goal share found ≡ accepted (level t) → ⊥)
+          → ((t : ℕ) → levelRule file depth set goal found ≡ accepted (level t) → ⊥)
+          → shareRule file depth goal share found ≡ levelRule file depth set goal found
+      share-as-level = shares.as-level built over right some
+
+      -- A list that is carried out from states whose weight is enough, and ends with the goal in each of them, is no shorter than the level ..
+      module _ (heavy : So (enough share set)) (list : List ℕ) (reaches : Reaches file c set goal list) where
+        pub share-bound : (t : ℕ) → shareRule file depth goal share found ≡ accepted (level t) → t ≤ length list
+        share-bound = shares.share-bound built over right some heavy reaches
+
+        -- .. there is none at 'never', and none of at most so many steps at 'not by depth'.
+        pub share-never-bound : shareRule file depth goal share found ≡ accepted never → ⊥
+        share-never-bound = shares.share-never built over right some heavy reaches
+
+        pub share-depth-bound : shareRule file depth goal share found ≡ accepted notByDepth → depth < length list
+        share-depth-bound = shares.share-depth built over right some heavy reaches

@@ -1,18 +1,17 @@
 -- The level of a set is the largest of the levels that its states have by themselves.
 -- Assumes nothing.
 use mathlib.Core.Path.{_≡_, refl, sym, ap, _∙_}
-use mathlib.Core.Bool.{Bool, So}
+use mathlib.Core.Bool.{So}
 use mathlib.Core.Logic.{_⊎_, inl, inr, ⊎-elim}
 use mathlib.Core.List.{List}
 use Prim.Native.Nat.{ℕ, zero, suc, max, _≤_}
 use native.Mathlib.Omega.{arith}
-use Rattle.rules.specs.Test.{fails}
 use Rattle.rules.specs.Word.{bit}
 use Rattle.rules.specs.Over.{keep, anyBelow, greatest}
 use Rattle.rules.specs.Level.{level}
-use Rattle.rules.proofs.Tests.{choose-failed, holds-or, fails-at}
+use Rattle.rules.proofs.Tests.{holds-or, fails-at}
 use Rattle.rules.proofs.Words.{no-bits}
-use Rattle.rules.proofs.Overs.{any-of, any-at, keep-held}
+use Rattle.rules.proofs.Overs.{any-of, any-at, keep-held, keep-failed}
 use Rattle.rules.proofs.Layers.{which}
 use Rattle.rules.proofs.Domains.{keeps}
 use Rattle.rules.proofs.Claims.{greatestLevel, level-exists, level-only}
@@ -33,10 +32,6 @@ greatest-is (suc n) g = ⊎-elim
     ⊎-elim (λ z. inl (e ∙ z)) (λ (i, q). inr (i, q ∙ sym e)) (greatest-is n g))
     (λ h. inr (n, omega arith))
     (which (g n) (greatest n g))
-
-keep-failed : (b : Bool) (w : ℕ) → So (fails b) → keep b w ≡ 0
-unfolding keep
-keep-failed b w h = choose-failed b w h
 
 -- a set that is not empty has a state
 member-of : {c : Counts} {set : ℕ} → StatesOf c set → (s : ℕ) × So (bit s set)

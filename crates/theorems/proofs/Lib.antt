@@ -11,4 +11,5 @@ pub mod Pairs
 pub mod Effects
 pub mod Looks
 pub mod Within
+pub mod Shares
 pub mod Demand

@@ -10,7 +10,8 @@ use Rattle.rules.specs.Word.{common, first}
 use Rattle.rules.specs.Domain.{shapeOf}
 use Rattle.rules.specs.Layer.{labelIn, mutexIn, propsIn, actionsIn}
 use Rattle.rules.specs.Shared.{nextLayer, propFrom, propLayer, vertexLayer}
-use Rattle.rules.specs.Scan.{scanned, sumOver, looksOf, stepLooks, looksFrom}
+use Rattle.rules.specs.Over.{sumOver}
+use Rattle.rules.specs.Scan.{scanned, looksOf, stepLooks, looksFrom}
 use Rattle.rules.proofs.Layers.{label-back, mutex-back, paired-rising}
 use Rattle.rules.proofs.Layouts.{props-in, actions-in}
 use Rattle.rules.proofs.Rests.{rests}

@@ -1,7 +1,6 @@
 -- An accepted page: each entry is the single call's answer, and tells all of it.
 -- Assumes nothing.
 use mathlib.Core.Path.{_≡_, refl, sym, ap, ap₂, _∙_}
-use mathlib.Core.Bool.{Bool, true, false}
 use mathlib.Core.List.{List, _++_}
 use mathlib.Core.Logic.{by-cases}
 use Prim.Native.Nat.{ℕ, _+_, _-_, _^_, _≤_, _<_}
@@ -10,10 +9,11 @@ use native.Mathlib.Omega.{arith}
 use lib.ListN.{length, getD, drop, List·getD-append}
 use lib.Seq.{getD-append-add, getD-drop}
 use lib.Pow.{pow-pos}
-use Rattle.rules.specs.Test.{same, below, choose}
-use Rattle.rules.specs.Level.{Level, level, never, notByDepth, firstMet, firstRest, levelOf}
+use Rattle.rules.specs.Test.{same, choose}
+use Rattle.rules.specs.Level.{Level, level, never, notByDepth, levelOf}
 use Rattle.rules.proofs.Tests.{same-not}
 use Rattle.rules.proofs.Layers.{getD-listOver}
+use Rattle.rules.proofs.Levels.{by-says}
 use Rattle.graph.specs.Limits.{maxDepth}
 use Rattle.graph.specs.Verdict.{Verdict, accepted, refused, written, laid}
 use Rattle.graph.specs.Format.{shapeIn}
@@ -22,7 +22,6 @@ use Rattle.graph.proofs.Links.{long-output}
 use Rattle.graph.proofs.Ladder.{asked-means, graph-means, graph-of}
 use Rattle.graph.proofs.Verdicts.{then-accepted, passed-then}
 use Rattle.level.specs.Rule.{levelTaken, levelRule}
-use Rattle.level.proofs.Answers.{level-at, level-none}
 use Rattle.page.specs.Rule.{entryOf, entries, pageTaken, pageRule}
 use Rattle.page.proofs.Singles.{single-taken, single-fit, single-wide, entries-long, Paged, page-means}
 use Rattle.theorems.specs.Setting.{Exactly, saidBy}
@@ -38,11 +37,12 @@ told-level t h = simp (
   same-not {i = t} {j = 258} (λ e. omega arith),
 )
 
--- none
-told-none : (b : Bool) → saidBy (entryOf (accepted (choose b never notByDepth))) ≡ accepted (choose b never notByDepth)
+-- any answer whose level, if it is one, is no larger than a depth
+told-answer : (a : Level) → ((t : ℕ) → a ≡ level t → t ≤ maxDepth) → saidBy (entryOf (accepted a)) ≡ accepted a
 unfolding saidBy choose same
-told-none true = refl
-told-none false = refl
+told-answer (level t) h = told-level t (h t refl)
+told-answer never h = refl
+told-answer notByDepth h = refl
 
 -- cause 8
 told-wide : saidBy (entryOf (refused 8 0)) ≡ refused 8 0
@@ -80,35 +80,17 @@ module _ {file : List ℕ} {depth set : ℕ} {goals words : List ℕ} {room : �
 
   -- what the single call gives for a goal is told by its entry
   told : (goal : ℕ) → saidBy (entryOf (levelRule file depth set goal words)) ≡ levelRule file depth set goal words
+  unfolding levelOf
   told goal = by-cases (decLe (2 ^ m .c .props) goal)
       (λ h. of (refused 8 0) (single-wide (m .c) depth set words (m .passed) goal h) told-wide)
-      (λ h. of (accepted answer) (single-fit (m .c) depth set words (m .passed) goal (omega arith)) (by-cases (decLe first depth) at none))
+      (λ h. of (accepted _) (single-fit (m .c) depth set words (m .passed) goal (omega arith))
+      (told-answer _ (λ t e. omega (arith, by-says _ _ _ _ e .0, m .passed .deep))))
     where
-      first : ℕ
-      first = firstMet (shapeIn (m .c)) depth set goal words
-
-      answer : Level
-      answer = levelOf (shapeIn (m .c)) depth set goal words
-
       of : (v : Verdict Level) → levelTaken (m .c) depth set goal words ≡ v → saidBy (entryOf v) ≡ v
           → saidBy (entryOf (levelRule file depth set goal words)) ≡ levelRule file depth set goal words
       of v e s =
           let is : levelRule file depth set goal words ≡ v = sym (single-taken file (m .c) depth set words (m .taken) goal) ∙ e in
           ap (λ (x : Verdict Level). saidBy (entryOf x)) is ∙ s ∙ sym is
-
-      by : (v : Verdict Level) → v ≡ accepted answer → saidBy (entryOf v) ≡ v → saidBy (entryOf (accepted answer)) ≡ accepted answer
-      by v e s = ap (λ (x : Verdict Level). saidBy (entryOf x)) (sym e) ∙ s ∙ e
-
-      at : first ≤ depth → saidBy (entryOf (accepted answer)) ≡ accepted answer
-      at h =
-          by (accepted (level first)) (ap accepted (level-at (shapeIn (m .c)) depth set goal words first refl h))
-          (told-level first (omega (arith, m .passed .deep)))
-
-      none : (first ≤ depth → ⊥) → saidBy (entryOf (accepted answer)) ≡ accepted answer
-      none h =
-          let rests = below (firstRest (shapeIn (m .c)) depth words) depth in
-          by (accepted (choose rests never notByDepth)) (ap accepted (level-none (shapeIn (m .c)) depth set goal words first refl (omega arith)))
-          (told-none rests)
 
 -- ---- which pages are accepted
 

@@ -40,7 +40,7 @@ module _ {n p : ℕ} where
   unless true k q v e = inl cc
   unless false k q v e = inr e
 
-  only-if : {X : Type 0} (b : Bool) (k q : ℕ) (v : Verdict X) → choose b v (refused k q) ≡ refused n p → (k ≡ n) ⊎ (v ≡ refused n p)
+  pub only-if : {X : Type 0} (b : Bool) (k q : ℕ) (v : Verdict X) → choose b v (refused k q) ≡ refused n p → (k ≡ n) ⊎ (v ≡ refused n p)
   unfolding choose
   only-if true k q v e = inr e
   only-if false k q v e = inl cc

@@ -13,6 +13,7 @@ use Rattle.rules.specs.Over.{anyBelow, firstBelow}
 use Rattle.rules.specs.Domain.{Domain, SameActions}
 use Rattle.rules.specs.Own.{ownLevel}
 use Rattle.rules.specs.Level.{level}
+use Rattle.rules.specs.Share.{Share}
 use Rattle.rules.specs.Plan.{Planned}
 use Rattle.rules.proofs.Tests.{choose-held, choose-failed, and-of, and-left, and-right, same-of, same-at, fails-of, fails-at, holds-or, below-of, below-at}
 use Rattle.rules.proofs.Tests.{below-fails}
@@ -37,6 +38,7 @@ use Rattle.graph.proofs.WithStates.{placed-taken, placed-actions, placed-starts
 use Rattle.level.specs.Rule.{levelRule, restRule}
 use Rattle.within.specs.Rule.{encloses, firstOpen, boundsRule, possibleRule, withinTaken, withinRule, countWithin, Levels, both, levelsRule}
 use Rattle.within.proofs.Possibles.{wrong-length, some-open}
+use Rattle.share.specs.Rule.{shareRule}
 use Rattle.page.specs.Rule.{pageTaken, pageRule}
 use Rattle.extract.specs.Rule.{extractRule}
 use Rattle.plan.specs.Plan.{plannedVerdict, planTaken, planRule}
@@ -222,6 +224,10 @@ module _ (file file' : List ℕ) (c : Counts) (taken : fileRule file ≡ accepte
   unfolding extractRule
   extract-alike depth set words room = either _ _ refl
 
+  share-alike : (depth goal : ℕ) (share : Share) (words : List ℕ) → shareRule file depth goal share words ≡ shareRule file' depth goal share words
+  unfolding shareRule
+  share-alike depth goal share words = either _ _ refl
+
   plan-alike : SameActions (actionsOf file' c) (actionsOf file c) → (depth set goal : ℕ) (words : List ℕ) (room : ℕ)
       → planRule file depth set goal words room ≡ planRule file' depth set goal words room
   unfolding planRule planTaken
@@ -231,16 +237,18 @@ module _ (file file' : List ℕ) (c : Counts) (taken : fileRule file ≡ accepte
       (sym (plan-same (plan-reads same (taken-means file c taken .sound)) depth set goal words)))
 
 module _ (file : List ℕ) (c : Counts) (taken : fileRule file ≡ accepted c) (possible : List ℕ) (p : Possible file c possible) where
-  pub within-reads : (depth set goal : ℕ) (goals words : List ℕ) (room : ℕ)
+  pub within-reads : (depth set goal : ℕ) (share : Share) (goals words : List ℕ) (room : ℕ)
       → (levelRule file depth set goal words ≡ levelRule (withStates file c possible) depth set goal words)
+      × (shareRule file depth goal share words ≡ shareRule (withStates file c possible) depth goal share words)
       × (restRule file depth words ≡ restRule (withStates file c possible) depth words)
       × (pageRule file depth set goals words room ≡ pageRule (withStates file c possible) depth set goals words room)
       × (extractRule file depth set words room ≡ extractRule (withStates file c possible) depth set words room)
       × (planRule file depth set goal words room ≡ planRule (withStates file c possible) depth set goal words room)
-  within-reads depth set goal goals words room =
+  within-reads depth set goal share goals words room =
       let file' = withStates file c possible in
       let taken' = placed-taken file c possible taken (p .long) (inside-of p) in (
         level-alike file file' c taken taken' depth set goal words,
+        share-alike file file' c taken taken' depth goal share words,
         rest-alike file file' c taken taken' depth words,
         page-alike file file' c taken taken' depth set goals words room,
         extract-alike file file' c taken taken' depth set words room,

@@ -3,15 +3,17 @@ use mathlib.Core.Path.{_≡_}
 use mathlib.Core.Bool.{So}
 use mathlib.Core.List.{List, _++_}
 use mathlib.Core.Logic.{_⊎_}
-use Prim.Native.Nat.{ℕ, suc, _^_, _≤_, _<_}
+use Prim.Native.Nat.{ℕ, suc, _*_, _^_, _≤_, _<_}
 use lib.ListN.{length, getD}
 use Rattle.rules.specs.Test.{same, choose}
-use Rattle.rules.specs.Word.{bit, within}
+use Rattle.rules.specs.Word.{bit, first, within}
 use Rattle.rules.specs.Domain.{Actions}
+use Rattle.rules.specs.Layer.{propsIn}
 use Rattle.rules.specs.Level.{Level, level, never, notByDepth}
-use Rattle.rules.specs.Own.{ownLevel}
+use Rattle.rules.specs.Share.{Share, weightOf, total, holders}
+use Rattle.rules.specs.Own.{admits, ownProps, ownLevel}
 use Rattle.graph.specs.Verdict.{Verdict, accepted, refused}
-use Rattle.graph.specs.Format.{plain, effectAt, preAt, countsIn, actionsOf, startOf, domainOf}
+use Rattle.graph.specs.Format.{plain, effectAt, preAt, countsIn, actionsOf, startOf, domainOf, shapeIn}
 use Rattle.graph.specs.File.{headRule, versionRule, countsRule, lengthRule, setsRule, fileRule}
 use Rattle.graph.specs.Build.{buildRule}
 use Rattle.graph.specs.declared.format.Counts.{Counts}
@@ -165,3 +167,32 @@ pub record Between (file : List ℕ) (c : Counts) (possible chosen : List ℕ) :
   pub long : length chosen ≡ c .states
   pub sure : (s : ℕ) → s < c .states → PartOf (startOf file c s) (getD chosen s 0)
   pub within : (s : ℕ) → s < c .states → PartOf (getD chosen s 0) (getD possible s 0)
+
+-- Request Seven: weights and a share that cause 18 does not turn away. There is a weight for each state, a state that weighs something, a denominator
+-- that is not 0, and a numerator not above it.
+pub record Weighted (c : Counts) (share : Share) : Type 0 where
+  pub long : length (share .weights) ≡ c .states
+  pub state : ℕ
+  pub one : state < c .states
+  pub weighs : getD (share .weights) state 0 ≡ 0 → ⊥
+  pub some : share .denominator ≡ 0 → ⊥
+  pub proper : share .numerator ≤ share .denominator
+
+-- 'Each state gets a whole weight up to 65,535 and the share is a fraction of two such numbers.'
+pub record Numbers (share : Share) : Type 0 where
+  pub weights : (s : ℕ) → s < length (share .weights) → getD (share .weights) s 0 ≤ 65535
+  pub numerator : share .numerator ≤ 65535
+  pub denominator : share .denominator ≤ 65535
+
+-- the 'states with the whole goal, free of mutexes', in layer t of the words
+abbrev pub holding : Counts → List ℕ → ℕ → ℕ → ℕ
+holding c words goal t = holders (c .props) (first (c .states)) (propsIn (shapeIn c) words t) goal
+
+-- state s is one of them in its own graph: layer t holds every goal, and no two of them are mutex
+abbrev pub Holds : List ℕ → Counts → ℕ → ℕ → ℕ → Type 0
+Holds file c goal t s = So (admits (c .props) (ownProps (domainOf file c) (startOf file c s) t) goal)
+
+-- t is 'the first layer where the weight' of these states, 'times the denominator, is at least the total weight times the numerator'
+pub record FirstShare (c : Counts) (share : Share) (words : List ℕ) (goal t : ℕ) : Type 0 where
+  pub there : total (share .weights) * share .numerator ≤ weightOf (share .weights) (holding c words goal t) * share .denominator
+  pub before : (u : ℕ) → u < t → weightOf (share .weights) (holding c words goal u) * share .denominator < total (share .weights) * share .numerator

@@ -1,6 +1,6 @@
-// The library calls of calls.bin. A case is 26 numbers: the kind of the call; the file, a part of the store; depth, set, goal; the graph, that of the
-// sure sets where there are two; the list, a part of the store, a run's actions, or a page's goals or a build's possible sets, how many and then each as
-// a number; elements of output, base of their fill; what `answers` compares; the graph of the possible sets.
+// The library calls of calls.bin. A case is 28 numbers: the kind of the call; the file, a part of the store; depth, set, goal; the graph, that of the
+// sure sets where there are two; the list, a part of the store, a run's actions, or a page's goals, a build's possible sets or the states' weights, how
+// many and then each as a number; elements of output, base of their fill; what `answers` compares; the graph of the possible sets; the share.
 // A graph is 6 numbers: its words of memory; what they are (0 none, 1 as the last build of its kind left them, 2 a fill), the fill's base and mask;
 // the edits, a part of the store with pairs of numbers, a word's index and what is xored to it.
 // What a call does not take is 0. Memory that there is not is none, so that a case that asks for it disagrees.
@@ -21,7 +21,9 @@ use crate::levels;
 use crate::memory::digest;
 use crate::memory::element;
 use crate::memory::fill;
+use crate::memory::low_u16;
 use crate::memory::low_u32;
+use crate::memory::put_cut;
 use build::BuildAnswer;
 use extract::ExtractAnswer;
 use level::LevelAnswer;
@@ -34,7 +36,7 @@ use within::WithinAnswer;
 use words::sets::Props;
 use words::sets::States;
 
-// The memory that there is: words of a graph and of an extract, sets of a plan and of a run, entries of a page, sets of a list.
+// The memory that there is: words of a graph and of an extract, sets of a plan and of a run, entries of a page, numbers of a list.
 pub const WORDS: usize = 60000;
 
 const SETS: usize = 512;
@@ -62,7 +64,9 @@ pub const BUILD_WITHIN: usize = 7;
 
 pub const LEVEL_WITHIN: usize = 8;
 
-pub const LEVELS: usize = 9;
+pub const WEIGHTED: usize = 9;
+
+pub const LEVELS: usize = 10;
 
 // Where a case has what.
 pub const KIND: usize = 0;
@@ -85,8 +89,12 @@ const FILL: usize = 15;
 
 const POSSIBLE: usize = 20;
 
+const NUMERATOR: usize = 26;
+
+const DENOMINATOR: usize = 27;
+
 // How many numbers a case has.
-pub const NUMBERS: usize = 26;
+pub const NUMBERS: usize = 28;
 
 // Where a graph has what.
 const LENT: usize = 0;
@@ -192,9 +200,10 @@ fn lay_graph(graph: &[u8], edits: &[u8], built: &[u64], words: &mut [u64]) {
     }
 }
 
-fn lay_sets(list: &[u8], sets: &mut [u32]) {
-    for i in 0..sets.len() {
-        sets[i] = low_u32(entry(list, i + 1));
+// The numbers of a list, as sets or as weights: what is lent of the other kind is empty.
+fn lay_list(list: &[u8], sets: &mut [u32], weights: &mut [u16]) {
+    for i in 0..LISTED {
+        put_cut(&mut *sets, &mut *weights, i, entry(list, i + 1));
     }
 }
 
@@ -213,7 +222,7 @@ fn call_build_within(file: &[u8], row: &[u8], list: &[u8], out: &mut [u64]) -> O
     let mut room = [0u32; LISTED];
     let n = fitting(index(list, 0), LISTED);
     let possible = &mut room[0..n];
-    lay_sets(list, &mut *possible);
+    lay_list(list, &mut *possible, &mut [0; 0]);
     said_built(within::build_within(file, &possible[..], index(row, DEPTH), out))
 }
 
@@ -233,11 +242,31 @@ fn said_level(level: Level) -> Outcome {
     }
 }
 
-fn call_level(file: &[u8], row: &[u8], graph: &[u64]) -> Outcome {
-    match level::level(file, index(row, DEPTH), states(row), goal(row), graph) {
+fn said_level_or_why(answer: LevelAnswer) -> Outcome {
+    match answer {
         LevelAnswer::Level(level) => said_level(level),
         LevelAnswer::Refused(why) => refused(why),
     }
+}
+
+fn call_level(file: &[u8], row: &[u8], graph: &[u64]) -> Outcome {
+    said_level_or_why(level::level(file, index(row, DEPTH), states(row), goal(row), graph))
+}
+
+fn call_weighted(file: &[u8], row: &[u8], list: &[u8], graph: &[u64]) -> Outcome {
+    let mut room = [0u16; LISTED];
+    let n = fitting(index(list, 0), LISTED);
+    let weights = &mut room[0..n];
+    lay_list(list, &mut [0; 0], &mut *weights);
+    said_level_or_why(share::level_share(
+        file,
+        index(row, DEPTH),
+        goal(row),
+        &weights[..],
+        low_u16(entry(row, NUMERATOR)),
+        low_u16(entry(row, DENOMINATOR)),
+        graph,
+    ))
 }
 
 // A level as one number.
@@ -288,7 +317,7 @@ fn call_page(file: &[u8], row: &[u8], list: &[u8], graph: &[u64], out: &mut [u16
     let mut room = [0u32; LISTED];
     let n = fitting(index(list, 0), LISTED);
     let goals = &mut room[0..n];
-    lay_sets(list, &mut *goals);
+    lay_list(list, &mut *goals, &mut [0; 0]);
     match page::page(file, index(row, DEPTH), states(row), &goals[..], graph, out) {
         PageAnswer::Paged(n) => said(a::PAGED, n),
         PageAnswer::Refused(why) => refused(why),
@@ -388,6 +417,11 @@ fn graph_agrees(kind: usize, store: &[u8], row: &[u8], within: &[u64], graph: &[
         REST => agrees(row, call_rest(file, row, graph), 0),
         LEVEL => agrees(row, call_level(file, row, graph), 0),
         LEVEL_WITHIN => levels_agree(store, row, within, graph),
+        WEIGHTED => agrees(
+            row,
+            call_weighted(file, row, stored(store, row, LIST), graph),
+            0,
+        ),
         _ => output_agrees(kind, store, row, graph),
     }
 }

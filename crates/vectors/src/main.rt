@@ -12,11 +12,11 @@ mod rows;
 mod show;
 
 // Room for a data file.
-const BYTES: usize = 131072;
+const BYTES: usize = 196608;
 
 // That the length is known here spares the caller to count it.
 fn file_room() -> [u8; BYTES]
-    ensures { λ r. ⌜ length r ≡ 131072 ⌝ }
+    ensures { λ r. ⌜ length r ≡ 196608 ⌝ }
 {
     [0; BYTES]
 }
@@ -31,6 +31,6 @@ fn judge(name: &[u8], first: usize, kinds: usize, width: usize) {
 }
 
 fn main() {
-    judge(b"calls.bin", calls::BUILD, 9, calls::NUMBERS);
+    judge(b"calls.bin", calls::BUILD, 10, calls::NUMBERS);
     judge(b"levels.bin", calls::LEVELS, 1, levels::NUMBERS);
 }

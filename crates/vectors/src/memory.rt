@@ -26,7 +26,7 @@ pub fn low_u32(x: u64) -> u32 {
     (x % HALF) as u32
 }
 
-fn low_u16(x: u64) -> u16 {
+pub fn low_u16(x: u64) -> u16 {
     (x % 0x1_0000) as u16
 }
 
@@ -64,11 +64,7 @@ fn value_at(words: &[u64], sets: &[u32], entries: &[u16], i: usize) -> u64 {
 }
 
 // Puts x to element i, cut to its width.
-fn put(words: &mut [u64], sets: &mut [u32], entries: &mut [u16], i: usize, x: u64) {
-    if i < words.len() {
-        words[i] = x;
-        return;
-    }
+pub fn put_cut(sets: &mut [u32], entries: &mut [u16], i: usize, x: u64) {
     if i < sets.len() {
         sets[i] = low_u32(x);
         return;
@@ -76,6 +72,15 @@ fn put(words: &mut [u64], sets: &mut [u32], entries: &mut [u16], i: usize, x: u6
     if i < entries.len() {
         entries[i] = low_u16(x);
     }
+}
+
+// The same, where it may be a word.
+fn put(words: &mut [u64], sets: &mut [u32], entries: &mut [u16], i: usize, x: u64) {
+    if i < words.len() {
+        words[i] = x;
+        return;
+    }
+    put_cut(sets, entries, i, x);
 }
 
 pub fn fill(words: &mut [u64], sets: &mut [u32], entries: &mut [u16], base: u64) {

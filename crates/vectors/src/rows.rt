@@ -12,7 +12,7 @@ use crate::show::say_tally;
 use std::num::wrapping_add_usize;
 
 // How many kinds of cases there are; as a kind, that of a case that is cut or does not agree.
-const KINDS: usize = 10;
+const KINDS: usize = 11;
 
 // The kind of a case: a row that is no call's is a problem file's.
 fn kind_of(row: &[u8], width: usize) -> usize {

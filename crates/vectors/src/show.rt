@@ -61,6 +61,7 @@ fn say_kind(kind: usize) {
         calls::PAGE => say(b"page"),
         calls::BUILD_WITHIN => say(b"build-within"),
         calls::LEVEL_WITHIN => say(b"level-within"),
+        calls::WEIGHTED => say(b"weighted"),
         _ => say(b"levels"),
     }
 }

@@ -219,6 +219,13 @@ impl Case {
         (set, goal)
     }
 
+    /// A weight for each state, none of them 0.
+    fn weights(&self, seed: u64) -> Vec<u16> {
+        // numbers of its own, so that what is drawn for other calls does not depend on it
+        let mut random = Random(!seed.rotate_left(16));
+        (0..self.file[7]).map(|_| 1 + random.below(u16::MAX as usize) as u16).collect()
+    }
+
     /// A page of goals, of one to four propositions each.
     fn goals(&self, seed: u64) -> Vec<u32> {
         // numbers of its own, so that what is drawn for other calls does not depend on it
@@ -403,6 +410,21 @@ fn within(case: &Case, seed: u64) {
     times.print("level_within", case, format!("all states, all goals, {bounds}"));
 }
 
+/// Levels by share: of a goal that comes late, for half of the weight and for nearly all, and of all propositions for all
+/// of it.
+fn shares(case: &Case, seed: u64) {
+    let Case { file, depth, words, .. } = case;
+    let (depth, weights) = (*depth, case.weights(seed));
+    let ((_, goal), every) = (case.task(4), u32::MAX >> (32 - file[5]));
+    let some = format!("{} goals", goal.count_ones());
+    for (what, goal, numerator, denominator) in
+        [(&some[..], goal, 1, 2), (&some[..], goal, 9, 10), ("all goals", every, 1, 1)]
+    {
+        let (level, times) = race!(level_share(file, depth, goal, &weights, numerator, denominator, words));
+        times.print("level_share", case, format!("{what}, share {numerator}/{denominator}, {level:?}"));
+    }
+}
+
 fn reads(case: &Case, seed: u64, random: &mut Random) {
     let Case { file, depth, words, .. } = case;
     let depth = *depth;
@@ -573,6 +595,9 @@ fn main() {
     }
     for case in &cases {
         within(case, seed);
+    }
+    for case in &cases {
+        shares(case, seed);
     }
     println!();
     heading("build", "each alone ns", "all in one ns");

@@ -12,12 +12,13 @@ use mogzift::{word_count, STACK, TEXT_ROOM};
 use std::process::{Command, Stdio};
 use std::{arch, env, hint, thread};
 
-const CALLS: [&str; 11] = [
+const CALLS: [&str; 12] = [
     "build",
     "build_within",
     "rest",
     "level",
     "level_within",
+    "level_share",
     "page",
     "extract",
     "run",
@@ -68,6 +69,7 @@ fn as_effects(actions: &[[u32; 3]], random: &mut Random) -> Vec<u8> {
 struct Case {
     file: Vec<u8>,
     possible: Vec<u32>,
+    weights: Vec<u16>,
     words: Vec<u64>,
     out: Vec<u64>,
     sets: Vec<u32>,
@@ -96,7 +98,9 @@ impl Case {
         mogzift::build(&file, DEPTH, &mut words).expect("a file that is in order");
         let out = words.clone();
         let possible = starts.iter().map(|start| start | 1 << (random.word() % props as u64)).collect();
-        Case { file, possible, words, out, sets: vec![0; 64], levels: vec![0; 3], text: vec![0; TEXT_ROOM] }
+        let weights = starts.iter().map(|_| random.word() as u16 | 1).collect();
+        let (sets, levels, text) = (vec![0; 64], vec![0; 3], vec![0; TEXT_ROOM]);
+        Case { file, possible, weights, words, out, sets, levels, text }
     }
 
     fn all(size: (usize, usize, usize)) -> Vec<Case> {
@@ -106,8 +110,9 @@ impl Case {
 
     /// Makes the call for each single goal and for several sets of states, accepted or turned away.
     fn call(&mut self, name: &str) {
-        let Case { file, possible, words, out, sets, levels, text } = self;
+        let Case { file, possible, weights, words, out, sets, levels, text } = self;
         let all = u64::MAX >> (64 - file[7]);
+        let states = all.count_ones() as u16;
         for (p, set) in (0..file[5]).flat_map(|p| [1, all, all / 3, all & 0x1234_5678_9ABC_DEF1].map(|set| (p, set))) {
             let goal = 1 << p;
             let answer = match name {
@@ -116,6 +121,10 @@ impl Case {
                 "rest" => mogzift::rest(file, DEPTH, words).map(drop),
                 "level" => mogzift::level(file, DEPTH, set, goal, words).map(drop),
                 "level_within" => mogzift::level_within(file, DEPTH, set, goal, out, words).map(drop),
+                "level_share" => {
+                    let share = set.count_ones() as u16;
+                    mogzift::level_share(file, DEPTH, goal, weights, share, states, words).map(drop)
+                }
                 "page" => mogzift::page(file, DEPTH, set, &[goal, goal | 1, u32::MAX], words, levels).map(drop),
                 "extract" => mogzift::extract(file, DEPTH, set, words, out).map(drop),
                 "run" => mogzift::run(file, set, &[p % file[6]], sets).map(drop),

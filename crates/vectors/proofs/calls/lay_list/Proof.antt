@@ -1,16 +1,16 @@
--- `calls::lay_sets` ends: the index stays within the sets, which keep their length.
+-- `calls::lay_list` ends: the index stays within the longest list, and what is lent keeps its length.
 use Prim.Native.Nat.{_-_, _≤_}
 use mathlib.Core.Path.{_≡_}
 use lib.ListN.{length}
 use borrow.Author.Needs.{needs}
-use Rattle.vectors.proofs.calls.lay_sets.Statement.{statement}
-use Rattle.vectors.proofs.calls.lay_sets.Tie as tie
+use Rattle.vectors.proofs.calls.lay_list.Statement.{statement}
+use Rattle.vectors.proofs.calls.lay_list.Tie as tie
 
 abbrev Inv-loop : tie.InvT-loop
-Inv-loop list sets₀ i₀ i-end sets i = (i ≤ length sets₀) × (length sets ≡ length sets₀)
+Inv-loop list sets₀ weights₀ i₀ sets weights i = (i ≤ 64) × (length sets ≡ length sets₀) × (length weights ≡ length weights₀)
 
 abbrev μ-loop : tie.MeasureT-loop
-μ-loop list sets₀ i₀ i-end sets i = length sets₀ - i
+μ-loop list sets₀ weights₀ i₀ sets weights i = 64 - i
 
 loop-holds : tie.Need-loop-holds Inv-loop μ-loop
 loop-holds c = search needs
@@ -21,14 +21,8 @@ add-entry c = search needs
 entry-requires : tie.Need-entry-requires Inv-loop μ-loop
 entry-requires c κs = search needs
 
-low-u32-requires : tie.Need-low-u32-requires Inv-loop μ-loop
-low-u32-requires c κs = search needs
-
-mul-sets : tie.Need-mul-sets Inv-loop μ-loop
-mul-sets c = search needs
-
-slice-write-sets : tie.Need-slice-write-sets Inv-loop μ-loop
-slice-write-sets c = search needs
+put-cut-requires : tie.Need-put-cut-requires Inv-loop μ-loop
+put-cut-requires c κs = search needs
 
 add-i : tie.Need-add-i Inv-loop μ-loop
 add-i c = search needs
@@ -42,11 +36,14 @@ loop-again c = search needs
 same-length : tie.Need-same-length Inv-loop μ-loop
 same-length c = search needs
 
+same-length-2 : tie.Need-same-length-2 Inv-loop μ-loop
+same-length-2 c = search needs
+
 returns : tie.Need-returns Inv-loop μ-loop
 returns c = search needs
 
-pub lay-sets-spec : {M : Type 1} → statement M
-lay-sets-spec =
+pub lay-list-spec : {M : Type 1} → statement M
+lay-list-spec =
     tie.close
     (tie.spec
     Inv-loop
@@ -54,11 +51,10 @@ lay-sets-spec =
     loop-holds
     add-entry
     entry-requires
-    low-u32-requires
-    mul-sets
-    slice-write-sets
+    put-cut-requires
     add-i
     loop-less
     loop-again
     same-length
+    same-length-2
     returns)
