@@ -1,13 +1,11 @@
--- What the two searches answer, and what is known once causes 6 to 9 are passed.
+-- What the search for the rest answers, and what is known once causes 6 to 9 are passed.
 -- Assumes nothing.
 use mathlib.Core.Path.{_≡_, sym, ap, subst, _∙_}
-use mathlib.Core.Bool.{Bool, true, false}
 use mathlib.Core.List.{List}
 use Prim.Native.Nat.{ℕ, suc, _≤_, _<_}
-use native.Mathlib.Omega.{arith}
 use lib.ListN.{length}
-use Rattle.rules.specs.Test.{below, choose}
-use Rattle.rules.specs.Level.{firstMet, firstRest, level, never, notByDepth, levelBy, restsAt, none, restOf}
+use Rattle.rules.specs.Test.{choose}
+use Rattle.rules.specs.Level.{firstMet, firstRest, restsAt, none, restOf}
 use Rattle.rules.specs.declared.Shape.{Shape}
 use Rattle.rules.proofs.Tests.{below-of, below-not}
 use Rattle.rules.proofs.Firsts.{first-le}
@@ -22,20 +20,6 @@ use Rattle.graph.proofs.Ladder.{graph-means, small-of}
 pub met-le : (S : Shape) (k set : ℕ) (words : List ℕ) (goal : ℕ) → firstMet S k set goal words ≤ suc k
 unfolding firstMet
 met-le S k set words goal = first-le _ _
-
-module _ (S : Shape) (k : ℕ) (words : List ℕ) (t : ℕ) where
-  pub level-at : t ≤ k → level t ≡ levelBy S k words t
-  unfolding levelBy choose
-  level-at h = simp (below-of {i = t} {j = suc k} (omega arith))
-
-  module _ (above : k < t) where
-    pub level-never : below (firstRest S k words) k ≡ true → never ≡ levelBy S k words t
-    unfolding levelBy choose
-    level-never h = simp (h, below-not {i = t} {j = suc k} (omega arith))
-
-    pub level-not-by-depth : below (firstRest S k words) k ≡ false → notByDepth ≡ levelBy S k words t
-    unfolding levelBy choose
-    level-not-by-depth h = simp (h, below-not {i = t} {j = suc k} (omega arith))
 
 module _ (S : Shape) (k : ℕ) (words : List ℕ) (t : ℕ) (rest : t ≡ firstRest S k words) where
   pub rest-at : t < k → accepted (restsAt t) ≡ accepted (restOf S k words)

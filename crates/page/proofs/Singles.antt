@@ -11,7 +11,9 @@ use lib.ListN.{length, getD}
 use Rattle.rules.specs.Test.{below, choose}
 use Rattle.rules.specs.Level.{Level, never, notByDepth, firstMet, firstRest, levelBy, levelOf}
 use Rattle.rules.specs.Lists.{listOver}
+use Rattle.rules.proofs.Tests.{is-fails, below-at, below-fails}
 use Rattle.rules.proofs.Layers.{length-listOver, listOver-eq}
+use Rattle.rules.proofs.Levels.{level-by, never-by, not-by}
 use Rattle.graph.specs.Verdict.{Verdict, accepted, refused, andThen}
 use Rattle.graph.specs.Format.{shapeIn}
 use Rattle.graph.specs.File.{fileRule}
@@ -21,7 +23,7 @@ use Rattle.graph.proofs.Ladder.{output-means, asked-of, graph-means, graph-of}
 use Rattle.graph.proofs.Links.{deep-enough, wide-goal, fit-goal}
 use Rattle.graph.proofs.Verdicts.{then-refused, then-accepted, passed-then, accepted-is}
 use Rattle.level.specs.Rule.{levelTaken, levelRule}
-use Rattle.level.proofs.Answers.{level-at, level-never, level-not-by-depth, met-le}
+use Rattle.level.proofs.Answers.{met-le}
 use Rattle.page.specs.Rule.{neverEntry, notByDepthEntry, entryOf, entries, pageTaken, pageRule}
 use Rattle.page.specs.Memo.{unmetEntry, entryBy, entryIn}
 use Rattle.page.proofs.Entries.{layer-wide, layer-fit, entry-unmet, entry-met}
@@ -58,14 +60,14 @@ module _ (c : Counts) (depth set : ℕ) (words : List ℕ) (passed : Passed c de
     where
       go : (b : Bool) → below (firstRest (shapeIn c) depth words) depth ≡ b
           → choose b neverEntry notByDepthEntry ≡ entryOf (accepted (levelBy (shapeIn c) depth words (firstMet (shapeIn c) depth set goal words)))
-      go true e = ap (λ (l : Level). entryOf (accepted l)) (level-never (shapeIn c) depth words _ h e)
-      go false e = ap (λ (l : Level). entryOf (accepted l)) (level-not-by-depth (shapeIn c) depth words _ h e)
+      go true e = ap (λ (l : Level). entryOf (accepted l)) (sym (never-by (shapeIn c) depth words _ h (below-at e)))
+      go false e = ap (λ (l : Level). entryOf (accepted l)) (sym (not-by (shapeIn c) depth words _ h (below-fails (is-fails e))))
 
   fit-single : goal < 2 ^ c .props → entryBy depth (firstMet (shapeIn c) depth set goal words) (unmetEntry (shapeIn c) depth words)
       ≡ entryOf (accepted (levelOf (shapeIn c) depth set goal words))
   unfolding levelOf
   fit-single h = by-cases (decLe (firstMet (shapeIn c) depth set goal words) depth)
-      (λ l. sym (entry-met depth _ _ (λ e. omega arith)) ∙ ap (λ (l : Level). entryOf (accepted l)) (level-at (shapeIn c) depth words _ l))
+      (λ l. sym (entry-met depth _ _ (λ e. omega arith)) ∙ ap (λ (l : Level). entryOf (accepted l)) (sym (level-by (shapeIn c) depth words _ l)))
       (λ l. sym (entry-unmet depth _ _ (omega (arith, met-le (shapeIn c) depth set words goal))) ∙ unmet-single (omega arith))
 
   -- the entry that is made is that of what the single call gives

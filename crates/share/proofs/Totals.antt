@@ -17,7 +17,7 @@ use Rattle.rules.specs.Over.{keep, allBelow, sumOver}
 use Rattle.rules.specs.Share.{Share, shareOf, total, weightOf}
 use Rattle.rules.proofs.Tests.{and-of, and-left, and-right, and-true, holds-or, test-eq, fails-of, fails-at, same-of, same-at, same-not, below-of, below-at, below-not, or-left}
 use Rattle.rules.proofs.Words.{bit-without, bit-single, no-bit-zero, within-of, within-at, without-lt}
-use Rattle.rules.proofs.Overs.{keep-held, keep-failed}
+use Rattle.rules.proofs.Overs.{keep-held, keep-failed, keep-le, sum-most}
 use Rattle.rules.proofs.Scans.{sum-eq, sum-add}
 use Rattle.rules.proofs.Shares.{weight-le, total-fits, total-zero}
 use Rattle.words.specs.Width.{wordWidth, stateWidth}
@@ -93,12 +93,8 @@ module _ (weights : List ℕ) where
       gone u = fails-at (and-right _ (sym (bit-without q set (single q)) ∙ u)) (bit-single q q ∙ same-of refl)
 
   pub weight-none : weightOf weights 0 ≡ 0
-  unfolding weightOf sumOver
-  weight-none = sum-eq (length weights) _ (λ s. 0) (λ s l. keep-failed (bit s 0) (getD weights s 0) (fails-of (no-bit-zero s))) ∙ sum-none (length weights)
-    where
-      sum-none : (n : ℕ) → sumOver n (λ s. 0) ≡ 0
-      sum-none zero = refl
-      sum-none (suc n) = omega (arith, sum-none n)
+  unfolding weightOf
+  weight-none = omega (arith, sum-most (length weights) {f = λ s. keep (bit s 0) (getD weights s 0)} {m = 0} (λ s l. keep-le (λ t. absurd (no-bit-zero s t))))
 
   -- some states of a set and its others
   pub weight-parts : (known set : ℕ) → So (within known set) → weightOf weights known + weightOf weights (without set known) ≡ weightOf weights set

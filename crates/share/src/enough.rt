@@ -1,4 +1,5 @@
-// The states that hold a goal in a layer, as one word, and the first layer where their weight is enough.
+// The states that hold a goal in a layer, as one word, and the first layer where their weight is enough. Some states are known to be too few (`short`):
+// once all that are left are among these, it is not looked any further.
 use crate::weights::weight_by;
 use graph::layout::layer_size;
 use graph::layout::layer_start;
@@ -24,7 +25,7 @@ ghost use Rattle.level.specs.Meets.{Above};
 ghost use Rattle.level.specs.Rule.{levelSaid};
 ghost use Rattle.share.specs.Sums.{Weighed, Looked};
 
-// Of these states those that have each goal. None is looked for any more once all that are left fall short.
+// Of these states those that have each goal.
 fn with_labels(layer: &[u64], n: usize, all: States, goal: Props, short: States) -> States
     requires { ⌜ (n ≤ propWidth) × (n ≤ length (now layer)) × (goal .0 < 2 ^ n) ⌝ }
     ensures { λ r. ⌜ Looked (needsLabel n (all .0) (now (layer .entry)) (goal .0)) (short .0) (r .0) ⌝ }
@@ -42,7 +43,7 @@ fn with_labels(layer: &[u64], n: usize, all: States, goal: Props, short: States)
     held
 }
 
-// Of these states those for which p is mutex with none of these above it, as far.
+// Of these states those for which p is mutex with none of the goals above it.
 fn free_of(layer: &[u64], n: usize, p: usize, above: u64, states: States, short: States) -> States
     requires { ⌜ (n ≤ propWidth) × (size n ≤ length (now layer)) × (above < 2 ^ n) × Above p above ⌝ }
     ensures { λ r. ⌜ Looked (without (states .0) (joinOf n above (mutexIn n (now (layer .entry)) p))) (short .0) (r .0) ⌝ }
@@ -61,7 +62,7 @@ fn free_of(layer: &[u64], n: usize, p: usize, above: u64, states: States, short:
     free
 }
 
-// Of these states those for which no two goals are mutex, as far. Each goal goes with those above it.
+// Of these states those for which no two goals are mutex. Each goal goes with those above it.
 fn free_in(layer: &[u64], n: usize, goal: Props, states: States, short: States) -> States
     requires { ⌜ (n ≤ propWidth) × (length (now layer) ≡ size n) × (goal .0 < 2 ^ n) ⌝ }
     ensures { λ r. ⌜ Looked (without (states .0) (needsApart n (now (layer .entry)) (goal .0))) (short .0) (r .0) ⌝ }
@@ -79,7 +80,7 @@ fn free_in(layer: &[u64], n: usize, goal: Props, states: States, short: States) 
     free
 }
 
-// Of these states those that hold the goal in a layer, as far.
+// Of these states those that hold the goal in a layer.
 fn holders(layer: &[u64], n: usize, all: States, goal: Props, short: States) -> States
     requires { ⌜ (n ≤ propWidth) × (length (now layer) ≡ size n) × (goal .0 < 2 ^ n) ⌝ }
     ensures { λ r. ⌜ Looked (S.holders n (all .0) (now (layer .entry)) (goal .0)) (short .0) (r .0) ⌝ }
@@ -101,8 +102,7 @@ fn holders_at(words: &[u64], s: Shape, t: usize, all: States, goal: Props, short
     holders(&words[at..end], s.props, all, goal, short)
 }
 
-// The first layer from 0 to depth where the weight is enough, and depth + 1 where it is in none: for a share of nothing it is at once. States
-// among those that fell short are not weighed again.
+// The first layer from 0 to depth where the weight is enough, and depth + 1 where it is in none. For a share of nothing it is at once.
 fn first_enough(
     words: &[u64],
     s: Shape,

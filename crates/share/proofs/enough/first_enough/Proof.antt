@@ -60,16 +60,40 @@ few c =
     let a = c .before .before .before .before .before .before .before .before .before .args in
     subst (λ (x : ℕ). x < 2 ^ length (a .weights .now)) (sym (held c)) (holders-few (a .s .props) (length (a .weights .now)) _ (a .goal .0))
 
-mul-wanted : tie.Need-mul-wanted Inv-loop μ-loop
-mul-wanted c =
-    let s = c .before .before in
-    omega (arith, mul-le-mul (s .pre .2 .small) (small (s .args .numerator) (search needs)))
-
 returns : tie.Need-returns Inv-loop μ-loop
 returns c =
     let s = c .before .before .before in
     at-once (s .args .s) (s .args .depth) (S.shareOf (s .args .weights .now) (s .args .numerator) (s .args .denominator)) (s .args .goal .0) (s .args .words .now)
     (ap (λ (x : ℕ). x * s .args .numerator) (sym (s .pre .2 .is)) ∙ c .if1 .taken)
+
+returns-2 : tie.Need-returns-2 Inv-loop μ-loop
+returns-2 c =
+    let at = c .before .before in
+    let s = at .before .before .before .before .before .before .before .before .before in
+    seeking-found _ _ _ _ _ (at .before .before .before .before .loop .inv) (omega arith) (held at) (c .before .weight-by .ensures .0)
+    (omega (arith, c .if3 .taken, ap (λ (x : ℕ). x * s .args .numerator) (s .pre .2 .is)))
+
+loop-again : tie.Need-loop-again Inv-loop μ-loop
+loop-again c =
+    let at = c .before .before in
+    let l = at .before .before in
+    let s = l .before .before .before .before .before in
+    ⊎-elim
+    (λ (i, w, j, e, h).
+    subst (λ (x : States). Seeks s (x .0) (c .if2 .have) (l .loop .t + 1)) (sym e)
+    (subst (λ (x : ℕ). Seeks s (at .holders-at .result .0) x (l .loop .t + 1)) (sym h)
+    (seeking-more _ _ _ _ _ (l .loop .inv) (omega arith) (held (record { before = c .before; if2 = i })) (w .ensures .0)
+    (omega (arith, j .left, ap (λ (x : ℕ). x * s .args .numerator) (s .pre .2 .is))))))
+    (λ (i, e, h).
+    subst (λ (x : States). Seeks s (x .0) (c .if2 .have) (l .loop .t + 1)) (sym e)
+    (subst (λ (x : ℕ). Seeks s (l .loop .short .0) x (l .loop .t + 1)) (sym h)
+    (seeking-on _ _ _ _ _ (l .loop .inv) (omega arith) (looked at .inside (sym (c .before .within .ensures) ∙ not-false _ (i .left))))))
+    (c .if2 .came)
+
+mul-wanted : tie.Need-mul-wanted Inv-loop μ-loop
+mul-wanted c =
+    let s = c .before .before in
+    omega (arith, mul-le-mul (s .pre .2 .small) (small (s .args .numerator) (search needs)))
 
 first-requires : tie.Need-first-requires Inv-loop μ-loop
 first-requires c κs = c .before .before .before .pre .2 .few
@@ -100,35 +124,11 @@ mul-if3 c =
     let s = c .before .before .before .before .before .before .before .before .before .before in
     omega (arith, mul-le-mul (c .weight-by .ensures .1) (small (s .args .denominator) (search needs)))
 
-returns-2 : tie.Need-returns-2 Inv-loop μ-loop
-returns-2 c =
-    let at = c .before .before in
-    let s = at .before .before .before .before .before .before .before .before .before in
-    seeking-found _ _ _ _ _ (at .before .before .before .before .loop .inv) (omega arith) (held at) (c .before .weight-by .ensures .0)
-    (omega (arith, c .if3 .taken, ap (λ (x : ℕ). x * s .args .numerator) (s .pre .2 .is)))
-
 add-t : tie.Need-add-t Inv-loop μ-loop
 add-t c = omega (arith, c .before .before .before .before .before .before .before .before .before .pre .0 .deep)
 
 loop-less : tie.Need-loop-less Inv-loop μ-loop
 loop-less c = omega arith
-
-loop-again : tie.Need-loop-again Inv-loop μ-loop
-loop-again c =
-    let at = c .before .before in
-    let l = at .before .before in
-    let s = l .before .before .before .before .before in
-    ⊎-elim
-    (λ (i, w, j, e, h).
-    subst (λ (x : States). Seeks s (x .0) (c .if2 .have) (l .loop .t + 1)) (sym e)
-    (subst (λ (x : ℕ). Seeks s (at .holders-at .result .0) x (l .loop .t + 1)) (sym h)
-    (seeking-more _ _ _ _ _ (l .loop .inv) (omega arith) (held (record { before = c .before; if2 = i })) (w .ensures .0)
-    (omega (arith, j .left, ap (λ (x : ℕ). x * s .args .numerator) (s .pre .2 .is))))))
-    (λ (i, e, h).
-    subst (λ (x : States). Seeks s (x .0) (c .if2 .have) (l .loop .t + 1)) (sym e)
-    (subst (λ (x : ℕ). Seeks s (l .loop .short .0) x (l .loop .t + 1)) (sym h)
-    (seeking-on _ _ _ _ _ (l .loop .inv) (omega arith) (looked at .inside (sym (c .before .within .ensures) ∙ not-false _ (i .left))))))
-    (c .if2 .came)
 
 returns-3 : tie.Need-returns-3 Inv-loop μ-loop
 returns-3 c = seeking-end _ _ _ _ _ (c .before .loop .inv) (omega arith)

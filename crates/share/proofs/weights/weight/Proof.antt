@@ -18,6 +18,11 @@ abbrev μ-loop : tie.MeasureT-loop
 small : (c : tie.After-shared-slice-known Inv-loop μ-loop) → S.total (c .before .args .weights .now) ≤ maxTotal
 small c = total-small _ (c .before .pre .0) (λ s. omega (arith, c .shared-slice-known .given s))
 
+loop-again : tie.Need-loop-again Inv-loop μ-loop
+loop-again c =
+    let l = c .before .before .before .before in
+    weighing-more (l .loop .inv) (l .before .before .pre .0) (search needs) (c .before .before .lowest .ensures) (c .others .ensures .0)
+
 loop-holds : tie.Need-loop-holds Inv-loop μ-loop
 loop-holds c = weighing-none _ (c .before .pre .1)
 
@@ -47,11 +52,6 @@ others-requires c κs = search needs
 
 loop-less : tie.Need-loop-less Inv-loop μ-loop
 loop-less c = c .others .ensures .1
-
-loop-again : tie.Need-loop-again Inv-loop μ-loop
-loop-again c =
-    let l = c .before .before .before .before in
-    weighing-more (l .loop .inv) (l .before .before .pre .0) (search needs) (c .before .before .lowest .ensures) (c .others .ensures .0)
 
 returns : tie.Need-returns Inv-loop μ-loop
 returns c =
