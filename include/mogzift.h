@@ -47,8 +47,7 @@
  *   mogzift_levels_text    109 KiB (64 KiB of graph words, and a build)
  *   mogzift_build, _build_within
  *                          44 KiB
- *   mogzift_page, _plan    under 5 KiB
- *   mogzift_run            under 4 KiB
+ *   mogzift_page, _plan    under 4 KiB
  *   each other call        under 3 KiB
  * These are measured and not proved; `cargo run --release --offline --bin stack` in rust/ measures them again. To them comes
  * what a thread needs for itself, and, in a program that looks memset up at its first use, up to 4 KiB for that: such a

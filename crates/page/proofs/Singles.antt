@@ -9,7 +9,7 @@ use native.Mathlib.Decide.{decLe}
 use native.Mathlib.Omega.{arith}
 use lib.ListN.{length, getD}
 use Rattle.rules.specs.Test.{below, choose}
-use Rattle.rules.specs.Level.{Level, never, notByDepth, firstMet, firstRest, levelBy, levelOf}
+use Rattle.rules.specs.Level.{Level, firstMet, firstRest, levelBy, levelOf}
 use Rattle.rules.specs.Lists.{listOver}
 use Rattle.rules.proofs.Tests.{is-fails, below-at, below-fails}
 use Rattle.rules.proofs.Layers.{length-listOver, listOver-eq}

@@ -10,12 +10,12 @@ use native.Mathlib.Omega.{arith}
 use lib.Count.{trailingZeros}
 use lib.Pow.{pow-mono}
 use Rattle.rules.specs.Test.{fails, same}
-use Rattle.rules.specs.Word.{bit, common, union, without, single, within}
+use Rattle.rules.specs.Word.{bit, union, without, single, within}
 use Rattle.rules.specs.Over.{joinOf, meetOf}
 use Rattle.rules.specs.Layer.{labelIn, mutexIn}
 use Rattle.rules.specs.Shared.{needsLabel, needsApart, vertexLabel}
 use Rattle.rules.specs.Share.{holders}
-use Rattle.rules.proofs.Tests.{and-of, and-left, and-right, or-left, or-right, or-at, fails-of, fails-at, holds-or, same-of, same-at, test-eq}
+use Rattle.rules.proofs.Tests.{and-of, and-left, and-right, or-left, or-right, or-at, fails-of, fails-at, holds-or, same-at, test-eq}
 use Rattle.rules.proofs.Words.{bit-common, bit-union, bit-without, bit-single, ext-all, width, within-of, within-at, without-lt}
 use Rattle.rules.proofs.Members.{bit-joinOf, join-empty, join-pick, rows-at, rows-of, mutex-turn, mutex-self, needs-own}
 use Rattle.rules.proofs.Overs.{any-of, any-at}
@@ -50,7 +50,8 @@ less-in a b s t = and-left _ (sym (bit-without s a b) ∙ t)
 
 -- ---- labels: what all goals have in common
 
-pub labels-in : {n all goal left held : ℕ} (l : List ℕ) → Shares (labelIn l) all n goal left held → (s : ℕ) → So (bit s (needsLabel n all l goal)) → So (bit s held)
+pub labels-in : {n all goal left held : ℕ} (l : List ℕ) → Shares (labelIn l) all n goal left held → (s : ℕ)
+    → So (bit s (needsLabel n all l goal)) → So (bit s held)
 unfolding needsLabel meetOf
 labels-in {n} {all} {goal} {left} {held} l m s t = and-left _ (sym (bit-common s held (meetOf n left (labelIn l) all)) ∙ (ap (bit s) (m .is) ∙ t))
 

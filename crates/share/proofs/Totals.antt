@@ -1,6 +1,6 @@
 -- Weights summed one after the other, and cause 18 by their total.
 -- Assumes nothing.
-use mathlib.Core.Path.{_≡_, refl, sym, ap, ap₂, subst, _∙_}
+use mathlib.Core.Path.{_≡_, refl, sym, ap, subst, _∙_}
 use mathlib.Core.Bool.{Bool, true, false, So}
 use mathlib.Core.Logic.{⊎-elim, by-cases}
 use mathlib.Core.List.{List}
@@ -13,10 +13,11 @@ use lib.Count.{trailingZeros}
 use lib.ListN.{length, getD}
 use Rattle.rules.specs.Test.{_and_, _or_, fails, same, below, choose}
 use Rattle.rules.specs.Word.{bit, without, single, within}
-use Rattle.rules.specs.Over.{keep, allBelow, sumOver}
+use Rattle.rules.specs.Over.{keep, sumOver}
 use Rattle.rules.specs.Share.{Share, shareOf, total, weightOf}
-use Rattle.rules.proofs.Tests.{and-of, and-left, and-right, and-true, holds-or, test-eq, fails-of, fails-at, same-of, same-at, same-not, below-of, below-at, below-not, or-left}
-use Rattle.rules.proofs.Words.{bit-without, bit-single, no-bit-zero, within-of, within-at, without-lt}
+use Rattle.rules.proofs.Tests.{and-of, and-left, and-right, and-true, holds-or, test-eq, fails-of, fails-at, same-of}
+use Rattle.rules.proofs.Tests.{same-at, same-not, below-of, below-at, below-not, or-left}
+use Rattle.rules.proofs.Words.{bit-without, bit-single, no-bit-zero, within-at, without-lt}
 use Rattle.rules.proofs.Overs.{keep-held, keep-failed, keep-le, sum-most}
 use Rattle.rules.proofs.Scans.{sum-eq, sum-add}
 use Rattle.rules.proofs.Shares.{weight-le, total-fits, total-zero}
@@ -59,7 +60,8 @@ added-more {weights} {s} {sum} a h small = record {
   small = omega (arith, a .small);
 }
 
-pub added-all : {weights : List ℕ} {s sum : ℕ} → Added weights s sum → length weights ≤ s → length weights ≤ stateWidth → (sum ≡ total weights) × (sum ≤ maxTotal)
+pub added-all : {weights : List ℕ} {s sum : ℕ} → Added weights s sum → length weights ≤ s → length weights ≤ stateWidth
+    → (sum ≡ total weights) × (sum ≤ maxTotal)
 unfolding total
 added-all {weights} {s} {sum} a h few =
     let e : s ≡ length weights = omega (arith, a .within) in

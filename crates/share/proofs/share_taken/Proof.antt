@@ -23,7 +23,8 @@ wanted c =
     c .check-wanted .ensures ∙ wanted-is (a .c) (a .goal .0) (a .weights .now) (a .numerator) (a .denominator) (c .before .total-for .ensures .0)
 
 -- and so is what was found of all causes
-found : (c : tie.After-check-graph) → let a = c .before .before .before .before .before .args in (v : Verdict (Unit {0})) → checkVerdict (c .check-graph .result) ≡ v
+found : (c : tie.After-check-graph) → let a = c .before .before .before .before .before .args in
+    (v : Verdict (Unit {0})) → checkVerdict (c .check-graph .result) ≡ v
     → graphRule (a .c) (a .depth) (wantedRule (a .c) (a .goal .0) (shareOf (a .weights .now) (a .numerator) (a .denominator))) (length (a .words .now)) ≡ v
 found c v e = graph-asked _ _ _ (wanted (c .before)) (sym (c .check-graph .ensures) ∙ e)
 
@@ -66,7 +67,8 @@ returns-2 c =
     let at = c .before .before .before .before in
     let a = at .before .before .before .before .before .args in
     ap accepted (c .share-over .ensures
-    ∙ ap (λ (s : Shape). shareLevel s (a .depth) (shareOf (a .weights .now) (a .numerator) (a .denominator)) (a .goal .0) (a .words .now)) (c .before .shape .ensures))
+    ∙ ap (λ (s : Shape). shareLevel s (a .depth) (shareOf (a .weights .now) (a .numerator) (a .denominator)) (a .goal .0) (a .words .now))
+    (c .before .shape .ensures))
     ∙ sym (then-accepted _ _ _ (found at _ (ap checkVerdict (c .before .before .enum-told .given .1))))
 
 pub share-taken-spec : {M : Type 1} → statement M

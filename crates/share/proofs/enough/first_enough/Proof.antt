@@ -1,6 +1,5 @@
 -- The loop goes from layer to layer, and is left at the first where the weight is enough.
 use mathlib.Core.Path.{_≡_, sym, ap, subst, _∙_}
-use mathlib.Core.Bool.{So}
 use mathlib.Core.Logic.{⊎-elim}
 use Prim.Native.Nat.{ℕ, suc, _+_, _-_, _*_, _^_, _≤_, _<_}
 use mir.Syntax.{w16}
@@ -46,7 +45,8 @@ looked : (c : tie.After-holders-at Inv-loop μ-loop) → let l = c .before .befo
 looked c =
     let l = c .before .before in
     let a = l .before .before .before .before .before .args in
-    subst (λ (all : ℕ). Looked (S.holders (a .s .props) all (propsIn (a .s) (a .words .now) (l .loop .t)) (a .goal .0)) (l .loop .short .0) (c .holders-at .result .0))
+    let layer = propsIn (a .s) (a .words .now) (l .loop .t) in
+    subst (λ (all : ℕ). Looked (S.holders (a .s .props) all layer (a .goal .0)) (l .loop .short .0) (c .holders-at .result .0))
     (l .before .first .ensures) (c .holders-at .ensures)
 
 held : (c : tie.Then2 Inv-loop μ-loop) → let l = c .before .before .before .before in
@@ -63,7 +63,8 @@ few c =
 returns : tie.Need-returns Inv-loop μ-loop
 returns c =
     let s = c .before .before .before in
-    at-once (s .args .s) (s .args .depth) (S.shareOf (s .args .weights .now) (s .args .numerator) (s .args .denominator)) (s .args .goal .0) (s .args .words .now)
+    let a = s .args in
+    at-once (a .s) (a .depth) (S.shareOf (a .weights .now) (a .numerator) (a .denominator)) (a .goal .0) (a .words .now)
     (ap (λ (x : ℕ). x * s .args .numerator) (sym (s .pre .2 .is)) ∙ c .if1 .taken)
 
 returns-2 : tie.Need-returns-2 Inv-loop μ-loop

@@ -78,7 +78,8 @@ loop-again : tie.Need-loop-again Inv-loop μ-loop
 loop-again c =
     let at = c .before .before .before in
     let s = at .before .before .before .before .before .before .before in
-    subst (λ (x : ℕ). Less (mutexIn (s .args .n) (s .args .layer .now) (s .args .p)) (s .args .n) (s .args .above) (s .args .states .0) x (at .without .result .0))
+    let a = s .args in
+    subst (λ (x : ℕ). Less (mutexIn (a .n) (a .layer .now) (a .p)) (a .n) (a .above) (a .states .0) x (at .without .result .0))
     (sym (c .others .ensures .0)) (more at)
 
 returns-2 : tie.Need-returns-2 Inv-loop μ-loop

@@ -39,13 +39,18 @@ part-holders-end : tie.Need-part-holders-end
 part-holders-end c = omega (arith, fits c)
 
 holders-requires : tie.Need-holders-requires
-holders-requires c κs =
-    (search needs, layer-length (c .before .before .before .before .args .words .now) _ _ (omega (arith, fits (c .before))) ∙ c .before .layer-size .ensures .0, search needs)
+holders-requires c κs = (
+  search needs,
+  layer-length (c .before .before .before .before .args .words .now) _ _ (omega (arith, fits (c .before))) ∙ c .before .layer-size .ensures .0,
+  search needs,
+)
 
 returns : tie.Need-returns
 returns c =
     let a = c .before .before .before .before .before .args in
-    let part = layer-part (a .s) (a .t) _ _ (a .words .now) (c .before .before .before .layer-start .ensures .0) (ap (λ x. c .before .before .before .layer-start .result + x) (c .before .before .layer-size .ensures .0)) in
+    let start = c .before .before .before in
+    let part = layer-part (a .s) (a .t) _ _ (a .words .now) (start .layer-start .ensures .0)
+    (ap (λ x. start .layer-start .result + x) (c .before .before .layer-size .ensures .0)) in
     subst (λ (l : List _). Looked (S.holders (a .s .props) (a .all .0) l (a .goal .0)) (a .short .0) (c .holders .result .0)) part (c .holders .ensures)
 
 pub holders-at-spec : {M : Type 1} → statement M

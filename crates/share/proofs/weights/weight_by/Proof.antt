@@ -23,7 +23,8 @@ known c =
     let s = c .before .before .before in
     ⊎-elim
     (λ (i, e, h). (
-      subst (λ (x : ℕ). So (within x (s .args .set .0))) (sym (ap (λ x. x .0) e)) (within-of {n = 0} (s .args .set .0) (pow-pos 0) (λ i l t. absurd (no-bit-zero i t))),
+      subst (λ (x : ℕ). So (within x (s .args .set .0))) (sym (ap (λ x. x .0) e))
+          (within-of {n = 0} (s .args .set .0) (pow-pos 0) (λ i l t. absurd (no-bit-zero i t))),
       h ∙ sym (weight-none (s .args .weights .now)) ∙ ap (S.weightOf (s .args .weights .now)) (sym (ap (λ x. x .0) e)),
     ))
     (λ (i, e, h). (
@@ -41,7 +42,11 @@ sum c =
     let a = k .before .args in (
       ap₂ _+_ (known at .1) (c .before .weight .ensures .0 ∙ ap (S.weightOf (a .weights .now)) (c .before .before .without .ensures))
           ∙ weight-parts (a .weights .now) (at .if1 .known .0) (a .set .0) (known at .0),
-      omega (arith, weight-le (a .weights .now) (a .set .0), total-small (a .weights .now) (k .before .pre .0) (λ s. omega (arith, k .shared-slice-known .given s))),
+      omega (
+        arith,
+        weight-le (a .weights .now) (a .set .0),
+        total-small (a .weights .now) (k .before .pre .0) (λ s. omega (arith, k .shared-slice-known .given s)),
+      ),
     )
 
 within-requires : tie.Need-within-requires
@@ -53,7 +58,8 @@ without-requires c κs = search needs
 weight-requires : tie.Need-weight-requires
 weight-requires c κs =
     let s = c .before .before .before .before in
-    (s .pre .0, subst (λ (x : ℕ). x < 2 ^ length (s .args .weights .now)) (sym (c .without .ensures)) (without-lt (length (s .args .weights .now)) _ (s .pre .1)))
+    let n = length (s .args .weights .now) in
+    (s .pre .0, subst (λ (x : ℕ). x < 2 ^ n) (sym (c .without .ensures)) (without-lt n _ (s .pre .1)))
 
 add-result : tie.Need-add-result
 add-result c = omega (arith, sum c)
