@@ -167,7 +167,29 @@ module _ (A : Actions) where
   }
 
   pub chained-none : Chained A 0 (replicate maxActions 0)
-  chained-none = record { room = refl; each = λ a l. absurd (omega arith) }
+  chained-none = record { room = refl; each = λ a l. absurd (omega arith); rest = λ a l k. getD-replicate maxActions a 0 0 k }
+
+-- the next action leads to the last one before it with its mark; where there is none, nothing is put down
+module _ {A : Actions} {a : ℕ} {befores : List ℕ} (s : Chained A a befores) {last : ℕ} (is : Last A a (markOf A a) last) where
+  pub chained-put : a < maxActions → Chained A (a + 1) (set befores a last)
+  chained-put h = record {
+    room = length-set befores a last ∙ s .room;
+    each = below-more _ _
+        (λ b l. subst (Last A b (markOf A b)) (sym (getD-set-other befores a b last 0 (λ q. omega arith))) (s .each b l))
+        (subst (Last A a (markOf A a)) (sym (getD-set-same befores a last 0 (omega (arith, s .room)))) is);
+    rest = λ b l k. getD-set-other befores a b last 0 (λ q. omega arith) ∙ s .rest b (omega arith) k;
+  }
+
+  pub chained-stays : a < maxActions → last ≡ 0 → Chained A (a + 1) befores
+  chained-stays h e = record {
+    room = s .room;
+    each = below-more _ _ (s .each) (subst (Last A a (markOf A a)) (e ∙ sym (s .rest a (omega arith) h)) is);
+    rest = λ b l k. s .rest b (omega arith) k;
+  }
+
+-- and with none before it that has its mark it equals no earlier one
+pub none-equals : {A : Actions} {a last : ℕ} → Last A a (markOf A a) last → last ≡ 0 → equalsEarlier A a ≡ false
+none-equals s e = sym (walked-done (walked-none s) (omega (arith, e)))
 
 -- the first a of n actions are marked, and none of them equals an earlier one
 pub record Marking (A : Actions) (n a : ℕ) (lasts befores : List ℕ) : Type 0 where
@@ -183,9 +205,9 @@ module _ {A : Actions} {n : ℕ} {lasts befores : List ℕ} where
   pub marking-last : {a m : ℕ} → Marking A n a lasts befores → m ≡ markOf A a → m < marks → Last A a (markOf A a) (getD lasts m 0)
   marking-last {a} {m} s is fits = subst (λ (x : ℕ). Last A a x (getD lasts m 0)) is (s .marked .each m fits)
 
-  pub marking-more : {a m k : ℕ} → Marking A n a lasts befores → a < n → n ≤ maxActions → m ≡ markOf A a → m < marks → k ≡ a + 1
-      → equalsEarlier A a ≡ false → Marking A n (a + 1) (set lasts m k) (set befores a (getD lasts m 0))
-  marking-more {a} {m} {k} s h few is fits e f = record {
+  pub marking-more : {a m k : ℕ} {befores' : List ℕ} → Marking A n a lasts befores → a < n → m ≡ markOf A a → m < marks → k ≡ a + 1
+      → equalsEarlier A a ≡ false → Chained A (a + 1) befores' → Marking A n (a + 1) (set lasts m k) befores'
+  marking-more {a} {m} {k} s h is fits e f chained = record {
     within = omega arith;
     marked = record {
       full = length-set lasts m k ∙ s .marked .full;
@@ -197,17 +219,9 @@ module _ {A : Actions} {n : ℕ} {lasts befores : List ℕ} where
           (last-other a (λ q. fails-at t (same-of (is ∙ q))) (s .marked .each j l)))
           (holds-or (same m j));
     };
-    chained = record {
-      room = length-set befores a last ∙ s .chained .room;
-      each = below-more _ _
-          (λ b l. subst (Last A b (markOf A b)) (sym (getD-set-other befores a b last 0 (λ q. omega arith))) (s .chained .each b l))
-          (subst (Last A a (markOf A a)) (sym (getD-set-same befores a last 0 (omega (arith, s .chained .room)))) (marking-last s is fits));
-    };
+    chained = chained;
     none = below-more _ _ (s .none) (λ t. fails-at (is-fails f) t);
   }
-    where
-      last : ℕ
-      last = getD lasts m 0
 
 module _ (file : List ℕ) (c : Counts) {a : ℕ} {lasts befores : List ℕ} (s : Marking (actionsOf file c) (c .actions) a lasts befores) where
   pub marking-found : So (equalsEarlier (actionsOf file c) a) → a ≡ firstEqual (actionsOf file c)

@@ -31,10 +31,11 @@ pub record Last (A : Actions) (n m last : ℕ) : Type 0 where
   pub marked : (b : ℕ) → last ≡ suc b → markOf A b ≡ m
   pub none-later : (b : ℕ) → b < n → markOf A b ≡ m → b < last
 
--- each of the first n actions leads to the last one before it with its mark
+-- each of the first n actions leads to the last one before it with its mark, and no other leads anywhere
 pub record Chained (A : Actions) (n : ℕ) (befores : List ℕ) : Type 0 where
   pub room : length befores ≡ maxActions
   pub each : (a : ℕ) → a < n → Last A a (markOf A a) (getD befores a 0)
+  pub rest : (a : ℕ) → n ≤ a → a < maxActions → getD befores a 0 ≡ 0
 
 -- and each mark to the last one with it
 pub record Marked (A : Actions) (n : ℕ) (lasts : List ℕ) : Type 0 where

@@ -21,6 +21,9 @@ const MARKS: usize = 256;
 
 const MARK_SPAN: usize = 16777216;
 
+// At a mark that no action has, and behind the first action that has one.
+const NONE: u8 = 0;
+
 // What spreads an action over the numbers of 32 bits: a weight for what it adds, so that it does not count as a need, and 2^32 divided by the golden ratio.
 const ADD_WEIGHT: usize = 5;
 
@@ -117,10 +120,12 @@ fn first_marked(file: &[u8], c: Counts, lasts: &mut [u8], befores: &mut [u8]) ->
     for a in 0..c.actions {
         let m = mark(file, c, a);
         let last = lasts[m];
-        if equals_earlier(file, c, &befores[..], last as usize, a) {
-            return a;
+        if last != NONE {
+            if equals_earlier(file, c, &befores[..], last as usize, a) {
+                return a;
+            }
+            befores[a] = last;
         }
-        befores[a] = last;
         lasts[m] = (a + 1) as u8;
     }
     c.actions
