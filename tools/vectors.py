@@ -45,7 +45,7 @@ CALL = ['kind', 'file', 'depth', 'set', 'goal', 'words', 'graph', 'base', 'mask'
         'answer', 'first', 'second', 'digest', 'words2', 'graph2', 'base2', 'mask2', 'edits2',
         'numerator', 'denominator']
 ANSWERS = ['refused # #', 'built # looked #', 'rest #', 'none', 'level #', 'never', 'not by depth', 'extracted #',
-           'plan # count #', 'ran #', 'paged #', 'levels # #']
+           'plan # count #', 'ran # idle #', 'paged #', 'levels # #']
 
 # The memory that the program has (the same names in crates/vectors/src/calls.rt).
 WORDS, SETS, ENTRIES, LISTED = 60000, 512, 64, 64

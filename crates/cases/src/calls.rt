@@ -15,7 +15,6 @@ use crate::show::EXTRACTED;
 use crate::show::NONE;
 use crate::show::OUTPUT;
 use crate::show::PAGED;
-use crate::show::RAN;
 use crate::show::RESTS;
 use crate::show::say_graph;
 use crate::show::say_level;
@@ -24,6 +23,7 @@ use crate::show::say_line;
 use crate::show::say_name;
 use crate::show::say_plan;
 use crate::show::say_refusal;
+use crate::show::say_run;
 use crate::show::show_output;
 use build::BuildAnswer;
 use build::build;
@@ -224,7 +224,7 @@ fn plan_to(line: &[u8], file: &[u8], graph: &[u64], out: &mut [u32]) {
 
 fn run_to(line: &[u8], file: &[u8], list: &[u8], out: &mut [u32]) {
     match run(file, states(line), list, out) {
-        RunAnswer::Ran(n) => say_line(RAN, n),
+        RunAnswer::Ran(n, idle) => say_run(n, idle),
         RunAnswer::Refused(why) => say_refusal(why),
     }
 }

@@ -24,7 +24,7 @@ const NOT_BY_DEPTH: usize = 5;
 
 pub const EXTRACTED: usize = 6;
 
-pub const RAN: usize = 7;
+const RAN: usize = 7;
 
 const REFUSED: usize = 8;
 
@@ -104,6 +104,10 @@ pub fn say_graph(words: usize, looked: usize) {
 
 pub fn say_plan(level: usize, count: usize) {
     say_both(PLAN, level, b" count ", count);
+}
+
+pub fn say_run(sets: usize, idle: usize) {
+    say_both(RAN, sets, b" idle ", idle);
 }
 
 // A level by itself: the layer, or that there is none.

@@ -6,6 +6,7 @@ use Rattle.graph.specs.Verdict.{Verdict, accepted, refused}
 use Rattle.graph.specs.Build.{Counted}
 use Rattle.page.specs.Rule.{entryOf}
 use Rattle.within.specs.Rule.{Levels}
+use Rattle.run.specs.Run.{Reported}
 use Rattle.plan.specs.Plan.{Made}
 
 -- the value returned: 0 where the call is accepted, else the paper's number of the cause
@@ -18,7 +19,7 @@ unfoldable pub answerOf : {X : Type 0} → (X → List ℕ) → Verdict X → Li
 answerOf says (accepted x) = says x
 answerOf says (refused number place) = 0 ∷ number ∷ place ∷ []
 
--- kind 1: a page, an extract, a run or a text, with how many entries, words, sets or bytes it wrote
+-- kind 1: a page, an extract or a text, with how many entries, words or bytes it wrote
 abbrev pub countSays : ℕ → List ℕ
 countSays count = 1 ∷ count ∷ 0 ∷ []
 
@@ -40,6 +41,10 @@ levelSays notByDepth = 3 ∷ 0 ∷ 0 ∷ []
 -- kind 1: two levels, each as an entry of a page
 abbrev pub levelsSays : Levels → List ℕ
 levelsSays levels = 1 ∷ entryOf (accepted (levels .first)) ∷ entryOf (accepted (levels .second)) ∷ []
+
+-- kind 1: a run, with how many sets it wrote, and how many of its steps were idle
+abbrev pub runSays : Reported → List ℕ
+runSays run = 1 ∷ run .sets ∷ run .idle ∷ []
 
 -- kind 1: a plan, with its level, which is the number of words it wrote, and how many actions it marks
 abbrev pub planSays : Made → List ℕ

@@ -38,11 +38,11 @@ ghost use Rattle.within.specs.Rule.{withinRule, countWithin, levelsRule};
 ghost use Rattle.share.specs.Rule.{shareRule};
 ghost use Rattle.page.specs.Rule.{pageRule};
 ghost use Rattle.extract.specs.Rule.{extractRule};
-ghost use Rattle.run.specs.Run.{runRule};
+ghost use Rattle.run.specs.Run.{runRule, reportRule};
 ghost use Rattle.plan.specs.Plan.{made, planRule};
 ghost use Rattle.report.specs.Depth.{fittingRule};
 ghost use Rattle.report.specs.Text.{textRule};
-ghost use Rattle.mogzift.specs.Answer.{codeOf, answerOf, countSays, buildSays, restSays, levelSays, levelsSays, planSays, depthSays};
+ghost use Rattle.mogzift.specs.Answer.{codeOf, answerOf, countSays, buildSays, restSays, levelSays, levelsSays, runSays, planSays, depthSays};
 
 #[no_mangle]
 pub extern "C" fn mogzift_build(
@@ -200,12 +200,12 @@ pub extern "C" fn mogzift_run(
     out: &mut [u32],
     answer: &mut [u64; 3],
 ) -> usize
-    ensures { λ r. ⌜ (r ≡ codeOf (written (runRule (now (file .entry)) set (now (list .entry)) (length (now (out .entry))))))
-        × (now (answer .exit) ≡ answerOf countSays (written (runRule (now (file .entry)) set (now (list .entry)) (length (now (out .entry))))))
+    ensures { λ r. ⌜ (r ≡ codeOf (reportRule (now (file .entry)) set (now (list .entry)) (length (now (out .entry)))))
+        × (now (answer .exit) ≡ answerOf runSays (reportRule (now (file .entry)) set (now (list .entry)) (length (now (out .entry)))))
         × (now (out .exit) ≡ laid (runRule (now (file .entry)) set (now (list .entry)) (length (now (out .entry)))) (now (out .entry))) ⌝ }
 {
     match run(file, States(set), list, out) {
-        RunAnswer::Ran(count) => tell(answer, 1, count, 0),
+        RunAnswer::Ran(count, idle) => tell(answer, 1, count, idle),
         RunAnswer::Refused(why) => tell_refusal(answer, why),
     }
 }

@@ -11,6 +11,7 @@ pub mod Order
 pub mod Domains
 pub mod Bounds
 pub mod Plains
+pub mod Idles
 pub mod Levels
 pub mod Agree
 pub mod Layouts

@@ -1,5 +1,5 @@
 -- Running a sequence of actions from each state of a set.
-use Prim.Native.Nat.{ℕ, suc}
+use Prim.Native.Nat.{ℕ, suc, _+_}
 use mathlib.Core.Bool.{Bool}
 use mathlib.Core.List.{List, [], _∷_}
 use lib.ListN.{getD}
@@ -29,6 +29,10 @@ after A a x = union (without x (fired A a x (A .del))) (fired A a x (A .add))
 unfoldable pub stepped : Actions → ℕ → ℕ → ℕ → List ℕ → List ℕ
 stepped A n set a xs = listOver n (λ s. choose (bit s set) (after A a (getD xs s 0)) (getD xs s 0))
 
+-- request Eight: 'changed none': every state of S is as it was; states outside S do not count
+unfoldable pub idle : Actions → ℕ → ℕ → ℕ → List ℕ → Bool
+idle A n set a xs = allBelow n (λ s. bit s set implies same (after A a (getD xs s 0)) (getD xs s 0))
+
 -- the end sets, or the index of the first step that lacks its precondition
 pub data Ran : Type 0 where
   ended : List ℕ → Ran
@@ -42,3 +46,11 @@ runFrom A n set i xs (a ∷ list) = choose (ready A n set a xs) (runFrom A n set
 -- 'A list .. runs from each state of S': the list may have any length
 unfoldable pub runOf : Actions → ℕ → (ℕ → ℕ) → ℕ → List ℕ → Ran
 runOf A n start set list = runFrom A n set 0 (listOver n start) list
+
+-- request Eight: 'the number of idle ones' of a list, from the sets xs on
+unfoldable pub idleFrom : Actions → ℕ → ℕ → List ℕ → List ℕ → ℕ
+idleFrom A n set xs [] = 0
+idleFrom A n set xs (a ∷ list) = keep (idle A n set a xs) 1 + idleFrom A n set (stepped A n set a xs) list
+
+unfoldable pub idleOf : Actions → ℕ → (ℕ → ℕ) → ℕ → List ℕ → ℕ
+idleOf A n start set list = idleFrom A n set (listOver n start) list

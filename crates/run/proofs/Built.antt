@@ -5,13 +5,13 @@ use mathlib.Core.Path.{_≡_, refl}
 use mathlib.Core.List.{List, [], _∷_}
 use lib.ListN.{length}
 use Rattle.rules.specs.Lists.{listOver}
-use Rattle.rules.specs.Run.{Ran, ended, lacks, runFrom, runOf}
+use Rattle.rules.specs.Run.{Ran, ended, lacks, runFrom, runOf, idleFrom, idleOf}
 use Rattle.graph.specs.Verdict.{accepted}
 use Rattle.graph.specs.Format.{actionsOf, startOf}
 use Rattle.graph.specs.File.{Taken, fileRule}
 use Rattle.graph.specs.Checks.{setRule, outputRule}
 use Rattle.graph.specs.declared.format.Counts.{Counts}
-use Rattle.run.specs.Run.{maxSteps, sequenceRule, ranVerdict, endRule, runTaken, runRule}
+use Rattle.run.specs.Run.{maxSteps, sequenceRule, ranVerdict, endRule, runTaken, runRule, idleSteps}
 use Rattle.run.specs.Course.{Known}
 use Rattle.graph.proofs.Verdicts.{passed-then}
 use Rattle.graph.proofs.Ladder.{taken-means, set-means, output-means}
@@ -23,10 +23,17 @@ ran-means (ended xs) ends e = cc
 ran-means (lacks i) ends e = cc
 
 -- a list without a step ends where it starts
-pub no-steps : (file : List ℕ) (c : Counts) (set : ℕ) (list : List ℕ) → length list ≡ 0 → endRule file c set list ≡ accepted (listOver (c .states) (startOf file c))
+pub no-steps : (file : List ℕ) (c : Counts) (set : ℕ) (list : List ℕ) → length list ≡ 0
+    → endRule file c set list ≡ accepted (listOver (c .states) (startOf file c))
 unfolding endRule ranVerdict runOf runFrom
 no-steps file c set [] e = refl
 no-steps file c set (a ∷ list) e = cc
+
+-- and has no idle step
+pub no-idle-steps : (file : List ℕ) (c : Counts) (set : ℕ) (list : List ℕ) → length list ≡ 0 → 0 ≡ idleSteps file c set list
+unfolding idleOf idleFrom
+no-idle-steps file c set [] e = refl
+no-idle-steps file c set (a ∷ list) e = cc
 
 -- what is known of a run that is accepted, with the sets it writes
 pub record Accepted (file : List ℕ) (set : ℕ) (list : List ℕ) (room : ℕ) (ends : List ℕ) : Type 0 where

@@ -7,7 +7,7 @@ use mathlib.Core.Logic.{⊎-elim}
 use mathlib.Core.List.{List}
 use native.Mathlib.Nat.{mod-lt, zero-lt-suc, zero-mul}
 use native.Mathlib.Omega.{arith}
-use lib.Bits.{bitXor, and-zero-r, and-self, or-zero-r, or-comm, xor-zero-r, xor-self}
+use lib.Bits.{bitXor, and-zero-r, or-zero-r, or-comm, xor-zero-r}
 use lib.Count.{trailingZeros}
 use lib.ListN.{length, getD, set, length-set}
 use lib.Seq.{getD-set-same, getD-set-other}
@@ -30,7 +30,7 @@ use Rattle.words.proofs.MemberLoops.{lowest-in, lowest-lt}
 use Rattle.words.proofs.Spreads.{bit-left, stays}
 use Rattle.words.proofs.Writes.{list-all}
 use Rattle.graph.specs.Limits.{maxEffects}
-use Rattle.run.specs.Fire.{effectsOf, firedIn, firedBy, partly, ofEffect, joinFired, ofEffects, touched, removedBy, joinedBy, appliedIn}
+use Rattle.run.specs.Fire.{effectsOf, firedIn, firedBy, partly, ofEffect, joinFired, ofEffects, touched, removedBy, joinedBy, appliedIn, evenly}
 use Rattle.run.specs.declared.fire.Fired.{Fired}
 
 -- ---- the word of each member of a set is changed: g j x is what becomes of word j, if that is x
@@ -271,7 +271,7 @@ module _ (x del add p t : ℕ) where
   cut-bits true true true true = refl
   cut-bits true true true false = refl
 
-  cut-joined : union (without x (keep (bit p (without del add)) t)) (keep (bit p add) t) ≡ union (without x (keep (bit p del) t)) (keep (bit p add) t)
+  pub cut-joined : union (without x (keep (bit p (without del add)) t)) (keep (bit p add) t) ≡ union (without x (keep (bit p del) t)) (keep (bit p add) t)
   cut-joined = ext-all (λ s.
       bits s (bit p (without del add))
       ∙ ap (λ (b : Bool). (bit s x and fails (b and bit s t)) or (bit p add and bit s t)) (bit-without p del add)
@@ -304,7 +304,7 @@ module _ (A : Actions) (those by : ℕ) (labels fired : List ℕ) (few : A .effe
   abbrev part : ℕ
   part = ofEffects A those by labels .some
 
-  pub part-lt : part < 2 ^ A .effects
+  part-lt : part < 2 ^ A .effects
   unfolding ofEffects ofEffect joinOf
   part-lt = joinOver-lt (A .effects) _ (λ e h. keep-lt (A .effects) (λ t. keep-lt (A .effects) (λ u. single-lt h)))
 
@@ -376,6 +376,10 @@ module _ (A : Actions) (those by : ℕ) (labels fired : List ℕ) (few : A .effe
     parted sets {all} is p =
         ap₂ (λ (g : Fired) (l : List ℕ). union (keep (bit p all) those) (touched (A .effects) sets (g .some) l p)) e f ∙ sym (split sets is p)
 
+    -- the effects that fire in part are some of the n
+    pub part-under : did .some < 2 ^ A .effects
+    part-under = subst (λ (x : Fired). x .some < 2 ^ A .effects) (sym e) part-lt
+
     pub applied-of : {cut : ℕ} {labels₁ labels₂ labels₃ labels₄ : List ℕ} → length labels ≡ rowLength → cut ≡ without (did .del) (did .add)
         → labels₁ ≡ listOver (length labels) (λ q. without (labelIn labels q) (keep (bit q cut) those)) → labels₂ ≡ removedBy A (did .some) now labels₁
         → labels₃ ≡ listOver (length labels₂) (λ q. union (labelIn labels₂ q) (keep (bit q (did .add)) those)) → labels₄ ≡ joinedBy A (did .some) now labels₃
@@ -395,52 +399,18 @@ module _ (A : Actions) (those by : ℕ) (labels fired : List ℕ) (few : A .effe
         ∙ union-twice (without x (union (keep (bit p (did .del)) those) minus)) (keep (bit p (did .add)) those) plus
         ∙ ap₂ (λ (u w : ℕ). union (without x u) w) (parted (A .del) (ap (λ (h : Fired). h .del) e) p) (parted (A .add) (ap (λ (h : Fired). h .add) e) p))
 
--- ---- an action with one effect, and with none
-
--- none: nothing changes
-pub applied-none : (A : Actions) (those by : ℕ) (labels : List ℕ) → length labels ≡ rowLength → by ≡ 0 → labels ≡ appliedIn A those by labels
-unfolding appliedIn touched
-applied-none A those by labels long e = sym (list-all labels long) ∙ listOver-eq (λ p l. sym (
-    ap₂ (λ (u w : ℕ). union (without (getD labels p 0) u) w) (nothing (A .del) p) (nothing (A .add) p) ∙ or-zero-r _ ∙ without-none (getD labels p 0)))
-  where
-    nothing : (sets : ℕ → ℕ) (p : ℕ) → joinOf (A .effects) by (λ e. keep (bit p (sets e)) (getD (listOver maxEffects (firedIn A those labels)) e 0)) ≡ 0
-    nothing sets p =
-        ap (λ (b : ℕ). joinOf (A .effects) b (λ e. keep (bit p (sets e)) (getD (listOver maxEffects (firedIn A those labels)) e 0))) e
-        ∙ join-empty (A .effects) _
-
--- a set that has nothing besides a member is that member
-pub only-one : (set e : ℕ) → So (bit e set) → without set (single e) ≡ 0 → set ≡ single e
-only-one set e t none = ext-all (λ i. test-eq
-    (λ u. bit-single i e ∙ ⊎-elim
-    (λ k. k)
-    (λ f. absurd (no-bit-zero i (ap (bit i) (sym none) ∙ bit-without i set (single e) ∙ and-of u (ap fails (bit-single i e) ∙ f))))
-    (holds-or (same i e)))
-    (λ u. ap (λ (j : ℕ). bit j set) (same-at (sym (bit-single i e) ∙ u)) ∙ t))
-
-join-single : {n e : ℕ} (g : ℕ → ℕ) → e < n → joinOf n (single e) g ≡ g e
-join-single {n} {e} g l =
-    join-pick (single e) g l (bit-single e e ∙ same-of refl)
-    ∙ ap (union (g e)) (ap (λ (w : ℕ). joinOf n w g) (ap (bitXor (single e)) (and-self (single e)) ∙ xor-self (single e)) ∙ join-empty n g) ∙ or-zero-r (g e)
-
-module _ (A : Actions) (those : ℕ) (labels : List ℕ) (few : A .effects ≤ maxEffects) {e : ℕ} (l : e < A .effects) where
-  touched-one : (sets : ℕ → ℕ) (p : ℕ)
-      → touched (A .effects) sets (single e) (listOver maxEffects (firedIn A those labels)) p ≡ keep (bit p (sets e)) (firedIn A those labels e)
-  unfolding touched
-  touched-one sets p = join-single _ l ∙ ap (keep (bit p (sets e))) (word-of A those labels few l)
-
-  pub applied-one : {t del add cut : ℕ} {labels₁ labels₂ : List ℕ} → length labels ≡ rowLength → t ≡ firedIn A those labels e → del ≡ A .del e → add ≡ A .add e
-      → cut ≡ without del add → labels₁ ≡ listOver (length labels) (λ q. without (labelIn labels q) (keep (bit q cut) t))
-      → labels₂ ≡ listOver (length labels₁) (λ q. union (labelIn labels₁ q) (keep (bit q add) t)) → labels₂ ≡ appliedIn A those (single e) labels
-  unfolding appliedIn labelIn
-  applied-one {t} {del} {add} {cut} {labels₁} {labels₂} long at d a g one two =
-      let long₁ : length labels₁ ≡ rowLength = ap length one ∙ length-listOver (length labels) _ ∙ long in
-      two ∙ ap (λ (n : ℕ). listOver n (λ q. union (getD labels₁ q 0) (keep (bit q add) t))) long₁ ∙ listOver-eq (λ p k.
-      let x = getD labels p 0 in
-      ap (λ (w : ℕ). union w (keep (bit p add) t)) (ap (λ (m : List ℕ). getD m p 0) one ∙ getD-listOver _ (omega (arith, long))
-      ∙ ap (λ (w : ℕ). without x (keep (bit p w) t)) g)
-      ∙ cut-joined x del add p t
-      ∙ ap₂ (λ (u w : ℕ). union (without x u) w)
-      (ap₂ (λ (u w : ℕ). keep (bit p u) w) d at ∙ sym (touched-one (A .del) p)) (ap₂ (λ (u w : ℕ). keep (bit p u) w) a at ∙ sym (touched-one (A .add) p)))
+    -- where none fires in part, that is all
+    pub applied-evenly : {labels' : List ℕ} → did .some ≡ 0 → labels' ≡ evenly those (did .del) (did .add) labels → labels' ≡ appliedIn A those by labels
+    unfolding evenly appliedIn ofEffects ofEffect touched
+    applied-evenly none one = one ∙ listOver-eq (λ p k. ap₂ (λ (u w : ℕ). union (without (getD labels p 0) u) w)
+        (whole (A .del) (ap (λ (h : Fired). h .del) e) p) (whole (A .add) (ap (λ (h : Fired). h .add) e) p))
+      where
+        whole : (sets : ℕ → ℕ) {all : ℕ} → all ≡ joinOf (A .effects) by (λ e. keep (same (fires-in e) those) (sets e)) → (p : ℕ)
+            → keep (bit p all) those ≡ touched (A .effects) sets by (listOver maxEffects fires-in) p
+        whole sets {all} is p =
+            sym (ap (λ (x : ℕ). union (keep (bit p all) those) (touched (A .effects) sets x now p)) none
+            ∙ ap (union (keep (bit p all) those)) (join-empty (A .effects) _) ∙ or-zero-r (keep (bit p all) those))
+            ∙ parted sets is p
 
 -- ---- the effects of each action
 

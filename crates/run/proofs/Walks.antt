@@ -1,161 +1,137 @@
 -- Version 1: loops over the steps of a list, and over the actions whose words they go by.
 -- Assumes nothing.
-use Prim.Native.Nat.{ℕ, _+_, _≤_, _<_}
+use Prim.Native.Nat.{ℕ, zero, suc, _+_, _≤_, _<_}
 use mathlib.Core.Path.{_≡_, refl, sym, ap, ap₂, _∙_}
 use mathlib.Core.Bool.{Bool, true, false, So}
 use mathlib.Core.List.{List}
 use native.Mathlib.Nat.{zero-add}
 use native.Mathlib.Numerals.{add-one}
 use native.Mathlib.Omega.{arith}
+use lib.Bits.{and-le-l}
 use lib.ListN.{length, getD, set}
-use Rattle.rules.specs.Test.{same, choose}
-use Rattle.rules.specs.Word.{common, union, without, first}
-use Rattle.rules.specs.Over.{meetOver}
-use Rattle.rules.specs.Domain.{Actions}
+use Rattle.rules.specs.Test.{fails, same, below, choose}
+use Rattle.rules.specs.Word.{common, union}
+use Rattle.rules.specs.Over.{keep}
+use Rattle.rules.proofs.Tests.{test-eq, same-of, same-at, below-fails, below-not, is-fails}
 use Rattle.rules.proofs.Overs.{below-suc}
-use Rattle.words.specs.Width.{propWidth}
 use Rattle.words.proofs.Writes.{Lists, list-none, list-more}
 use Rattle.graph.specs.Format.{plain, actionsOf}
 use Rattle.graph.specs.File.{Taken}
 use Rattle.graph.specs.declared.format.Counts.{Counts}
-use Rattle.run.specs.Course.{spareOf, stayOf, further, stepAnswer, courseAt, heldAt, Tables, Walks, Stops}
-use Rattle.run.specs.declared.step.Course.{Course}
-use Rattle.run.specs.declared.step.Stepped.the-variants as did
+use Rattle.run.specs.Course.{leavesOf, bringsOf, further, courseAt, lackAt, still, stillAt, Tables, Walks}
 
--- what a step's answer says of its precondition, and what it did
-moved-means : (b : Bool) (w w' : Course) → did.Moved w' ≡ choose b (did.Moved w) did.Missing → So b × (w' ≡ w)
-unfolding choose
-moved-means true w w' e = (refl, cc)
-moved-means false w w' e = (cc, cc)
+-- ---- one step
 
-missing-means : (b : Bool) (w : Course) → did.Missing ≡ choose b (did.Moved w) did.Missing → b ≡ false
-unfolding choose
-missing-means true w e = cc
-missing-means false w e = refl
+-- what is left of a word is all of it exactly when it is not less
+pub still-is : (w leave : ℕ) → still w (common w leave) ≡ keep (same (common w leave) w) 1
+unfolding still
+still-is w leave = ap (λ (b : Bool). keep b 1) (test-eq
+    (λ t. let h : w ≤ common w leave = below-fails t in same-of (omega (arith, and-le-l w leave)))
+    (λ t. is-fails (below-not (omega (arith, same-at t)))))
 
--- the course after one step more
-course-next : (stays pluses list : List ℕ) (w₀ w : Course) (i a : ℕ) → w ≡ courseAt stays pluses list w₀ i → a ≡ getD list i 0
-    → further (getD stays a 0) (getD pluses a 0) w ≡ courseAt stays pluses list w₀ (i + 1)
-unfolding courseAt
-course-next stays pluses list w₀ w i a e f =
-    ap₂ (λ (x : Course) (y : ℕ). further (getD stays y 0) (getD pluses y 0) x) e f ∙ ap (courseAt stays pluses list w₀) (sym (add-one i))
+still-le : (w left : ℕ) → still w left ≤ 1
+unfolding still keep choose
+still-le w left = go (fails (below left w))
+  where
+    go : (b : Bool) → keep b 1 ≤ 1
+    go true = omega arith
+    go false = omega arith
 
-held-here : (spares stays pluses list : List ℕ) (w₀ w : Course) (i a : ℕ) → w ≡ courseAt stays pluses list w₀ i → a ≡ getD list i 0
-    → union (w .now) (getD spares a 0) ≡ heldAt spares stays pluses list w₀ i
-unfolding heldAt
-held-here spares stays pluses list w₀ w i a e f = ap₂ (λ (x : Course) (y : ℕ). union (x .now) (getD spares y 0)) e f
+pub stills-le : (leave bring list : List ℕ) (w i : ℕ) → stillAt leave bring list w i ≤ i
+unfolding stillAt
+stills-le leave bring list w zero = omega arith
+stills-le leave bring list w (suc i) =
+    let v = courseAt leave bring list w i in
+    omega (arith, stills-le leave bring list w i, still-le v (common v (getD leave (getD list i 0) 0)))
 
--- ---- without a way out
+-- ---- the loop: the last step made is not counted yet
 
-pub record Walking (spares stays pluses list : List ℕ) (w₀ w : Course) (held i : ℕ) : Type 0 where
-  pub tables : Tables spares stays pluses list
+pub record Walking (needs leave bring list : List ℕ) (w₀ w before left idle i : ℕ) : Type 0 where
+  pub tables : Tables needs leave bring list
   pub inside : i ≤ length list
-  pub course-is : w ≡ courseAt stays pluses list w₀ i
-  pub held-is : held ≡ meetOver i (heldAt spares stays pluses list w₀) (first propWidth)
+  pub course-is : w ≡ courseAt leave bring list w₀ i
+  pub idle-is : idle + still before left ≡ stillAt leave bring list w₀ i
+  pub ready : (k : ℕ) → k < i → lackAt needs leave bring list w₀ k ≡ 0
 
-module _ {spares stays pluses list : List ℕ} {w₀ : Course} where
-  pub walk-none : {held : ℕ} → Tables spares stays pluses list → held ≡ first propWidth → Walking spares stays pluses list w₀ w₀ held 0
-  unfolding courseAt meetOver
-  walk-none t e = record { tables = t; inside = omega arith; course-is = refl; held-is = e }
+module _ {needs leave bring list : List ℕ} {w₀ : ℕ} where
+  pub walk-none : Tables needs leave bring list → Walking needs leave bring list w₀ w₀ 1 0 0 0
+  unfolding courseAt stillAt still keep fails below choose
+  walk-none t = record { tables = t; inside = omega arith; course-is = refl; idle-is = refl; ready = λ k h. absurd (omega arith) }
 
-  pub walk-more : {w w' : Course} {held held' i : ℕ} (a : ℕ) → Walking spares stays pluses list w₀ w held i → i < length list → a ≡ getD list i 0
-      → held' ≡ common held (union (w .now) (getD spares a 0)) → w' ≡ further (getD stays a 0) (getD pluses a 0) w
-      → Walking spares stays pluses list w₀ w' held' (i + 1)
-  unfolding meetOver
-  walk-more {w} {w'} {held} {held'} {i} a g h e f k = record {
-    tables = g .tables;
-    inside = omega arith;
-    course-is = k ∙ course-next stays pluses list w₀ w i a (g .course-is) e;
-    held-is = f ∙ ap₂ common (g .held-is) (held-here spares stays pluses list w₀ w i a (g .course-is) e)
-        ∙ ap (λ (j : ℕ). meetOver j (heldAt spares stays pluses list w₀) (first propWidth)) (sym (add-one i));
-  }
+  module _ {w before left idle i : ℕ} (g : Walking needs leave bring list w₀ w before left idle i) where
+    pub idle-fits : idle + still before left ≤ length list
+    idle-fits = omega (arith, g .idle-is, stills-le leave bring list w₀ i, g .inside)
 
-  pub walk-done : {w : Course} {held i : ℕ} → Walking spares stays pluses list w₀ w held i → length list ≤ i
-      → Walks spares stays pluses list w₀ (record { course = w; held = held })
-  walk-done {w} {held} {i} g h =
-      let e : i ≡ length list = omega (arith, g .inside) in
-      record {
-        course-is = g .course-is ∙ ap (courseAt stays pluses list w₀) e;
-        held-is = g .held-is ∙ ap (λ (j : ℕ). meetOver j (heldAt spares stays pluses list w₀) (first propWidth)) e;
-      }
+    module _ (a : ℕ) (e : a ≡ getD list i 0) where
+      lack-here : common w (getD needs a 0) ≡ lackAt needs leave bring list w₀ i
+      unfolding lackAt
+      lack-here = ap₂ (λ (x y : ℕ). common x (getD needs y 0)) (g .course-is) e
 
--- ---- up to the first step that lacks its precondition
-
-pub record Finding (spares stays pluses list : List ℕ) (w₀ w : Course) (i : ℕ) : Type 0 where
-  pub tables : Tables spares stays pluses list
-  pub inside : i ≤ length list
-  pub course-is : w ≡ courseAt stays pluses list w₀ i
-  pub before : (k : ℕ) → k < i → So (same (heldAt spares stays pluses list w₀ k) (first propWidth))
-
-module _ {spares stays pluses list : List ℕ} {w₀ : Course} where
-  pub find-none : Tables spares stays pluses list → Finding spares stays pluses list w₀ w₀ 0
-  unfolding courseAt
-  find-none t = record { tables = t; inside = omega arith; course-is = refl; before = λ k h. absurd (omega arith) }
-
-  pub find-more : {w w' : Course} {i : ℕ} (a : ℕ) → Finding spares stays pluses list w₀ w i → i < length list → a ≡ getD list i 0
-      → did.Moved w' ≡ stepAnswer w (getD spares a 0) (getD stays a 0) (getD pluses a 0) → Finding spares stays pluses list w₀ w' (i + 1)
-  unfolding stepAnswer
-  find-more {w} {w'} {i} a g h e m =
-      let (t, q) = moved-means _ _ _ m in
-      record {
+      pub walk-more : {w' left' idle' : ℕ} → i < length list → common w (getD needs a 0) ≡ 0 → left' ≡ common w (getD leave a 0)
+          → w' ≡ union left' (getD bring a 0) → idle' ≡ idle + still before left → Walking needs leave bring list w₀ w' w left' idle' (i + 1)
+      unfolding courseAt stillAt further
+      walk-more {w'} {left'} {idle'} h free kept next counted = record {
         tables = g .tables;
         inside = omega arith;
-        course-is = q ∙ course-next stays pluses list w₀ w i a (g .course-is) e;
-        before = λ k l. below-suc
-            (ap (λ (x : ℕ). same x (first propWidth)) (sym (held-here spares stays pluses list w₀ w i a (g .course-is) e)) ∙ t) (g .before) (omega arith);
+        course-is = next ∙ ap (λ (x : ℕ). union x (getD bring a 0)) kept
+            ∙ ap₂ (λ (x y : ℕ). further (getD leave y 0) (getD bring y 0) x) (g .course-is) e
+            ∙ ap (courseAt leave bring list w₀) (sym (add-one i));
+        idle-is = ap₂ (λ (x y : ℕ). x + still w y) (counted ∙ g .idle-is) kept
+            ∙ ap₂ (λ (x y : ℕ). stillAt leave bring list w₀ i + still x (common x (getD leave y 0))) (g .course-is) e
+            ∙ ap (stillAt leave bring list w₀) (sym (add-one i));
+        ready = λ k l. below-suc {P = λ j. lackAt needs leave bring list w₀ j ≡ 0} (sym lack-here ∙ free) (g .ready) (omega arith);
       }
 
-  pub find-off : {w : Course} {i : ℕ} (a : ℕ) → Finding spares stays pluses list w₀ w i → a ≡ getD list i 0
-      → did.Missing ≡ stepAnswer w (getD spares a 0) (getD stays a 0) (getD pluses a 0) → Stops spares stays pluses list w₀ i
-  unfolding stepAnswer
-  find-off {w} {i} a g e m = record {
-    inside = g .inside;
-    before = g .before;
-    at = λ h. ap (λ (x : ℕ). same x (first propWidth)) (sym (held-here spares stays pluses list w₀ w i a (g .course-is) e)) ∙ missing-means _ _ m;
-  }
+      pub walk-off : {idle' : ℕ} → (common w (getD needs a 0) ≡ 0 → ⊥) → idle' ≡ idle + still before left
+          → Walks needs leave bring list w₀ (record { course = w; made = i; idle = idle' })
+      walk-off {idle'} lacks counted = record {
+        inside = g .inside;
+        course-is = g .course-is;
+        idle-is = counted ∙ g .idle-is;
+        before = g .ready;
+        at = λ h z. lacks (lack-here ∙ z);
+      }
 
-  pub find-done : {w : Course} {i : ℕ} → Finding spares stays pluses list w₀ w i → length list ≤ i → Stops spares stays pluses list w₀ i
-  find-done {w} {i} g h = record { inside = g .inside; before = g .before; at = λ l. absurd (omega arith) }
+    pub walk-done : {idle' : ℕ} → length list ≤ i → idle' ≡ idle + still before left
+        → Walks needs leave bring list w₀ (record { course = w; made = i; idle = idle' })
+    walk-done {idle'} h counted = record {
+      inside = g .inside;
+      course-is = g .course-is;
+      idle-is = counted ∙ g .idle-is;
+      before = g .ready;
+      at = λ l z. omega arith;
+    }
 
 -- ---- the words of the actions, so far
 
-pub record Told (file : List ℕ) (c : Counts) (spares₀ stays₀ pluses₀ spares stays pluses : List ℕ) (i : ℕ) : Type 0 where
+pub record Told (file : List ℕ) (c : Counts) (needs₀ leave₀ bring₀ needs leave bring : List ℕ) (i : ℕ) : Type 0 where
   pub taken : Taken file c
   pub own : c .effects ≡ c .actions
-  pub all : length spares₀ ≡ c .actions
-  pub spare : Lists (spareOf (actionsOf file c)) 0 (c .actions) spares₀ i spares
-  pub stay : Lists (stayOf (actionsOf file c)) 0 (c .actions) stays₀ i stays
-  pub plus : Lists (actionsOf file c .add) 0 (c .actions) pluses₀ i pluses
+  pub all : length needs₀ ≡ c .actions
+  pub need : Lists (actionsOf file c .pre) 0 (c .actions) needs₀ i needs
+  pub left : Lists (leavesOf (actionsOf file c)) 0 (c .actions) leave₀ i leave
+  pub brought : Lists (bringsOf (actionsOf file c)) 0 (c .actions) bring₀ i bring
 
-pub told-none : {file : List ℕ} {c : Counts} {spares stays pluses : List ℕ} → Taken file c → So (plain c) → length spares ≡ c .actions
-    → length stays ≡ c .actions → length pluses ≡ c .actions → Told file c spares stays pluses spares stays pluses 0
+pub told-none : {file : List ℕ} {c : Counts} {needs leave bring : List ℕ} → Taken file c → So (plain c) → length needs ≡ c .actions
+    → length leave ≡ c .actions → length bring ≡ c .actions → Told file c needs leave bring needs leave bring 0
 told-none t v a b d = record {
   taken = t;
   own = t .ranged .own v;
   all = a;
-  spare = list-none (omega arith);
-  stay = list-none (omega arith);
-  plus = list-none (omega arith);
+  need = list-none (omega arith);
+  left = list-none (omega arith);
+  brought = list-none (omega arith);
 }
 
--- the words of one action, from its sets and all there is
-spare-word : (A : Actions) (a all pre x : ℕ) → all ≡ first propWidth → pre ≡ A .pre a → x ≡ without all pre → x ≡ spareOf A a
-unfolding spareOf
-spare-word A a all pre x e f g = g ∙ ap₂ (λ (u v : ℕ). without u v) e f
-
-stay-word : (A : Actions) (a all del x : ℕ) → all ≡ first propWidth → del ≡ A .del a → x ≡ without all del → x ≡ stayOf A a
-unfolding stayOf
-stay-word A a all del x e f g = g ∙ ap₂ (λ (u v : ℕ). without u v) e f
-
-pub told-more : {file : List ℕ} {c : Counts} {spares₀ stays₀ pluses₀ spares stays pluses : List ℕ} {i x y z : ℕ} (all pre del : ℕ)
-    → Told file c spares₀ stays₀ pluses₀ spares stays pluses i → i < c .actions → all ≡ first propWidth → pre ≡ actionsOf file c .pre i
-    → del ≡ actionsOf file c .del i → x ≡ without all pre → y ≡ without all del → z ≡ actionsOf file c .add i
-    → Told file c spares₀ stays₀ pluses₀ (set spares i x) (set stays i y) (set pluses i z) (i + 1)
-told-more {file} {c} {i = i} all pre del t h e p d x y z = record {
+pub told-more : {file : List ℕ} {c : Counts} {needs₀ leave₀ bring₀ needs leave bring : List ℕ} {i x y z : ℕ}
+    → Told file c needs₀ leave₀ bring₀ needs leave bring i → i < c .actions → x ≡ actionsOf file c .pre i
+    → y ≡ leavesOf (actionsOf file c) i → z ≡ bringsOf (actionsOf file c) i
+    → Told file c needs₀ leave₀ bring₀ (set needs i x) (set leave i y) (set bring i z) (i + 1)
+told-more {i = i} t h x y z = record {
   taken = t .taken;
   own = t .own;
   all = t .all;
-  spare = list-more (t .spare) h (sym (zero-add i)) (spare-word (actionsOf file c) i all pre _ e p x);
-  stay = list-more (t .stay) h (sym (zero-add i)) (stay-word (actionsOf file c) i all del _ e d y);
-  plus = list-more (t .plus) h (sym (zero-add i)) z;
+  need = list-more (t .need) h (sym (zero-add i)) x;
+  left = list-more (t .left) h (sym (zero-add i)) y;
+  brought = list-more (t .brought) h (sym (zero-add i)) z;
 }

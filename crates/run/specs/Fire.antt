@@ -1,21 +1,24 @@
 -- Version 2: the sets of all states, kept by proposition as words of states, and what a step does to them.
-use Prim.Native.Nat.{ℕ, zero, suc}
+use Prim.Native.Nat.{ℕ, zero, suc, _+_}
 use mathlib.Core.Path.{_≡_}
 use mathlib.Core.Bool.{Bool}
 use mathlib.Core.List.{List}
 use lib.ListN.{length, getD}
 use Rattle.rules.specs.Test.{_and_, fails, same, choose}
-use Rattle.rules.specs.Word.{bit, union, without, single}
-use Rattle.rules.specs.Over.{keep, joinOver, joinOf, meetOf, firstBelow}
+use Rattle.rules.specs.Word.{bit, union, without, within, meets, single}
+use Rattle.rules.specs.Over.{keep, joinOver, joinOf, meetOf, allBelow, firstBelow}
 use Rattle.rules.specs.Lists.{listOver}
 use Rattle.rules.specs.Domain.{Actions}
 use Rattle.rules.specs.Shared.{startLabel}
+use Rattle.words.specs.Width.{propWidth}
 use Rattle.words.specs.Rows.{rowLength}
 use Rattle.graph.specs.Limits.{maxEffects}
 use Rattle.graph.specs.Format.{actionsOf}
 use Rattle.graph.specs.File.{Taken}
 use Rattle.graph.specs.declared.format.Counts.{Counts}
 use Rattle.run.specs.declared.fire.Fired.{Fired}
+use Rattle.run.specs.declared.fire.Stepped.{Stepped}
+use Rattle.run.specs.declared.fire.Stepped.the-variants as did
 
 -- a row of empty words
 abbrev pub Empty : List ℕ → Type 0
@@ -28,6 +31,14 @@ labelsOf n xs = listOver rowLength (startLabel n (λ s. getD xs s 0))
 -- and the set of state s read back from them
 unfoldable pub setIn : List ℕ → ℕ → ℕ
 setIn labels s = startLabel rowLength (λ p. getD labels p 0) s
+
+-- of proposition p, which these states have: whether some state of the set lacks it, and above that whether some state of it has it
+unfoldable pub literalsIn : ℕ → ℕ → ℕ → ℕ
+literalsIn set p label = union (keep (fails (within set label)) (single p)) (keep (meets label set) (single (propWidth + p)))
+
+-- what some state of the set lacks, and above that what some state of it has
+unfoldable pub courseIn : ℕ → List ℕ → ℕ
+courseIn set labels = joinOver rowLength (λ p. literalsIn set p (getD labels p 0))
 
 -- the effects of action a, as a word
 unfoldable pub effectsOf : Actions → ℕ → ℕ
@@ -91,6 +102,22 @@ steppedIn A set a labels = appliedIn A set (effectsOf A a) labels
 unfoldable pub readyIn : Actions → ℕ → ℕ → List ℕ → Bool
 readyIn A set a labels = same (having labels set (A .pre a)) set
 
+-- both rows are the same
+unfoldable pub sameRows : List ℕ → List ℕ → Bool
+sameRows xs ys = allBelow rowLength (λ p. same (getD xs p 0) (getD ys p 0))
+
+-- effects that fire in every state of the set, and delete and add this in all
+unfoldable pub evenly : ℕ → ℕ → ℕ → List ℕ → List ℕ
+evenly set del add labels = listOver rowLength (λ p. union (without (getD labels p 0) (keep (bit p del) set)) (keep (bit p add) set))
+
+-- request Eight, of what the states had before and have after a step: 'changed some state of the set, changed none'
+unfoldable pub told : ℕ → List ℕ → List ℕ → Stepped
+told set before after = choose (sameRows before after) did.Unchanged (did.Changed (courseIn set after))
+
+-- and 'precondition missing'
+unfoldable pub answerIn : Actions → ℕ → ℕ → List ℕ → Stepped
+answerIn A set a labels = choose (readyIn A set a labels) (told set labels (steppedIn A set a labels)) did.Missing
+
 -- after the first i steps of the list
 unfoldable pub labelsAt : Actions → ℕ → List ℕ → List ℕ → ℕ → List ℕ
 labelsAt A set list labels zero = labels
@@ -103,9 +130,16 @@ readyAt A set list labels i = readyIn A set (getD list i 0) (labelsAt A set list
 unfoldable pub firstLack : Actions → ℕ → List ℕ → List ℕ → ℕ
 firstLack A set list labels = firstBelow (length list) (λ i. fails (readyAt A set list labels i))
 
--- what a step goes by: the file's actions, the effects of each of them, and room for the words of each proposition and of each effect
-pub record Rooms (file : List ℕ) (c : Counts) (owned labels fired : List ℕ) : Type 0 where
+-- how many of the first i steps change no state of the set
+unfoldable pub idleAt : Actions → ℕ → List ℕ → List ℕ → ℕ → ℕ
+idleAt A set list labels zero = 0
+idleAt A set list labels (suc i) =
+    idleAt A set list labels i + keep (sameRows (labelsAt A set list labels i) (labelsAt A set list labels (suc i))) 1
+
+-- what a step goes by: the file's actions, the effects of each of them, and room for the words of each proposition, before a step too, and of each effect
+pub record Rooms (file : List ℕ) (c : Counts) (owned labels before fired : List ℕ) : Type 0 where
   pub taken : Taken file c
   pub owned-are : owned ≡ listOver rowLength (effectsOf (actionsOf file c))
   pub labels-long : length labels ≡ rowLength
+  pub before-long : length before ≡ rowLength
   pub fired-long : length fired ≡ maxEffects

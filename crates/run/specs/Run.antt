@@ -4,9 +4,9 @@ use mathlib.Core.List.{List}
 use lib.ListN.{length, getD}
 use Rattle.rules.specs.Test.{fails, below, choose}
 use Rattle.rules.specs.Over.{firstBelow}
-use Rattle.rules.specs.Run.{Ran, ended, lacks, runOf}
+use Rattle.rules.specs.Run.{Ran, ended, lacks, runOf, idleOf}
 use Rattle.graph.specs.Verdict.{Verdict, accepted, refused, turnedAway, andThen}
-use Rattle.graph.specs.Format.{actionsOf, startOf}
+use Rattle.graph.specs.Format.{actionsOf, startOf, countsIn}
 use Rattle.graph.specs.File.{fileRule}
 use Rattle.graph.specs.Checks.{setRule, outputRule}
 use Rattle.graph.specs.declared.format.Counts.{Counts}
@@ -51,7 +51,24 @@ runTaken file c set list room =
 unfoldable pub runRule : List ℕ → ℕ → List ℕ → ℕ → Verdict (List ℕ)
 runRule file set list room = andThen (fileRule file) (λ c. runTaken file c set list room)
 
--- what a run's answer says: 'a run the number of sets written'
-abbrev pub runVerdict : RunAnswer → Verdict ℕ
-runVerdict (answer.Ran n) = accepted n
+-- what an accepted run answers: 'a run the number of sets written', and request Eight: 'A run reports the number of idle ones with the end states'
+pub record Reported : Type 0 where
+  pub sets : ℕ
+  pub idle : ℕ
+
+-- of a run that gives these sets and has so many idle steps; 'A refused run reports no number'
+unfoldable pub reported : ℕ → Verdict (List ℕ) → Verdict Reported
+reported idle (accepted ends) = accepted (record { sets = length ends; idle = idle })
+reported idle (refused number place) = refused number place
+
+-- the idle steps of a list over a file that was taken
+abbrev pub idleSteps : List ℕ → Counts → ℕ → List ℕ → ℕ
+idleSteps file c set list = idleOf (actionsOf file c) (c .states) (startOf file c) set list
+
+unfoldable pub reportRule : List ℕ → ℕ → List ℕ → ℕ → Verdict Reported
+reportRule file set list room = reported (idleSteps file (countsIn file) set list) (runRule file set list room)
+
+-- what a run's answer says
+abbrev pub runVerdict : RunAnswer → Verdict Reported
+runVerdict (answer.Ran sets idle) = accepted (record { sets = sets; idle = idle })
 runVerdict (answer.Refused why) = turnedAway why

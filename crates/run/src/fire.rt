@@ -1,5 +1,7 @@
 // Version 2: a step of an action in every state of a set at once. The sets of all states are kept by proposition, a word of states for each, so that an effect
-// finds by a few words in what states it fires.
+// finds by a few words in what states it fires; and, as in version 1, one word tells what some state of the set lacks and what some state of it has.
+use crate::step::brings;
+use crate::step::leaves;
 use graph::file::byte;
 use graph::format::Counts;
 use graph::read::added;
@@ -12,6 +14,7 @@ use words::members::lowest;
 use words::members::meet_at;
 use words::members::others;
 use words::members::single;
+use words::sets::PROP_WIDTH;
 use words::sets::Props;
 use words::sets::States;
 use words::sets::wide;
@@ -19,7 +22,7 @@ use words::tables::ROW;
 ghost use mathlib.Core.Path.{_≡_};
 ghost use Prim.Native.Nat.{_≤_, _<_, _^_};
 ghost use lib.ListN.{length};
-ghost use Rattle.rules.specs.Test.{choose};
+ghost use Rattle.rules.specs.Test.{fails, choose};
 ghost use Rattle.rules.specs.Word as W;
 ghost use Rattle.rules.specs.Over.{keep};
 ghost use Rattle.rules.specs.Lists.{listOver};
@@ -33,7 +36,7 @@ ghost use Rattle.graph.specs.File.{Taken};
 ghost use Rattle.run.specs.Course.{Known};
 ghost use Rattle.run.specs.Fire as F;
 ghost use Rattle.run.specs.Fire.{Empty, Rooms, setIn, effectsOf, firedBy, ofEffect, joinFired, ofEffects, removedBy, joinedBy, appliedIn, steppedIn};
-ghost use Rattle.run.specs.Fire.{readyIn, labelsAt, firstLack};
+ghost use Rattle.run.specs.Fire.{sameRows, evenly, told, answerIn, readyIn, labelsAt, idleAt, firstLack};
 
 // The effects of each action, in a row of empty words.
 pub fn read_owned(file: &[u8], c: Counts, owned: &mut [u64])
@@ -51,6 +54,45 @@ fn having(labels: &[u64], set: States, props: Props) -> u64
     ensures { λ r. ⌜ r ≡ F.having (now (labels .entry)) (set .0) (props .0) ⌝ }
 {
     meet_at(labels, wide(props.0), set.0)
+}
+
+// Of proposition p, which the states `label` have: whether some state of the set lacks it, and whether some has it.
+fn literals(label: u64, p: usize, set: States) -> u64
+    requires { ⌜ p < propWidth ⌝ }
+    ensures { λ r. ⌜ r ≡ F.literalsIn (set .0) p label ⌝ }
+{
+    let had = label & set.0;
+    let lacking = if had == set.0 { 0 } else { single(p) };
+    let having = if had == 0 { 0 } else { single(PROP_WIDTH + p) };
+    lacking | having
+}
+
+// What some state of the set lacks, and above that what some state of it has.
+fn course_of(labels: &[u64], set: States) -> u64
+    requires { ⌜ length (now labels) ≡ rowLength ⌝ }
+    ensures { λ r. ⌜ r ≡ F.courseIn (set .0) (now (labels .entry)) ⌝ }
+{
+    let mut course = 0u64;
+    for p in 0..ROW {
+        course = course | literals(labels[p], p, set);
+    }
+    course
+}
+
+// The states of the set in which an effect with this antecedent fires. Mostly the course tells it: all of them, or none.
+fn firing(labels: &[u64], set: States, course: u64, when: u32) -> u64
+    requires { ⌜ (length (now labels) ≡ rowLength) × (course ≡ F.courseIn (set .0) (now labels)) ⌝ }
+    ensures { λ r. ⌜ r ≡ F.having (now (labels .entry)) (set .0) when ⌝ }
+{
+    let needed = wide(when);
+    if course & needed == 0 {
+        return set.0;
+    }
+    let somewhere = needed << PROP_WIDTH;
+    if course & somewhere != somewhere {
+        return 0;
+    }
+    having(labels, set, Props(when))
 }
 
 // What the effects of a step do: the deletes and the adds of those that fire in every state of the set, and which ones fire in some of its states only.
@@ -83,8 +125,17 @@ fn with_effect(did: Fired, file: &[u8], c: Counts, e: usize, t: u64, set: States
 }
 
 // In what states of the set each effect of the word `by` fires, and what they do by that.
-fn fire(file: &[u8], c: Counts, by: u64, set: States, labels: &[u64], fired: &mut [u64]) -> Fired
-    requires { ⌜ Taken (now file) c × (by < 2 ^ c .effects) × (length (now labels) ≡ rowLength) × (length (now fired) ≡ maxEffects) ⌝ }
+fn fire(
+    file: &[u8],
+    c: Counts,
+    by: u64,
+    set: States,
+    course: u64,
+    labels: &[u64],
+    fired: &mut [u64],
+) -> Fired
+    requires { ⌜ Taken (now file) c × (by < 2 ^ c .effects) × (length (now labels) ≡ rowLength) × (length (now fired) ≡ maxEffects)
+        × (course ≡ F.courseIn (set .0) (now labels)) ⌝ }
     ensures { λ r. ⌜ (r ≡ ofEffects (actionsOf (now (file .entry)) c) (set .0) by (now (labels .entry)))
         × (now (fired .exit) ≡ firedBy (actionsOf (now (file .entry)) c) (set .0) by (now (labels .entry)) (now (fired .entry))) ⌝ }
 {
@@ -96,7 +147,7 @@ fn fire(file: &[u8], c: Counts, by: u64, set: States, labels: &[u64], fired: &mu
     };
     while 0 < left {
         let e = lowest(left);
-        let t = having(labels, set, Props(antecedent(file, c, e)));
+        let t = firing(labels, set, course, antecedent(file, c, e));
         fired[e] = t;
         did = with_effect(did, file, c, e, t, set);
         left = others(left);
@@ -146,50 +197,89 @@ fn join_adds(file: &[u8], c: Counts, by: u64, fired: &[u64], labels: &mut [u64])
     }
 }
 
-// One effect, in the states of the set in which it fires: its deletes are removed, then its adds joined. What it adds need not be removed before.
-fn apply_one(file: &[u8], c: Counts, e: usize, set: States, labels: &mut [u64])
-    requires { ⌜ Taken (now file) c × (e < c .effects) × (length (now labels) ≡ rowLength) ⌝ }
-    ensures { λ r. ⌜ now (labels .exit) ≡ appliedIn (actionsOf (now (file .entry)) c) (set .0) (W.single e) (now (labels .entry)) ⌝ }
-{
-    let t = having(&*labels, set, Props(antecedent(file, c, e)));
-    let add = Props(added(file, c, e));
-    strip(&mut *labels, Props(deleted(file, c, e)).without(add), t);
-    spread(&mut *labels, add, t);
+// What a single step did: nothing, because some state of the set lacks its precondition; or it changed some state of the set, which makes this of what some
+// state lacks and some has; or it changed none.
+pub enum Stepped {
+    Missing,
+    Changed(u64),
+    Unchanged,
 }
 
-// Several effects: each fires by what held before them all, all deletes are removed, then all adds joined. Those that fire in every state of the set are
-// done at once.
-fn apply_several(
+// Deletes and adds in every state of the set. The word tells whether that changes any of them.
+fn apply_evenly(course: u64, del: Props, add: Props, set: States, labels: &mut [u64]) -> Stepped
+    requires { ⌜ (length (now labels) ≡ rowLength) × (course ≡ F.courseIn (set .0) (now labels)) ⌝ }
+    ensures { λ r. ⌜ (now (labels .exit) ≡ evenly (set .0) (del .0) (add .0) (now (labels .entry)))
+        × (r ≡ told (set .0) (now (labels .entry)) (now (labels .exit))) ⌝ }
+{
+    let left = course & leaves(del, add);
+    if left == course {
+        return Stepped::Unchanged;
+    }
+    strip(&mut *labels, del.without(add), set.0);
+    spread(&mut *labels, add, set.0);
+    Stepped::Changed(left | brings(del, add))
+}
+
+// Whether the rows differ. No way leads out of the loop, so that it takes several words at a time.
+fn differ(xs: &[u64], ys: &[u64]) -> bool
+    requires { ⌜ (length (now xs) ≡ rowLength) × (length (now ys) ≡ rowLength) ⌝ }
+    ensures { λ r. ⌜ r ≡ fails (sameRows (now (xs .entry)) (now (ys .entry))) ⌝ }
+{
+    let mut differing = 0u64;
+    for p in 0..ROW {
+        differing = differing | (xs[p] ^ ys[p]);
+    }
+    differing != 0
+}
+
+// What a step did that made `labels` of `before`.
+fn tell(before: &[u64], labels: &[u64], set: States) -> Stepped
+    requires { ⌜ (length (now before) ≡ rowLength) × (length (now labels) ≡ rowLength) ⌝ }
+    ensures { λ r. ⌜ r ≡ told (set .0) (now (before .entry)) (now (labels .entry)) ⌝ }
+{
+    if differ(before, labels) {
+        return Stepped::Changed(course_of(labels, set));
+    }
+    Stepped::Unchanged
+}
+
+// A row as it is now.
+fn remember(labels: &[u64], before: &mut [u64])
+    requires { ⌜ (length (now labels) ≡ rowLength) × (length (now before) ≡ rowLength) ⌝ }
+    ensures { λ r. ⌜ now (before .exit) ≡ now (labels .entry) ⌝ }
+{
+    for p in 0..ROW {
+        before[p] = labels[p];
+    }
+}
+
+// These effects in every state of the set: each fires by what held before them all, all deletes are removed, then all adds joined. Those that fire in every
+// state of the set are done at once. Where some fire in some states only, the rows before and after are compared: a delete and an add may cancel out.
+fn apply(
     file: &[u8],
     c: Counts,
     by: u64,
     set: States,
+    course: u64,
     labels: &mut [u64],
+    before: &mut [u64],
     fired: &mut [u64],
-)
-    requires { ⌜ Taken (now file) c × (by < 2 ^ c .effects) × (length (now labels) ≡ rowLength) × (length (now fired) ≡ maxEffects) ⌝ }
-    ensures { λ r. ⌜ now (labels .exit) ≡ appliedIn (actionsOf (now (file .entry)) c) (set .0) by (now (labels .entry)) ⌝ }
+) -> Stepped
+    requires { ⌜ Taken (now file) c × (by < 2 ^ c .effects) × (length (now labels) ≡ rowLength) × (length (now before) ≡ rowLength)
+        × (length (now fired) ≡ maxEffects) × (course ≡ F.courseIn (set .0) (now labels)) ⌝ }
+    ensures { λ r. ⌜ (now (labels .exit) ≡ appliedIn (actionsOf (now (file .entry)) c) (set .0) by (now (labels .entry)))
+        × (r ≡ told (set .0) (now (labels .entry)) (now (labels .exit))) ⌝ }
 {
-    let did = fire(file, c, by, set, &*labels, &mut *fired);
+    let did = fire(file, c, by, set, course, &*labels, &mut *fired);
+    if did.some == 0 {
+        return apply_evenly(course, Props(did.del), Props(did.add), set, &mut *labels);
+    }
+    remember(&*labels, &mut *before);
     strip(&mut *labels, Props(did.del).without(Props(did.add)), set.0);
     remove_deletes(file, c, did.some, &*fired, &mut *labels);
     spread(&mut *labels, Props(did.add), set.0);
     join_adds(file, c, did.some, &*fired, &mut *labels);
-}
-
-// These effects in every state of the set. Most actions have none or one.
-fn apply(file: &[u8], c: Counts, by: u64, set: States, labels: &mut [u64], fired: &mut [u64])
-    requires { ⌜ Taken (now file) c × (by < 2 ^ c .effects) × (length (now labels) ≡ rowLength) × (length (now fired) ≡ maxEffects) ⌝ }
-    ensures { λ r. ⌜ now (labels .exit) ≡ appliedIn (actionsOf (now (file .entry)) c) (set .0) by (now (labels .entry)) ⌝ }
-{
-    if by == 0 {
-        return;
-    }
-    if others(by) == 0 {
-        apply_one(file, c, lowest(by), set, &mut *labels);
-        return;
-    }
-    apply_several(file, c, by, set, &mut *labels, &mut *fired);
+    tell(&*before, &*labels, set)
 }
 
 // An action in every state of the set, or in none, where some state of the set lacks its precondition.
@@ -198,22 +288,30 @@ fn step_effects(
     c: Counts,
     a: usize,
     set: States,
+    course: u64,
     owned: &[u64],
     labels: &mut [u64],
+    before: &mut [u64],
     fired: &mut [u64],
-) -> bool
-    requires { ⌜ Rooms (now file) c (now owned) (now labels) (now fired) × (a < c .actions) ⌝ }
-    ensures { λ r. ⌜ (r ≡ readyIn (actionsOf (now (file .entry)) c) (set .0) a (now (labels .entry)))
-        × (now (labels .exit) ≡ choose r (steppedIn (actionsOf (now (file .entry)) c) (set .0) a (now (labels .entry))) (now (labels .entry))) ⌝ }
+) -> Stepped
+    requires { ⌜ Rooms (now file) c (now owned) (now labels) (now before) (now fired) × (a < c .actions) × (course ≡ F.courseIn (set .0) (now labels)) ⌝ }
+    ensures { λ r. ⌜ (r ≡ answerIn (actionsOf (now (file .entry)) c) (set .0) a (now (labels .entry)))
+        × (now (labels .exit) ≡ choose (readyIn (actionsOf (now (file .entry)) c) (set .0) a (now (labels .entry)))
+        (steppedIn (actionsOf (now (file .entry)) c) (set .0) a (now (labels .entry))) (now (labels .entry))) ⌝ }
 {
-    if having(&*labels, set, Props(precondition(file, c, a))) != set.0 {
-        return false;
+    if course & wide(precondition(file, c, a)) != 0 {
+        return Stepped::Missing;
     }
-    apply(file, c, owned[a], set, labels, fired);
-    true
+    apply(file, c, owned[a], set, course, labels, before, fired)
 }
 
-// The steps of a list, up to the first that lacks its precondition: its index, or the list's length.
+// How many steps were made, and how many of them changed no state of the set.
+pub struct Gone {
+    pub made: usize,
+    pub idle: usize,
+}
+
+// The steps of a list, up to the first that lacks its precondition, or through all of them.
 pub fn walk_effects(
     file: &[u8],
     c: Counts,
@@ -221,21 +319,47 @@ pub fn walk_effects(
     list: &[u8],
     owned: &[u64],
     labels: &mut [u64],
+    before: &mut [u64],
     fired: &mut [u64],
-) -> usize
-    requires { ⌜ Rooms (now file) c (now owned) (now labels) (now fired) × Known (c .actions) (now list) ⌝ }
-    ensures { λ r. ⌜ (r ≡ firstLack (actionsOf (now (file .entry)) c) (set .0) (now (list .entry)) (now (labels .entry)))
-        × (now (labels .exit) ≡ labelsAt (actionsOf (now (file .entry)) c) (set .0) (now (list .entry)) (now (labels .entry)) r) ⌝ }
+) -> Gone
+    requires { ⌜ Rooms (now file) c (now owned) (now labels) (now before) (now fired) × Known (c .actions) (now list) ⌝ }
+    ensures { λ r. ⌜ (r .made ≡ firstLack (actionsOf (now (file .entry)) c) (set .0) (now (list .entry)) (now (labels .entry)))
+        × (r .idle ≡ idleAt (actionsOf (now (file .entry)) c) (set .0) (now (list .entry)) (now (labels .entry)) (r .made))
+        × (now (labels .exit) ≡ labelsAt (actionsOf (now (file .entry)) c) (set .0) (now (list .entry)) (now (labels .entry)) (r .made)) ⌝ }
 {
+    let mut course = course_of(&*labels, set);
+    let mut idle = 0;
     let mut i = 0;
     while i < list.len() {
         let a = byte(list, i);
-        if !step_effects(file, c, a, set, owned, &mut *labels, &mut *fired) {
-            return i;
-        }
+        let did = step_effects(
+            file,
+            c,
+            a,
+            set,
+            course,
+            owned,
+            &mut *labels,
+            &mut *before,
+            &mut *fired,
+        );
         i += 1;
+        if let Stepped::Unchanged = did {
+            idle += 1;
+            continue;
+        }
+        let Stepped::Changed(next) = did else {
+            return Gone {
+                made: i - 1,
+                idle: idle,
+            };
+        };
+        course = next;
     }
-    i
+    Gone {
+        made: i,
+        idle: idle,
+    }
 }
 
 // Just p, if the word has s.

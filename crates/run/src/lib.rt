@@ -5,8 +5,10 @@ mod step;
 use crate::fire::lay_labels;
 use crate::fire::read_owned;
 use crate::fire::walk_effects;
-use crate::step::Course;
-use crate::step::find_missing;
+use crate::step::brings;
+use crate::step::came;
+use crate::step::leaves;
+use crate::step::pack;
 use crate::step::walk;
 use graph::checks::check_output;
 use graph::checks::check_set;
@@ -30,36 +32,34 @@ use words::members::others;
 use words::sets::PROP_WIDTH;
 use words::sets::Props;
 use words::sets::States;
+use words::sets::wide;
 use words::tables::ROW;
 ghost use mathlib.Core.Path.{_≡_};
 ghost use mathlib.Core.Bool.{So};
-ghost use Prim.Native.Nat.{_≤_, _<_, max};
+ghost use Prim.Native.Nat.{_≤_, _<_, _^_, max};
 ghost use lib.ListN.{length, getD};
-ghost use Rattle.rules.specs.Test.{choose};
-ghost use Rattle.rules.specs.Word.{bit, first};
+ghost use Rattle.rules.specs.Word.{first};
 ghost use Rattle.rules.specs.Over as O;
-ghost use Rattle.rules.specs.Over.{meetOf};
+ghost use Rattle.rules.specs.Over.{meetOf, joinOf};
 ghost use Rattle.rules.specs.Lists.{listOver};
 ghost use Rattle.words.specs.Width.{propWidth, stateWidth};
 ghost use Rattle.words.specs.Memory.{putAt};
-ghost use Rattle.graph.specs.Verdict.{laid, written};
+ghost use Rattle.words.specs.Rows.{rowLength};
+ghost use Rattle.graph.specs.Verdict.{laid};
 ghost use Rattle.graph.specs.Format.{plain, actionsOf, startOf};
 ghost use Rattle.graph.specs.File.{Taken};
 ghost use Rattle.graph.specs.Checks.{checkVerdict};
 ghost use Rattle.graph.specs.Limits.{maxEffects};
 ghost use Rattle.run.specs.Fire.{Empty};
-ghost use Rattle.run.specs.Course.{Some, Checked, PerAction, came, spareOf, stayOf, setsOf};
-ghost use Rattle.run.specs.Run.{numbersRule, sequenceRule, endRule, runTaken, runRule, runVerdict};
+ghost use Rattle.run.specs.Course.{Some, Checked, PerAction, course, leavesOf, bringsOf, setsOf};
+ghost use Rattle.run.specs.Run.{numbersRule, sequenceRule, endRule, runTaken, runRule, idleSteps, reported, reportRule, runVerdict};
 
 // The longest list that a run takes.
 const MAX_STEPS: usize = 65535;
 
-// How many steps are walked before it is asked whether each had its precondition.
-const BLOCK: usize = 64;
-
-// The number of sets written, or why the run is turned away.
+// The number of sets written and that of idle steps, or why the run is turned away.
 pub enum RunAnswer {
-    Ran(usize),
+    Ran(usize, usize),
     Refused(Refusal),
 }
 
@@ -112,123 +112,155 @@ fn check_sequence(list: &[u8], actions: usize) -> Check
     check_numbers(list, actions)
 }
 
-// Version 1: what every state of the set starts with.
-fn shared_start(file: &[u8], c: Counts, set: States) -> Props
-    requires { ⌜ Taken (now file) c × Some (c .states) (set .0) ⌝ }
-    ensures { λ r. ⌜ r .0 ≡ meetOf (c .states) (set .0) (startOf (now (file .entry)) c) (first propWidth) ⌝ }
-{
-    let mut left = set.0;
-    let mut met = Props::first(PROP_WIDTH).0;
-    while 0 < left {
-        met = met & start(file, c, lowest(left));
-        left = others(left);
-    }
-    Props(met)
+// What all of several states have, and what some of them have.
+struct Shared {
+    all: u32,
+    some: u32,
 }
 
-// Version 1: what state s has in the end, if it started with x. One outside the set keeps that.
-fn state_end(x: u32, s: usize, set: States, course: Course) -> u32
-    requires { ⌜ s < stateWidth ⌝ }
-    ensures { λ r. ⌜ r ≡ choose (bit s (set .0)) (came course x) x ⌝ }
+// Version 1: of the start states of the set. Only the members cost time.
+fn shared_by_members(file: &[u8], c: Counts, set: States) -> Shared
+    requires { ⌜ Taken (now file) c × Some (c .states) (set .0) ⌝ }
+    ensures { λ r. ⌜ (r .all ≡ meetOf (c .states) (set .0) (startOf (now (file .entry)) c) (first propWidth))
+        × (r .some ≡ joinOf (c .states) (set .0) (startOf (now (file .entry)) c)) ⌝ }
 {
-    if !set.has(s) {
-        return x;
+    let mut left = set.0;
+    let mut all = Props::first(PROP_WIDTH).0;
+    let mut some = 0u32;
+    while 0 < left {
+        let x = start(file, c, lowest(left));
+        all = all & x;
+        some = some | x;
+        left = others(left);
     }
-    course.came(Props(x)).0
+    Shared {
+        all: all,
+        some: some,
+    }
+}
+
+// Version 1: of all start states. No word of the set is looked at, so that the loop takes several states at a time.
+fn shared_by_all(file: &[u8], c: Counts) -> Shared
+    requires { ⌜ Taken (now file) c ⌝ }
+    ensures { λ r. ⌜ (r .all ≡ meetOf (c .states) (first (c .states)) (startOf (now (file .entry)) c) (first propWidth))
+        × (r .some ≡ joinOf (c .states) (first (c .states)) (startOf (now (file .entry)) c)) ⌝ }
+{
+    let mut all = Props::first(PROP_WIDTH).0;
+    let mut some = 0u32;
+    for s in 0..c.states {
+        let x = start(file, c, s);
+        all = all & x;
+        some = some | x;
+    }
+    Shared {
+        all: all,
+        some: some,
+    }
+}
+
+// Version 1: what some state of the set lacks at the start, and above that what some state of it has.
+fn start_course(file: &[u8], c: Counts, set: States) -> u64
+    requires { ⌜ Taken (now file) c × Some (c .states) (set .0) ⌝ }
+    ensures { λ r. ⌜ r ≡ course (c .states) (set .0) (startOf (now (file .entry)) c) ⌝ }
+{
+    let shared = if set.0 == States::first(c.states).0 {
+        shared_by_all(file, c)
+    } else {
+        shared_by_members(file, c, set)
+    };
+    pack(
+        Props::first(PROP_WIDTH).without(Props(shared.all)),
+        Props(shared.some),
+    )
+}
+
+// Version 1: the states of the set move, the others keep what they started with.
+fn move_members(set: States, course: u64, out: &mut [u32])
+    requires { ⌜ (set .0 < 2 ^ length (now out)) × (length (now out) ≤ stateWidth) ⌝ }
+    ensures { λ r. ⌜ now (out .exit) ≡ setsOf (length (now (out .entry))) (λ s. getD (now (out .entry)) s 0) (set .0) course ⌝ }
+{
+    let mut left = set.0;
+    while 0 < left {
+        let s = lowest(left);
+        out[s] = came(course, Props(out[s])).0;
+        left = others(left);
+    }
 }
 
 // Version 1: the end sets of all states, at the front of the output.
-fn lay(file: &[u8], c: Counts, set: States, course: Course, out: &mut [u32])
-    requires { ⌜ Taken (now file) c × (c .states ≤ length (now out)) ⌝ }
+fn lay(file: &[u8], c: Counts, set: States, course: u64, out: &mut [u32])
+    requires { ⌜ Taken (now file) c × Some (c .states) (set .0) × (c .states ≤ length (now out)) ⌝ }
     ensures { λ r. ⌜ now (out .exit) ≡ putAt 0 (setsOf (c .states) (startOf (now (file .entry)) c) (set .0) course) (now (out .entry)) ⌝ }
 {
-    for s in 0..c.states {
-        out[s] = state_end(start(file, c, s), s, set, course);
-    }
+    lay_starts(file, c, &mut *out);
+    move_members(set, course, &mut out[..c.states]);
 }
 
-// Version 1: of each action what the steps go by, all that it does not need, what it lets stay, and what it adds.
-fn read_steps(file: &[u8], c: Counts, spares: &mut [u32], stays: &mut [u32], pluses: &mut [u32])
-    requires { ⌜ Taken (now file) c × So (plain c) × PerAction (c .actions) (now spares) (now stays) (now pluses) ⌝ }
-    ensures { λ r. ⌜ (now (spares .exit) ≡ listOver (c .actions) (spareOf (actionsOf (now (file .entry)) c)))
-        × (now (stays .exit) ≡ listOver (c .actions) (stayOf (actionsOf (now (file .entry)) c)))
-        × (now (pluses .exit) ≡ listOver (c .actions) (actionsOf (now (file .entry)) c .add)) ⌝ }
+// Version 1: of each action what the steps go by, what it needs, what it leaves and what it brings.
+fn read_steps(file: &[u8], c: Counts, needs: &mut [u64], leave: &mut [u64], bring: &mut [u64])
+    requires { ⌜ Taken (now file) c × So (plain c) × PerAction (c .actions) (now needs) (now leave) (now bring) ⌝ }
+    ensures { λ r. ⌜ (now (needs .exit) ≡ listOver (c .actions) (actionsOf (now (file .entry)) c .pre))
+        × (now (leave .exit) ≡ listOver (c .actions) (leavesOf (actionsOf (now (file .entry)) c)))
+        × (now (bring .exit) ≡ listOver (c .actions) (bringsOf (actionsOf (now (file .entry)) c))) ⌝ }
 {
-    for a in 0..spares.len() {
-        let all = Props::first(PROP_WIDTH);
-        spares[a] = all.without(Props(precondition(file, c, a))).0;
-        stays[a] = all.without(Props(deleted(file, c, a))).0;
-        pluses[a] = added(file, c, a);
+    for a in 0..needs.len() {
+        let del = Props(deleted(file, c, a));
+        let add = Props(added(file, c, a));
+        needs[a] = wide(precondition(file, c, a));
+        leave[a] = leaves(del, add);
+        bring[a] = brings(del, add);
     }
 }
 
-// Where the block of steps ends that begins at `at`.
-fn block_end(at: usize, steps: usize) -> usize
-    requires { ⌜ at < steps ⌝ }
-    ensures { λ r. ⌜ (at < r) × (r ≤ steps) ⌝ }
-{
-    if steps - at < BLOCK {
-        return steps;
-    }
-    at + BLOCK
-}
-
-// Version 1: the run, through memory for the actions' words, block by block, and a block with a step that lacks its precondition once more, step by step.
-// The output is written once the list has ended.
+// Version 1: the run, through memory for the actions' words. The output is written once the list has ended.
 fn run_in(
     file: &[u8],
     c: Counts,
     set: States,
     list: &[u8],
-    spares: &mut [u32],
-    stays: &mut [u32],
-    pluses: &mut [u32],
+    needs: &mut [u64],
+    leave: &mut [u64],
+    bring: &mut [u64],
     out: &mut [u32],
 ) -> RunAnswer
-    requires { ⌜ Checked (now file) c (set .0) (now list) (now out) × So (plain c) × PerAction (c .actions) (now spares) (now stays) (now pluses) ⌝ }
-    ensures { λ r. ⌜ (runVerdict r ≡ written (endRule (now (file .entry)) c (set .0) (now (list .entry))))
+    requires { ⌜ Checked (now file) c (set .0) (now list) (now out) × So (plain c) × PerAction (c .actions) (now needs) (now leave) (now bring) ⌝ }
+    ensures { λ r. ⌜ (runVerdict r ≡ reported (idleSteps (now (file .entry)) c (set .0) (now (list .entry))) (endRule (now (file .entry)) c (set .0) (now (list .entry))))
         × (now (out .exit) ≡ laid (endRule (now (file .entry)) c (set .0) (now (list .entry))) (now (out .entry))) ⌝ }
 {
-    read_steps(file, c, &mut *spares, &mut *stays, &mut *pluses);
-    let mut course = Course::new(shared_start(file, c, set));
-    let mut at = 0;
-    while at < list.len() {
-        let end = block_end(at, list.len());
-        let did = walk(&list[at..end], &*spares, &*stays, &*pluses, course);
-        if did.held != Props::first(PROP_WIDTH).0 {
-            let i = find_missing(&list[at..end], &*spares, &*stays, &*pluses, course);
-            return RunAnswer::Refused(Refusal::Precondition(at + i));
-        }
-        course = did.course;
-        at = end;
+    read_steps(file, c, &mut *needs, &mut *leave, &mut *bring);
+    let from = start_course(file, c, set);
+    let did = walk(list, &*needs, &*leave, &*bring, from);
+    if did.made < list.len() {
+        return RunAnswer::Refused(Refusal::Precondition(did.made));
     }
-    lay(file, c, set, course, &mut *out);
-    RunAnswer::Ran(c.states)
+    lay(file, c, set, did.course, &mut *out);
+    RunAnswer::Ran(c.states, did.idle)
 }
 
 // Version 1: the run, once every check is passed.
 fn run_plain(file: &[u8], c: Counts, set: States, list: &[u8], out: &mut [u32]) -> RunAnswer
     requires { ⌜ Checked (now file) c (set .0) (now list) (now out) × So (plain c) ⌝ }
-    ensures { λ r. ⌜ (runVerdict r ≡ written (endRule (now (file .entry)) c (set .0) (now (list .entry))))
+    ensures { λ r. ⌜ (runVerdict r ≡ reported (idleSteps (now (file .entry)) c (set .0) (now (list .entry))) (endRule (now (file .entry)) c (set .0) (now (list .entry))))
         × (now (out .exit) ≡ laid (endRule (now (file .entry)) c (set .0) (now (list .entry))) (now (out .entry))) ⌝ }
 {
     let a = c.actions;
-    let mut spares = [0u32; MAX_ACTIONS];
-    let mut stays = [0u32; MAX_ACTIONS];
-    let mut pluses = [0u32; MAX_ACTIONS];
+    let mut needs = [0u64; MAX_ACTIONS];
+    let mut leave = [0u64; MAX_ACTIONS];
+    let mut bring = [0u64; MAX_ACTIONS];
     run_in(
         file,
         c,
         set,
         list,
-        &mut spares[..a],
-        &mut stays[..a],
-        &mut pluses[..a],
+        &mut needs[..a],
+        &mut leave[..a],
+        &mut bring[..a],
         out,
     )
 }
 
-// Version 2: the run, through memory for the effects of each action, for the states that have each proposition, and for those in which each effect fires.
+// Version 2: the run, through memory for the effects of each action, for the states that have each proposition, now and before a step, and for those in
+// which each effect fires.
 // The output is written once the list has ended.
 fn run_effects_in(
     file: &[u8],
@@ -237,31 +269,43 @@ fn run_effects_in(
     list: &[u8],
     owned: &mut [u64],
     labels: &mut [u64],
+    before: &mut [u64],
     fired: &mut [u64],
     out: &mut [u32],
 ) -> RunAnswer
-    requires { ⌜ Checked (now file) c (set .0) (now list) (now out) × Empty (now owned) × Empty (now labels) × (length (now fired) ≡ maxEffects) ⌝ }
-    ensures { λ r. ⌜ (runVerdict r ≡ written (endRule (now (file .entry)) c (set .0) (now (list .entry))))
+    requires { ⌜ Checked (now file) c (set .0) (now list) (now out) × Empty (now owned) × Empty (now labels) × (length (now before) ≡ rowLength)
+        × (length (now fired) ≡ maxEffects) ⌝ }
+    ensures { λ r. ⌜ (runVerdict r ≡ reported (idleSteps (now (file .entry)) c (set .0) (now (list .entry))) (endRule (now (file .entry)) c (set .0) (now (list .entry))))
         × (now (out .exit) ≡ laid (endRule (now (file .entry)) c (set .0) (now (list .entry))) (now (out .entry))) ⌝ }
 {
     read_owned(file, c, &mut *owned);
     start_labels(file, c, &mut *labels);
-    let i = walk_effects(file, c, set, list, &*owned, &mut *labels, &mut *fired);
-    if i < list.len() {
-        return RunAnswer::Refused(Refusal::Precondition(i));
+    let did = walk_effects(
+        file,
+        c,
+        set,
+        list,
+        &*owned,
+        &mut *labels,
+        &mut *before,
+        &mut *fired,
+    );
+    if did.made < list.len() {
+        return RunAnswer::Refused(Refusal::Precondition(did.made));
     }
     lay_labels(&*labels, c.states, &mut *out);
-    RunAnswer::Ran(c.states)
+    RunAnswer::Ran(c.states, did.idle)
 }
 
 // Version 2: the run, once every check is passed.
 fn run_effects(file: &[u8], c: Counts, set: States, list: &[u8], out: &mut [u32]) -> RunAnswer
     requires { ⌜ Checked (now file) c (set .0) (now list) (now out) ⌝ }
-    ensures { λ r. ⌜ (runVerdict r ≡ written (endRule (now (file .entry)) c (set .0) (now (list .entry))))
+    ensures { λ r. ⌜ (runVerdict r ≡ reported (idleSteps (now (file .entry)) c (set .0) (now (list .entry))) (endRule (now (file .entry)) c (set .0) (now (list .entry))))
         × (now (out .exit) ≡ laid (endRule (now (file .entry)) c (set .0) (now (list .entry))) (now (out .entry))) ⌝ }
 {
     let mut owned = [0u64; ROW];
     let mut labels = [0u64; ROW];
+    let mut before = [0u64; ROW];
     let mut fired = [0u64; MAX_EFFECTS];
     run_effects_in(
         file,
@@ -270,6 +314,7 @@ fn run_effects(file: &[u8], c: Counts, set: States, list: &[u8], out: &mut [u32]
         list,
         &mut owned[..],
         &mut labels[..],
+        &mut before[..],
         &mut fired[..],
         out,
     )
@@ -278,12 +323,12 @@ fn run_effects(file: &[u8], c: Counts, set: States, list: &[u8], out: &mut [u32]
 // The run, once every check is passed. Without a step nothing else need be read.
 fn run_passed(file: &[u8], c: Counts, set: States, list: &[u8], out: &mut [u32]) -> RunAnswer
     requires { ⌜ Checked (now file) c (set .0) (now list) (now out) ⌝ }
-    ensures { λ r. ⌜ (runVerdict r ≡ written (endRule (now (file .entry)) c (set .0) (now (list .entry))))
+    ensures { λ r. ⌜ (runVerdict r ≡ reported (idleSteps (now (file .entry)) c (set .0) (now (list .entry))) (endRule (now (file .entry)) c (set .0) (now (list .entry))))
         × (now (out .exit) ≡ laid (endRule (now (file .entry)) c (set .0) (now (list .entry))) (now (out .entry))) ⌝ }
 {
     if list.len() == 0 {
         lay_starts(file, c, &mut *out);
-        return RunAnswer::Ran(c.states);
+        return RunAnswer::Ran(c.states, 0);
     }
     if c.version == PLAIN_VERSION {
         return run_plain(file, c, set, list, &mut *out);
@@ -294,7 +339,7 @@ fn run_passed(file: &[u8], c: Counts, set: States, list: &[u8], out: &mut [u32])
 // The caller's checks over a file that was taken, then the run.
 fn run_taken(file: &[u8], c: Counts, set: States, list: &[u8], out: &mut [u32]) -> RunAnswer
     requires { ⌜ Taken (now file) c ⌝ }
-    ensures { λ r. ⌜ (runVerdict r ≡ written (runTaken (now (file .entry)) c (set .0) (now (list .entry)) (length (now (out .entry)))))
+    ensures { λ r. ⌜ (runVerdict r ≡ reported (idleSteps (now (file .entry)) c (set .0) (now (list .entry))) (runTaken (now (file .entry)) c (set .0) (now (list .entry)) (length (now (out .entry)))))
         × (now (out .exit) ≡ laid (runTaken (now (file .entry)) c (set .0) (now (list .entry)) (length (now (out .entry)))) (now (out .entry))) ⌝ }
 {
     let check = check_set(c.states, set);
@@ -312,9 +357,9 @@ fn run_taken(file: &[u8], c: Counts, set: States, list: &[u8], out: &mut [u32]) 
     run_passed(file, c, set, list, &mut *out)
 }
 
-// Runs the list from each state of the set, and writes the N end sets at the front of the output.
+// Runs the list from each state of the set, writes the N end sets at the front of the output, and counts the idle steps.
 pub fn run(file: &[u8], set: States, list: &[u8], out: &mut [u32]) -> RunAnswer
-    ensures { λ r. ⌜ (runVerdict r ≡ written (runRule (now (file .entry)) (set .0) (now (list .entry)) (length (now (out .entry)))))
+    ensures { λ r. ⌜ (runVerdict r ≡ reportRule (now (file .entry)) (set .0) (now (list .entry)) (length (now (out .entry))))
         × (now (out .exit) ≡ laid (runRule (now (file .entry)) (set .0) (now (list .entry)) (length (now (out .entry)))) (now (out .entry))) ⌝ }
 {
     let taken = check_file(file);

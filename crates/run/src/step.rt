@@ -1,108 +1,87 @@
-// Version 1: one action, carried out in every state of a set at once. Its one effect adds and deletes the same in each, so what was done is told once for all.
+// Version 1: a list of actions, carried out in every state of a set at once. The one effect of an action adds and deletes the same in each of them, so one
+// word tells what all have become: below what some state of the set lacks, above what some state of it has.
 use graph::file::byte;
 use words::sets::PROP_WIDTH;
 use words::sets::Props;
+use words::sets::wide;
 ghost use mathlib.Core.Path.{_≡_};
-ghost use Rattle.rules.specs.Word.{first};
-ghost use Rattle.words.specs.Width.{propWidth};
 ghost use Rattle.run.specs.Course as C;
 
-// What the steps so far have done: what each state of the set keeps of its start, and what all of them have now.
-pub struct Course {
-    pub now: u32,
-    pub kept: u32,
-}
+// All that a word of 64 has.
+const ALL: u64 = 0xffff_ffff_ffff_ffff;
 
-impl Course {
-    // Before the first step; `sure` is what all states of the set start with.
-    pub fn new(sure: Props) -> Course
-        ensures { λ r. ⌜ (r .kept ≡ first propWidth) × (r .now ≡ sure .0) ⌝ }
-    {
-        Course {
-            kept: Props::first(PROP_WIDTH).0,
-            now: sure.0,
-        }
-    }
-
-    // What a state of the set has now, if it started with x.
-    pub fn came(self, x: Props) -> Props
-        ensures { λ r. ⌜ r .0 ≡ C.came self (x .0) ⌝ }
-    {
-        x.common(Props(self.kept)).union(Props(self.now))
-    }
-
-    // One step more, of an action that lets `stay` stay and then adds `plus`: an add wins over a delete.
-    pub fn further(self, stay: u32, plus: u32) -> Course
-        ensures { λ r. ⌜ r ≡ C.further stay plus self ⌝ }
-    {
-        Course {
-            now: (self.now & stay) | plus,
-            kept: self.kept & stay,
-        }
-    }
-}
-
-// What a step did: nothing, because some state of the set lacks its precondition, or it moved the states of the set.
-pub enum Stepped {
-    Missing,
-    Moved(Course),
-}
-
-// An action in every state of the set, or in none; `spare` is all that it does not need.
-fn step(course: Course, spare: u32, stay: u32, plus: u32) -> Stepped
-    ensures { λ r. ⌜ r ≡ C.stepAnswer course spare stay plus ⌝ }
+// Two sets of propositions in one word: the first below, the second above it.
+pub fn pack(low: Props, high: Props) -> u64
+    ensures { λ r. ⌜ r ≡ C.pack (low .0) (high .0) ⌝ }
 {
-    if course.now | spare != Props::first(PROP_WIDTH).0 {
-        return Stepped::Missing;
-    }
-    Stepped::Moved(course.further(stay, plus))
+    wide(low.0) | (wide(high.0) << PROP_WIDTH)
 }
 
-// Where many steps led, whether or not they had their preconditions: `held` is full just when they had.
+// What deletes and adds in every state of the set leave of the word.
+pub fn leaves(del: Props, add: Props) -> u64
+    ensures { λ r. ⌜ r ≡ C.leaves (del .0) (add .0) ⌝ }
+{
+    ALL - pack(add, del.without(add))
+}
+
+// What they bring: an add wins over a delete.
+pub fn brings(del: Props, add: Props) -> u64
+    ensures { λ r. ⌜ r ≡ C.brings (del .0) (add .0) ⌝ }
+{
+    pack(del.without(add), add)
+}
+
+// What a state of the set has now, if it started with x.
+pub fn came(course: u64, x: Props) -> Props
+    ensures { λ r. ⌜ r .0 ≡ C.came course (x .0) ⌝ }
+{
+    let some = Props((course >> PROP_WIDTH) as u32);
+    let lacked = (course % (1u64 << PROP_WIDTH)) as u32;
+    x.common(some).union(Props(0xffff_ffff - lacked))
+}
+
+// 1 for a step that leaves all of the word. What is left is never more, and so compared costs least.
+fn still(course: u64, left: u64) -> usize
+    ensures { λ r. ⌜ r ≡ C.still course left ⌝ }
+{
+    if course <= left { 1 } else { 0 }
+}
+
+// Where the steps of a list led: up to the first that lacks its precondition, or through all of them.
 pub struct Walked {
-    pub course: Course,
-    pub held: u32,
+    pub course: u64,
+    pub made: usize,
+    pub idle: usize,
 }
 
-// The steps of a list. No way leads out of the loop, so that a step costs a few operations.
-pub fn walk(list: &[u8], spares: &[u32], stays: &[u32], pluses: &[u32], from: Course) -> Walked
-    requires { ⌜ C.Tables (now spares) (now stays) (now pluses) (now list) ⌝ }
-    ensures { λ r. ⌜ C.Walks (now (spares .entry)) (now (stays .entry)) (now (pluses .entry)) (now (list .entry)) from r ⌝ }
+// The steps of a list. Whether a step was idle is asked in the next turn, of what is at hand by then: so asked it costs two instructions.
+pub fn walk(list: &[u8], needs: &[u64], leave: &[u64], bring: &[u64], from: u64) -> Walked
+    requires { ⌜ C.Tables (now needs) (now leave) (now bring) (now list) ⌝ }
+    ensures { λ r. ⌜ C.Walks (now (needs .entry)) (now (leave .entry)) (now (bring .entry)) (now (list .entry)) from r ⌝ }
 {
     let mut course = from;
-    let mut held = Props::first(PROP_WIDTH).0;
-    for i in 0..list.len() {
+    let mut before = 1u64;
+    let mut left = 0u64;
+    let mut idle = 0;
+    let mut i = 0;
+    while i < list.len() {
+        idle = idle + still(before, left);
         let a = byte(list, i);
-        held = held & (course.now | spares[a]);
-        course = course.further(stays[a], pluses[a]);
+        if course & needs[a] != 0 {
+            return Walked {
+                course: course,
+                made: i,
+                idle: idle,
+            };
+        }
+        before = course;
+        left = course & leave[a];
+        course = left | bring[a];
+        i += 1;
     }
     Walked {
         course: course,
-        held: held,
+        made: i,
+        idle: idle + still(before, left),
     }
-}
-
-// The first step of a list that lacks its precondition, or the list's length.
-pub fn find_missing(
-    list: &[u8],
-    spares: &[u32],
-    stays: &[u32],
-    pluses: &[u32],
-    from: Course,
-) -> usize
-    requires { ⌜ C.Tables (now spares) (now stays) (now pluses) (now list) ⌝ }
-    ensures { λ r. ⌜ C.Stops (now (spares .entry)) (now (stays .entry)) (now (pluses .entry)) (now (list .entry)) from r ⌝ }
-{
-    let mut course = from;
-    let mut i = 0;
-    while i < list.len() {
-        let a = byte(list, i);
-        let did = step(course, spares[a], stays[a], pluses[a]);
-        let Stepped::Moved(next) = did else {
-            return i;
-        };
-        course = next;
-        i += 1;
-    }
-    i
 }

@@ -77,25 +77,29 @@ module _ (file : List ℕ) {c : Counts} (taken : fileRule file ≡ accepted c) (
     goals = goals;
   }
 
--- and the run call accepts each list that reaches the goal, if it is short enough
-module _ {file : List ℕ} {c : Counts} (taken : fileRule file ≡ accepted c) {set goal : ℕ} (some : StatesOf c set) {list : List ℕ}
-    (r : Reaches file c set goal list) (room : ℕ) (enough : c .states ≤ room) (short : length list ≤ maxSteps) where
+-- a list that runs, of the file's actions and short enough, is accepted
+module _ (file : List ℕ) {c : Counts} (taken : fileRule file ≡ accepted c) {set : ℕ} (some : StatesOf c set) (list : List ℕ)
+    (known : (i : ℕ) → i < length list → getD list i 0 < c .actions) (room : ℕ) (enough : c .states ≤ room) (short : length list ≤ maxSteps) where
   numbers-pass : sequenceRule (c .actions) list ≡ accepted tt
   unfolding sequenceRule
   numbers-pass =
       choose-failed _ _ (is-fails (below-not short))
       ∙ sym (none-unknown (c .actions) list (length list)
-      (record { within = omega arith; is = λ k h. below-of (r .known k h) }) (omega arith))
+      (record { within = omega arith; is = λ k h. below-of (known k h) }) (omega arith))
 
-  pub run-accepts : (ends : List ℕ) × (runRule file set list room ≡ accepted ends) × EndsWith set goal ends
+  pub runs-accepted : {ends : List ℕ} → runOf (actionsOf file c) (c .states) (startOf file c) set list ≡ ended ends
+      → runRule file set list room ≡ accepted ends
   unfolding runRule runTaken endRule ranVerdict
-  run-accepts =
-      let (ends, ran, goals) = reaches-runs some r in (
-        ends,
-        then-accepted (fileRule file) _ c taken
-            ∙ then-accepted _ _ tt (sym (some-states (c .states) set (same-not (some .some)) (some .few)))
-            ∙ then-accepted _ _ tt (sym (long-output (c .states) room enough))
-            ∙ then-accepted _ _ tt numbers-pass
-            ∙ ap ranVerdict ran,
-        goals,
-      )
+  runs-accepted ran =
+      then-accepted (fileRule file) _ c taken
+      ∙ then-accepted _ _ tt (sym (some-states (c .states) set (same-not (some .some)) (some .few)))
+      ∙ then-accepted _ _ tt (sym (long-output (c .states) room enough))
+      ∙ then-accepted _ _ tt numbers-pass
+      ∙ ap ranVerdict ran
+
+-- so the run call accepts each list that reaches the goal, if it is short enough
+pub run-accepts : {file : List ℕ} {c : Counts} → fileRule file ≡ accepted c → {set goal : ℕ} → StatesOf c set → {list : List ℕ}
+    → Reaches file c set goal list → (room : ℕ) → c .states ≤ room → length list ≤ maxSteps
+    → (ends : List ℕ) × (runRule file set list room ≡ accepted ends) × EndsWith set goal ends
+run-accepts {file} taken some {list} r room enough short =
+    let (ends, ran, goals) = reaches-runs some r in (ends, runs-accepted file taken some list (r .known) room enough short ran, goals)

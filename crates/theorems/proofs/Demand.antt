@@ -1,13 +1,13 @@
 -- What the calls promise together, of what they answer and write themselves: for every accepted file, every depth and memory that the build accepts,
 -- every goal over the file's propositions and every non-empty set S of its states, on memory that begins with the words which the build writes.
 -- A call's answer and memory are what its rule says (buildRule and countRule, withinRule and countWithin, extractRule, levelRule, levelsRule, shareRule,
--- runRule, planRule). The setting is that of Setting.
+-- runRule and reportRule, planRule). The setting is that of Setting.
 -- What is said of a page of goals (pageRule) holds on any memory, and what is said of equal actions and of effects without an action of any file.
 -- Assumes nothing.
 use mathlib.Core.Path.{_≡_, ap, _∙_}
 use mathlib.Core.Bool.{So}
-use mathlib.Core.List.{List}
-use Prim.Native.Nat.{ℕ, _+_, _*_, _^_, _≤_, _<_}
+use mathlib.Core.List.{List, _∷_, _++_}
+use Prim.Native.Nat.{ℕ, suc, _+_, _*_, _^_, _≤_, _<_}
 use lib.ListN.{length, getD}
 use Rattle.rules.specs.Test.{_or_}
 use Rattle.rules.specs.Word.{bit, common, union, without, single, first, within}
@@ -20,7 +20,7 @@ use Rattle.rules.proofs.Scans.{scanned-left, scanned-none, looked-all, all-look
 use Rattle.rules.specs.Level.{Level, level, never, notByDepth}
 use Rattle.rules.specs.Share.{Share, weightOf, total, enough}
 use Rattle.rules.specs.Extract.{rank}
-use Rattle.rules.specs.Run.{after}
+use Rattle.rules.specs.Run.{after, idle}
 use Rattle.rules.specs.Plan.{relaxedRun}
 use Rattle.rules.specs.Agreement.{OneState}
 use Rattle.graph.specs.Limits.{maxDepth}
@@ -34,7 +34,7 @@ use Rattle.within.specs.Rule.{possibleRule, withinRule, countWithin, Levels, le
 use Rattle.share.specs.Rule.{weightsRule, shareRule}
 use Rattle.page.specs.Rule.{entryOf, pageRule}
 use Rattle.extract.specs.Rule.{extractRule, statesOf}
-use Rattle.run.specs.Run.{maxSteps, runRule}
+use Rattle.run.specs.Run.{maxSteps, runRule, Reported, idleSteps, reportRule}
 use Rattle.plan.specs.Plan.{planRule}
 use Rattle.plan.proofs.Built.{plan-accepted}
 use Rattle.theorems.specs.Setting.{Exactly, Found, StatesOf, GoalOf, Each, alone, Largest, EndsWith, Reaches, saidBy, EqualPair, FirstPair}
@@ -53,6 +53,7 @@ use Rattle.theorems.proofs.Effects as effects
 use Rattle.theorems.proofs.Looks as scans
 use Rattle.theorems.proofs.Within as lists
 use Rattle.theorems.proofs.Shares as shares
+use Rattle.theorems.proofs.Idles as idles
 
 -- the memory after an accepted build is of this setting
 pub build-leaves : (file : List ℕ) (c : Counts) (depth : ℕ) (memory words : List ℕ) → fileRule file ≡ accepted c
@@ -465,3 +466,59 @@ module _ (file : List ℕ) (c : Counts) (depth : ℕ) (found : List ℕ) (built 
 
         pub share-depth-bound : shareRule file depth goal share found ≡ accepted notByDepth → depth < length list
         share-depth-bound = shares.share-depth built over right some heavy reaches
+
+-- ---- 13: idle steps
+
+-- In files of either version. A step of action a is idle for S where the states have the sets xs (idle) if it 'changed none' of the states of S.
+module _ (file : List ℕ) (c : Counts) (set a : ℕ) (xs : List ℕ) where
+  -- It is exactly when each state of S has after the step what it had before.
+  pub idle-exactly : StatesOf c set
+      → Exactly (So (idle (actionsOf file c) (c .states) set a xs)) (Each set (λ s. after (actionsOf file c) a (getD xs s 0) ≡ getD xs s 0))
+  idle-exactly = idles.exactly file c set a xs
+
+  -- So it is exactly when it is idle for each state of S alone ..
+  pub idle-members : Exactly (So (idle (actionsOf file c) (c .states) set a xs)) (Each set (λ s. So (idle (actionsOf file c) (c .states) (single s) a xs)))
+  idle-members = idles.members file c set a xs
+
+  -- .. and what the states outside S have does not count.
+  pub idle-in-set : (ys : List ℕ) → Each set (λ s. getD xs s 0 ≡ getD ys s 0)
+      → idle (actionsOf file c) (c .states) set a xs ≡ idle (actionsOf file c) (c .states) set a ys
+  idle-in-set = idles.in-set file c set a xs
+
+-- A list has at most as many idle steps as steps.
+pub idle-bound : (file : List ℕ) (c : Counts) (set : ℕ) (list : List ℕ) → idleSteps file c set list ≤ length list
+idle-bound = idles.bound
+
+-- 'A refused run reports no number': it answers its cause and place, and only such a one does.
+pub refused-no-number : (file : List ℕ) (set : ℕ) (list : List ℕ) (room number place : ℕ)
+    → Exactly (runRule file set list room ≡ refused number place) (reportRule file set list room ≡ refused number place)
+refused-no-number = idles.refused-exactly
+
+module _ (file : List ℕ) (c : Counts) (taken : fileRule file ≡ accepted c) (set room : ℕ) where
+  -- An accepted run answers how many sets it wrote, and with them 'the number of idle ones'.
+  pub run-reports : (list ends : List ℕ) → runRule file set list room ≡ accepted ends
+      → reportRule file set list room ≡ accepted (record { sets = length ends; idle = idleSteps file c set list })
+  run-reports list ends = idles.reports file taken set list room
+
+  -- A step that comes behind the front of a list, and is idle where that ends:
+  module _ (front back : List ℕ) (a : ℕ) (mid : List ℕ) (came : runRule file set front room ≡ accepted mid)
+      (still : So (idle (actionsOf file c) (c .states) set a mid)) where
+    -- left out, the end sets are the same, of all states, and the number is one less ..
+    pub idle-left-out : (ends : List ℕ) → runRule file set (front ++ a ∷ back) room ≡ accepted ends
+        → (runRule file set (front ++ back) room ≡ accepted ends) × (idleSteps file c set (front ++ a ∷ back) ≡ suc (idleSteps file c set (front ++ back)))
+    idle-left-out ends e = (idles.left-out file taken set room front back a came still e, idles.one-less file taken set room front back a came still)
+
+    -- .. and so it is reported.
+    pub idle-one-less : (r : Reported) → reportRule file set (front ++ a ∷ back) room ≡ accepted r
+        → (r' : Reported) × (reportRule file set (front ++ back) room ≡ accepted r') × (r' .sets ≡ r .sets) × (r .idle ≡ suc (r' .idle))
+    idle-one-less = idles.report-less file taken set room front back a came still
+
+  module _ (list ends : List ℕ) (ran : runRule file set list room ≡ accepted ends) where
+    -- Where all steps are idle, each state of the file ends as it started.
+    pub no-change : idleSteps file c set list ≡ length list → (s : ℕ) → s < c .states → getD ends s 0 ≡ startOf file c s
+    no-change = idles.no-change file taken set room list ran
+
+    -- 'Authors trim their sequences': there is a list with the same end sets and no idle step, and it has as many steps as this one has that are not idle.
+    pub trimmed : (left : List ℕ) × (runRule file set left room ≡ accepted ends) × (idleSteps file c set left ≡ 0)
+        × (length left + idleSteps file c set list ≡ length list)
+    trimmed = idles.trimmed file taken set room list ran

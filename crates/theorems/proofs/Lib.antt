@@ -12,4 +12,5 @@ pub mod Effects
 pub mod Looks
 pub mod Within
 pub mod Shares
+pub mod Idles
 pub mod Demand

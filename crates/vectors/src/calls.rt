@@ -308,7 +308,7 @@ fn call_plan(file: &[u8], row: &[u8], graph: &[u64], out: &mut [u32]) -> Outcome
 
 fn call_run(file: &[u8], row: &[u8], list: &[u8], out: &mut [u32]) -> Outcome {
     match run::run(file, states(row), list, out) {
-        RunAnswer::Ran(n) => said(a::RAN, n),
+        RunAnswer::Ran(n, idle) => said_both(a::RAN, n, idle),
         RunAnswer::Refused(why) => refused(why),
     }
 }

@@ -2,7 +2,7 @@
 use borrow.Author.Needs.{needs}
 use Rattle.run.specs.Run.{runVerdict}
 use Rattle.graph.proofs.Verdicts.{told}
-use Rattle.mogzift.specs.Answer.{countSays}
+use Rattle.mogzift.specs.Answer.{runSays}
 use Rattle.mogzift.proofs.Tells.{tells-accepted, tells-refused, with-memory}
 use Rattle.mogzift.proofs.mogzift_run.Statement.{statement}
 use Rattle.mogzift.proofs.mogzift_run.Tie as tie
@@ -28,7 +28,7 @@ same-length c = search needs
 returns : tie.Need-returns
 returns c =
     with-memory
-    (tells-accepted countSays _
+    (tells-accepted runSays _
     (told runVerdict (c .before .before .before .before .before .before .before .run .ensures .0) (c .before .before .before .count .given .1))
     (c .tell .ensures))
     (c .before .before .before .before .before .before .before .run .ensures .1)
@@ -39,7 +39,7 @@ same-length-2 c = search needs
 returns-2 : tie.Need-returns-2
 returns-2 c =
     with-memory
-    (tells-refused countSays _ _
+    (tells-refused runSays _ _
     (told runVerdict (c .before .before .before .before .before .before .before .run .ensures .0) (c .before .before .before .why .given .1))
     (c .tell-refusal .ensures))
     (c .before .before .before .before .before .before .before .run .ensures .1)

@@ -1,70 +1,49 @@
--- `lay` meets its contract: the loop writes one set after the other.
-use Rattle.words.proofs.Writes.{Lists, list-none, list-more, list-done}
-use Rattle.graph.specs.Format.{startOf}
-use Rattle.rules.specs.Word.{bit}
-use Rattle.rules.specs.Test.{choose}
-use Rattle.run.specs.Course.{came, setsOf}
-use borrow.Author.Needs.{needs as simple}
+-- The start sets are laid first, then those of the set are moved where they lie.
+use borrow.Author.Needs.{needs}
+use Prim.Native.Nat.{ℕ, _<_, _^_}
+use mathlib.Core.Path.{sym, subst}
 use native.Mathlib.Omega.{arith}
-use native.Mathlib.Nat.{zero-add}
-use Prim.Native.Nat.{ℕ, _-_}
-use mathlib.Core.Path.{sym, ap, _∙_}
+use Rattle.graph.specs.Format.{startOf}
+use Rattle.run.proofs.Starts.{lent-long, laid-sets}
 use Rattle.run.proofs.lay.Statement.{statement}
 use Rattle.run.proofs.lay.Tie as tie
 
-abbrev Inv-loop : tie.InvT-loop
-Inv-loop file c set course out₀ s₀ s-end out s =
-    Lists (λ k. choose (bit k (set .0)) (came course (startOf file c k)) (startOf file c k)) 0 (c .states) out₀ s out
+lay-starts-requires : tie.Need-lay-starts-requires
+lay-starts-requires c κs = search needs
 
-abbrev μ-loop : tie.MeasureT-loop
-μ-loop file c set course out₀ s₀ s-end out s = c .states - s
+returns : tie.Need-returns
+returns c =
+    let at-starts = c .before .before .before .before .before .before in
+    let start = at-starts .before .before .before .before in
+    laid-sets (start .args .c .states) (startOf (start .args .file .now) (start .args .c)) _ _ (start .pre .2) (at-starts .lay-starts .ensures)
+    (start .args .set .0) (start .args .course) _ (c .before .before .move-members .ensures)
 
-loop-holds : tie.Need-loop-holds Inv-loop μ-loop
-loop-holds c = list-none (omega arith)
+slice-aggregate-move-members : tie.Need-slice-aggregate-move-members
+slice-aggregate-move-members c =
+    let at-starts = c .before .before .before in
+    let start = at-starts .before .before .before .before in
+    sym (lent-long (start .args .c .states) (startOf (start .args .file .now) (start .args .c)) _ _ (start .pre .2) (at-starts .lay-starts .ensures))
 
-start-requires : tie.Need-start-requires Inv-loop μ-loop
-start-requires c κs = search simple
+move-members-requires : tie.Need-move-members-requires
+move-members-requires c κs =
+    let at-starts = c .before .before .before in
+    let start = at-starts .before .before .before .before in
+    let long = lent-long (start .args .c .states) (startOf (start .args .file .now) (start .args .c)) _ _ (start .pre .2) (at-starts .lay-starts .ensures) in
+    (subst (λ (n : ℕ). start .args .set .0 < 2 ^ n) (sym long) (start .pre .1 .inside), omega (arith, long, start .pre .0 .ranged .states))
 
-state-end-requires : tie.Need-state-end-requires Inv-loop μ-loop
-state-end-requires c κs = omega arith
+slice-relend-prefix-move-members : tie.Need-slice-relend-prefix-move-members
+slice-relend-prefix-move-members c = search needs
 
-mul-out : tie.Need-mul-out Inv-loop μ-loop
-mul-out c = omega arith
-
-slice-write-out : tie.Need-slice-write-out Inv-loop μ-loop
-slice-write-out c = omega (arith, c .before .before .before .loop .inv .long)
-
-add-s : tie.Need-add-s Inv-loop μ-loop
-add-s c = omega arith
-
-loop-less : tie.Need-loop-less Inv-loop μ-loop
-loop-less c = omega arith
-
-loop-again : tie.Need-loop-again Inv-loop μ-loop
-loop-again c = let a = c .before .before .before .before .before .before .args in let l = c .before .before .before .loop in
-    list-more (l .inv) (omega arith) (sym (zero-add _))
-    (c .state-end .ensures ∙ ap (λ (x : ℕ). choose (bit (l .s) (a .set .0)) (came (a .course) x) x) (c .before .start .ensures))
-
-same-length : tie.Need-same-length Inv-loop μ-loop
-same-length c = c .before .loop .inv .long
-
-returns : tie.Need-returns Inv-loop μ-loop
-unfolding setsOf
-returns c = list-done (c .before .loop .inv) (omega arith)
+same-length : tie.Need-same-length
+same-length c = search needs
 
 pub lay-spec : {M : Type 1} → statement M
 lay-spec =
     tie.close
     (tie.spec
-    Inv-loop
-    μ-loop
-    loop-holds
-    start-requires
-    state-end-requires
-    mul-out
-    slice-write-out
-    add-s
-    loop-less
-    loop-again
+    lay-starts-requires
+    slice-relend-prefix-move-members
+    slice-aggregate-move-members
+    move-members-requires
     same-length
     returns)

@@ -1,9 +1,11 @@
 -- `run` meets its contract: a file that is turned away turns the run away, and one that is taken goes on to the other checks.
-use Rattle.run.specs.Run.{runRule}
-use Rattle.graph.proofs.Ladder.{taken-means}
-use Rattle.graph.proofs.Verdicts.{told, then-refused, then-accepted, laid-refused, same-rule}
+use Rattle.run.specs.Run.{runRule, idleSteps, reportRule}
+use Rattle.graph.proofs.Ladder.{taken-means, taken-linked}
+use Rattle.graph.proofs.Verdicts.{told, then-refused, then-accepted}
+use Rattle.graph.specs.declared.format.Counts.{Counts}
+use Rattle.run.proofs.Reports.{reported-refused, same-report}
 use Rattle.graph.specs.File.{fileVerdict}
-use mathlib.Core.Path.{sym}
+use mathlib.Core.Path.{sym, ap}
 use borrow.Author.Needs.{needs}
 use Rattle.run.proofs.run.Statement.{statement}
 use Rattle.run.proofs.run.Tie as tie
@@ -24,15 +26,19 @@ same-length : tie.Need-same-length
 same-length c = search needs
 
 returns : tie.Need-returns
-unfolding runRule
+unfolding runRule reportRule
 returns c =
-    let at-file = c .before .before .before .before .before in
-    same-rule _ _ _ (sym (then-accepted _ _ _ (told fileVerdict (at-file .before .before .check-file .ensures) (at-file .taken .given .1))))
+    let at-taken = c .before .before .before .before .before in
+    let at-file = at-taken .before .before in
+    let a = at-file .before .before .before .before .args in
+    let taken = told fileVerdict (at-file .check-file .ensures) (at-taken .taken .given .1) in
+    same-report _ (ap (λ (x : Counts). idleSteps (a .file .now) x (a .set .0) (a .list .now)) (taken-linked _ _ taken .are)) (sym (then-accepted _ _ _ taken))
     (c .before .before .run-taken .ensures)
 
 returns-2 : tie.Need-returns-2
-unfolding runRule
-returns-2 c = laid-refused _ _ _ _ (then-refused _ _ _ _ (told fileVerdict (c .before .before .before .check-file .ensures) (c .before .taken2 .given .1)))
+unfolding runRule reportRule
+returns-2 c =
+    reported-refused _ _ _ _ _ (then-refused _ _ _ _ (told fileVerdict (c .before .before .before .check-file .ensures) (c .before .taken2 .given .1)))
 
 pub run-spec : {M : Type 1} → statement M
 run-spec =

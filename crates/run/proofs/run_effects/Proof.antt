@@ -14,9 +14,12 @@ slice-aggregate-run-effects-in-2 c = search needs
 slice-aggregate-run-effects-in-3 : tie.Need-slice-aggregate-run-effects-in-3
 slice-aggregate-run-effects-in-3 c = search needs
 
+slice-aggregate-run-effects-in-4 : tie.Need-slice-aggregate-run-effects-in-4
+slice-aggregate-run-effects-in-4 c = search needs
+
 run-effects-in-requires : tie.Need-run-effects-in-requires
 unfolding listOver
-run-effects-in-requires c κs = (c .before .before .before .before .before .before .before .pre, refl, refl, refl)
+run-effects-in-requires c κs = (c .before .before .before .before .before .before .before .before .pre, refl, refl, refl, refl)
 
 same-length : tie.Need-same-length
 same-length c = search needs
@@ -31,6 +34,7 @@ run-effects-spec =
     slice-aggregate-run-effects-in
     slice-aggregate-run-effects-in-2
     slice-aggregate-run-effects-in-3
+    slice-aggregate-run-effects-in-4
     run-effects-in-requires
     same-length
     returns)

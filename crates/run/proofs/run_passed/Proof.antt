@@ -2,16 +2,11 @@
 use mathlib.Core.Path.{sym}
 use Rattle.rules.proofs.Tests.{same-of}
 use Rattle.rules.proofs.Layers.{length-listOver}
-use Rattle.graph.proofs.Verdicts.{laid-accepted}
-use Rattle.run.proofs.Built.{no-steps}
+use Rattle.run.proofs.Built.{no-steps, no-idle-steps}
+use Rattle.run.proofs.Reports.{reported-accepted}
 use borrow.Author.Needs.{needs}
 use Rattle.run.proofs.run_passed.Statement.{statement}
 use Rattle.run.proofs.run_passed.Tie as tie
-use Rattle.run.proofs.run_passed.Reads as reads
-use Rattle.run.proofs.run_passed.Lts as lts
-use Rattle.graph.proofs.read.lay_starts.Reads as lay-starts-reads
-use Rattle.run.proofs.run_effects.Reads as run-effects-reads
-use Rattle.run.proofs.run_plain.Reads as run-plain-reads
 
 lay-starts-requires : tie.Need-lay-starts-requires
 lay-starts-requires c κs = search needs
@@ -20,7 +15,11 @@ same-length : tie.Need-same-length
 same-length c = search needs
 
 returns : tie.Need-returns
-returns c = let s = c .before .before .before .before .before .before .before .before in laid-accepted _ _ _ _ _ (no-steps (s .args .file .now) (s .args .c) (s .args .set .0) (s .args .list .now) (c .before .before .before .before .if1 .taken)) (sym (length-listOver _ _)) (c .before .before .lay-starts .ensures)
+returns c =
+    let empty = c .before .before .before .before in
+    let a = empty .before .before .before .before .args in
+    reported-accepted _ _ _ _ _ _ _ (no-steps (a .file .now) (a .c) (a .set .0) (a .list .now) (empty .if1 .taken)) (sym (length-listOver _ _))
+    (no-idle-steps (a .file .now) (a .c) (a .set .0) (a .list .now) (empty .if1 .taken)) (c .before .before .lay-starts .ensures)
 
 run-plain-requires : tie.Need-run-plain-requires
 run-plain-requires c κs = (c .before .before .before .before .before .before .before .pre, same-of (c .before .if2 .taken))

@@ -6,20 +6,20 @@ use borrow.Author.Needs.{needs}
 use Rattle.run.proofs.run_plain.Statement.{statement}
 use Rattle.run.proofs.run_plain.Tie as tie
 
-array-borrow-prefix-spares : tie.Need-array-borrow-prefix-spares
-array-borrow-prefix-spares c = search needs
+array-borrow-prefix-needs : tie.Need-array-borrow-prefix-needs
+array-borrow-prefix-needs c = search needs
 
 slice-aggregate-run-in : tie.Need-slice-aggregate-run-in
 slice-aggregate-run-in c = sym (length-take-le _ _ (omega (arith, c .before .before .before .before .pre .0 .taken .ranged .actions)))
 
-array-borrow-prefix-stays : tie.Need-array-borrow-prefix-stays
-array-borrow-prefix-stays c = search needs
+array-borrow-prefix-leave : tie.Need-array-borrow-prefix-leave
+array-borrow-prefix-leave c = search needs
 
 slice-aggregate-run-in-2 : tie.Need-slice-aggregate-run-in-2
 slice-aggregate-run-in-2 c = sym (length-take-le _ _ (omega (arith, c .before .before .before .before .before .pre .0 .taken .ranged .actions)))
 
-array-borrow-prefix-pluses : tie.Need-array-borrow-prefix-pluses
-array-borrow-prefix-pluses c = search needs
+array-borrow-prefix-bring : tie.Need-array-borrow-prefix-bring
+array-borrow-prefix-bring c = search needs
 
 slice-aggregate-run-in-3 : tie.Need-slice-aggregate-run-in-3
 slice-aggregate-run-in-3 c = sym (length-take-le _ _ (omega (arith, c .before .before .before .before .before .before .pre .0 .taken .ranged .actions)))
@@ -27,8 +27,15 @@ slice-aggregate-run-in-3 c = sym (length-take-le _ _ (omega (arith, c .before .b
 run-in-requires : tie.Need-run-in-requires
 run-in-requires c κs =
     let p = c .before .before .before .before .before .before .before .pre in
-    let few = p .0 .taken .ranged .actions in
-    (p .0, p .1, record { spare = length-take-le _ _ (omega arith); stay = length-take-le _ _ (omega arith); plus = length-take-le _ _ (omega arith) })
+    let few = p .0 .taken .ranged .actions in (
+      p .0,
+      p .1,
+      record {
+        needs-long = length-take-le _ _ (omega arith);
+        leave-long = length-take-le _ _ (omega arith);
+        bring-long = length-take-le _ _ (omega arith);
+      },
+    )
 
 same-length : tie.Need-same-length
 same-length c = search needs
@@ -40,11 +47,11 @@ pub run-plain-spec : {M : Type 1} → statement M
 run-plain-spec =
     tie.close
     (tie.spec
-    array-borrow-prefix-spares
+    array-borrow-prefix-needs
     slice-aggregate-run-in
-    array-borrow-prefix-stays
+    array-borrow-prefix-leave
     slice-aggregate-run-in-2
-    array-borrow-prefix-pluses
+    array-borrow-prefix-bring
     slice-aggregate-run-in-3
     run-in-requires
     same-length

@@ -1,10 +1,11 @@
 -- `run_taken` meets its contract: each check is one of the chain, in its order, and nothing is written before the last.
-use Rattle.run.specs.Run.{sequenceRule, runTaken}
+use Rattle.run.specs.Run.{sequenceRule, runTaken, idleSteps}
 use Rattle.run.proofs.Sequences.{some-means, sequence-means}
 use Rattle.graph.proofs.Ladder.{output-means}
-use Rattle.graph.proofs.Verdicts.{told, then-refused, then-accepted, laid-refused, same-rule}
+use Rattle.graph.proofs.Verdicts.{told, then-refused, then-accepted}
+use Rattle.run.proofs.Reports.{reported-refused, same-report}
 use Rattle.graph.specs.Checks.{checkVerdict, setRule, outputRule}
-use mathlib.Core.Path.{_≡_, sym, _∙_}
+use mathlib.Core.Path.{_≡_, refl, sym, _∙_}
 use lib.ListN.{length}
 use Rattle.graph.specs.Verdict.{accepted}
 use borrow.Author.Needs.{needs}
@@ -19,7 +20,7 @@ enum-known-check c = search needs
 
 returns : tie.Need-returns
 unfolding runTaken
-returns c = laid-refused _ _ _ _ (then-refused _ _ _ _ (told checkVerdict (c .before .before .before .check-set .ensures) (c .before .check .given .1)))
+returns c = reported-refused _ _ _ _ _ (then-refused _ _ _ _ (told checkVerdict (c .before .before .before .check-set .ensures) (c .before .check .given .1)))
 
 enum-told : tie.Need-enum-told
 enum-told c = search needs
@@ -39,7 +40,7 @@ returns-2 : tie.Need-returns-2
 unfolding runTaken
 returns-2 c =
     let at-before = c .before .before .before in
-    laid-refused _ _ _ _ (then-accepted _ _ _ (set-passed (at-before .before))
+    reported-refused _ _ _ _ _ (then-accepted _ _ _ (set-passed (at-before .before))
     ∙ then-refused _ _ _ _ (told checkVerdict (at-before .check-output .ensures) (c .before .room .given .1)))
 
 enum-told-2 : tie.Need-enum-told-2
@@ -61,7 +62,7 @@ unfolding runTaken
 returns-3 c =
     let at-before = c .before .before .before in
     let at-room = at-before .before in
-    laid-refused _ _ _ _ (then-accepted _ _ _ (set-passed (at-room .before .before .before)) ∙ then-accepted _ _ _ (room-passed at-room)
+    reported-refused _ _ _ _ _ (then-accepted _ _ _ (set-passed (at-room .before .before .before)) ∙ then-accepted _ _ _ (room-passed at-room)
     ∙ then-refused _ _ _ _ (told checkVerdict (at-before .check-sequence .ensures) (c .before .sequence .given .1)))
 
 enum-told-3 : tie.Need-enum-told-3
@@ -92,7 +93,8 @@ unfolding runTaken
 returns-4 c =
     let at-list = c .before .before .before .before in
     let at-room = at-list .before .before .before in
-    same-rule _ _ _
+    let a = at-list .before .before .before .before .before .before .before .before .before .before .before .before .args in
+    same-report _ {idle = idleSteps (a .file .now) (a .c) (a .set .0) (a .list .now)} refl
     (sym (then-accepted _ _ _ (set-passed (at-room .before .before .before)) ∙ then-accepted _ _ _ (room-passed at-room)
     ∙ then-accepted _ _ _ (list-passed at-list)))
     (c .before .before .run-passed .ensures)

@@ -1,79 +1,150 @@
--- An action with no effect changes nothing, and one with nothing besides its lowest effect has that one.
-use Prim.Native.Nat.{ℕ, _<_}
-use mathlib.Core.Path.{_≡_, sym, ap, subst, _∙_}
-use mathlib.Core.Bool.{So}
+-- The words of the effects are written before the labels change; what fires everywhere is done at once.
+use Prim.Native.Nat.{ℕ, _^_, _<_}
+use mathlib.Core.Path.{_≡_, ap, _∙_}
+use mathlib.Core.List.{List}
 use native.Mathlib.Omega.{arith}
 use borrow.Author.Needs.{needs}
-use Rattle.rules.specs.Word.{bit, single, without}
-use Rattle.words.proofs.MemberLoops.{lowest-in, lowest-lt}
+use lib.ListN.{length}
+use Rattle.words.specs.Rows.{rowLength}
+use Rattle.graph.specs.Limits.{maxEffects}
 use Rattle.graph.specs.Format.{actionsOf}
-use Rattle.run.specs.Fire.{appliedIn}
-use Rattle.run.proofs.Touches.{applied-none, only-one}
+use Rattle.run.specs.Fire.{told}
+use Rattle.run.proofs.Touches.{part-under, applied-of, applied-evenly}
 use Rattle.run.proofs.fire.apply.Statement.{statement}
 use Rattle.run.proofs.fire.apply.Tie as tie
 
-returns : tie.Need-returns
-returns c =
-    let s = c .before .before .before .before in
-    let a = s .args in
-    applied-none (actionsOf (a .file .now) (a .c)) (a .set .0) (a .by) (a .labels .now) (s .pre .2) (c .if1 .taken)
+fire-requires : tie.Need-fire-requires
+fire-requires c κs = search needs
 
-others-requires : tie.Need-others-requires
-others-requires c κs = search needs
-
-lowest-requires : tie.Need-lowest-requires
-lowest-requires c κs = search needs
-
--- the lowest effect is one of the file's, and it is the only one
-low : (c : tie.After-lowest) → let s = c .before .before .before .before .before .before .before in c .lowest .result < s .args .c .effects
-low c =
-    let s = c .before .before .before .before .before .before .before in
-    omega (arith, c .lowest .ensures, s .pre .0 .ranged .effects, lowest-lt _ (s .args .by) (omega (arith, s .pre .0 .ranged .effects)) (s .pre .1) (omega (arith, c .before .before .before .if1 .left)))
-
-one : (c : tie.After-lowest) → let s = c .before .before .before .before .before .before .before in s .args .by ≡ single (c .lowest .result)
-one c =
-    let s = c .before .before .before .before .before .before .before in
-    let e = c .lowest .ensures in
-    only-one (s .args .by) (c .lowest .result)
-    (subst (λ (i : ℕ). So (bit i (s .args .by))) (sym e)
-    (lowest-in _ (s .args .by) (omega (arith, s .pre .0 .ranged .effects)) (s .pre .1) (omega (arith, c .before .before .before .if1 .left))))
-    (ap (λ (i : ℕ). without (s .args .by) (single i)) e ∙ sym (c .before .before .others .ensures .0) ∙ c .before .if2 .taken)
-
-apply-one-requires : tie.Need-apply-one-requires
-apply-one-requires c κs = search (needs, low (c .before))
+apply-evenly-requires : tie.Need-apply-evenly-requires
+apply-evenly-requires c κs = search needs
 
 same-length : tie.Need-same-length
 same-length c = search needs
 
-returns-2 : tie.Need-returns-2
-returns-2 c =
-    let s = c .before .before .before .before .before .before .before .before .before .before .before in
-    let a = s .args in
-    c .before .before .apply-one .ensures ∙ ap (λ (x : ℕ). appliedIn (actionsOf (a .file .now) (a .c)) (a .set .0) x (a .labels .now)) (sym (one (c .before .before .before .before)))
-
-apply-several-requires : tie.Need-apply-several-requires
-apply-several-requires c κs = search needs
-
 same-length-2 : tie.Need-same-length-2
 same-length-2 c = search needs
+
+returns : tie.Need-returns
+unfolding actionsOf
+returns c =
+    let did = c .before .before in
+    let at-fire = did .before .before .before .before .before .before in
+    let s = at-fire .before .before .before .before .before .before .before in
+    let a = s .args in (
+      applied-evenly (actionsOf (a .file .now) (a .c)) (a .set .0) (a .by) (a .labels .now) (a .fired .now)
+          (s .pre .0 .ranged .effects) (at-fire .fire .ensures .0) (at-fire .fire .ensures .1) (did .before .before .if1 .taken)
+          (did .apply-evenly .ensures .0),
+      did .apply-evenly .ensures .1,
+    )
+
+remember-requires : tie.Need-remember-requires
+remember-requires c κs = search needs
+
+without-requires : tie.Need-without-requires
+without-requires c κs = search needs
+
+strip-requires : tie.Need-strip-requires
+strip-requires c κs = search needs
+
+-- the effects that fire in part are some of the file's
+part-below : (c : tie.After-fire) → c .fire .result .some < 2 ^ c .before .before .before .before .before .before .before .args .c .effects
+unfolding actionsOf
+part-below c =
+    let s = c .before .before .before .before .before .before .before in
+    let a = s .args in
+    part-under (actionsOf (a .file .now) (a .c)) (a .set .0) (a .by) (a .labels .now) (a .fired .now) (s .pre .0 .ranged .effects)
+    (c .fire .ensures .0) (c .fire .ensures .1)
+
+-- each step keeps the lengths
+fired-long : (c : tie.After-fire) → length (c .fire .last .1 .1 .1 .1 .1 .1 .0) ≡ maxEffects
+fired-long c = c .fire .kept .1 .1 .1 .1 .1 .1 .0 ∙ c .before .before .before .before .before .before .before .pre .4
+
+strip-long : (c : tie.After-strip) → length (c .strip .last .0) ≡ rowLength
+strip-long c =
+    let at-fire = c .before .before .before .before .before .before .before .before .before .before .before .before in
+    c .strip .kept .0 ∙ at-fire .before .before .before .before .before .before .before .pre .2
+
+remove-long : (c : tie.After-remove-deletes) → length (c .remove-deletes .last .1 .1 .1 .1 .0) ≡ rowLength
+remove-long c = c .remove-deletes .kept .1 .1 .1 .1 .0 ∙ strip-long (c .before .before .before .before .before)
+
+spread-long : (c : tie.After-spread) → length (c .spread .last .0) ≡ rowLength
+spread-long c = c .spread .kept .0 ∙ remove-long (c .before .before .before .before)
+
+join-long : (c : tie.After-join-adds) → length (c .join-adds .last .1 .1 .1 .1 .0) ≡ rowLength
+join-long c = c .join-adds .kept .1 .1 .1 .1 .0 ∙ spread-long (c .before .before .before .before .before)
+
+remove-deletes-requires : tie.Need-remove-deletes-requires
+remove-deletes-requires c κs =
+    let did = c .before .before .before .before in
+    let at-fire = did .before .before .before .before .before .before .before .before .before .before .before .before in
+    (at-fire .before .before .before .before .before .before .before .pre .0, part-below at-fire, fired-long at-fire, strip-long did)
+
+spread-requires : tie.Need-spread-requires
+spread-requires c κs = omega (arith, remove-long (c .before .before .before))
+
+join-adds-requires : tie.Need-join-adds-requires
+join-adds-requires c κs =
+    let did = c .before .before .before .before in
+    let at-strip = did .before .before .before .before .before .before .before .before .before in
+    let at-fire = at-strip .before .before .before .before .before .before .before .before .before .before .before .before in
+    (at-fire .before .before .before .before .before .before .before .pre .0, part-below at-fire, fired-long at-fire, spread-long did)
+
+tell-requires : tie.Need-tell-requires
+tell-requires c κs =
+    let did = c .before .before .before .before in
+    let at-strip = did .before .before .before .before .before .before .before .before .before .before .before .before .before .before in
+    let at-remember = at-strip .before .before .before .before .before in
+    let at-fire = at-remember .before .before .before .before .before .before .before in
+    (at-remember .remember .kept .1 .0 ∙ at-fire .before .before .before .before .before .before .before .pre .3, join-long did)
 
 same-length-3 : tie.Need-same-length-3
 same-length-3 c = search needs
 
-returns-3 : tie.Need-returns-3
-returns-3 c = search needs
+same-length-4 : tie.Need-same-length-4
+same-length-4 c = search needs
+
+same-length-5 : tie.Need-same-length-5
+same-length-5 c =
+    let at-spread = c .before .before .before .before .before .before .before .before .before .before in
+    let at-strip = at-spread .before .before .before .before .before .before .before .before .before in
+    let at-fire = at-strip .before .before .before .before .before .before .before .before .before .before .before .before in
+    at-fire .fire .kept .1 .1 .1 .1 .1 .1 .0
+
+returns-2 : tie.Need-returns-2
+unfolding actionsOf
+returns-2 c =
+    let at-join = c .before .before .before .before .before in
+    let at-spread = at-join .before .before .before .before .before in
+    let at-remove = at-spread .before .before .before .before in
+    let at-strip = at-remove .before .before .before .before .before in
+    let at-remember = at-strip .before .before .before .before .before in
+    let at-fire = at-remember .before .before .before .before .before .before .before in
+    let s = at-fire .before .before .before .before .before .before .before in
+    let a = s .args in (
+      applied-of (actionsOf (a .file .now) (a .c)) (a .set .0) (a .by) (a .labels .now) (a .fired .now) (s .pre .0 .ranged .effects)
+          (at-fire .fire .ensures .0) (at-fire .fire .ensures .1) (s .pre .2) (at-strip .before .without .ensures) (at-strip .strip .ensures)
+          (at-remove .remove-deletes .ensures) (at-spread .spread .ensures) (at-join .join-adds .ensures),
+      c .tell .ensures ∙ ap (λ (l : List ℕ). told (a .set .0) l (at-join .join-adds .last .1 .1 .1 .1 .0)) (at-remember .remember .ensures),
+    )
 
 pub apply-spec : {M : Type 1} → statement M
 apply-spec =
     tie.close
     (tie.spec
-    returns
-    others-requires
-    lowest-requires
-    apply-one-requires
+    fire-requires
+    apply-evenly-requires
     same-length
-    returns-2
-    apply-several-requires
     same-length-2
+    returns
+    remember-requires
+    without-requires
+    strip-requires
+    remove-deletes-requires
+    spread-requires
+    join-adds-requires
+    tell-requires
     same-length-3
-    returns-3)
+    same-length-4
+    same-length-5
+    returns-2)

@@ -14,10 +14,10 @@ use Rattle.run.proofs.fire.fire.Statement.{statement}
 use Rattle.run.proofs.fire.fire.Tie as tie
 
 abbrev Inv-loop : tie.InvT-loop
-Inv-loop file c by set labels fired₀ left₀ did₀ fired left did = Firing (actionsOf file c) (set .0) by labels fired₀ left did fired
+Inv-loop file c by set course labels fired₀ left₀ did₀ fired left did = Firing (actionsOf file c) (set .0) by labels fired₀ left did fired
 
 abbrev μ-loop : tie.MeasureT-loop
-μ-loop file c by set labels fired₀ left₀ did₀ fired left did = left
+μ-loop file c by set course labels fired₀ left₀ did₀ fired left did = left
 
 loop-holds : tie.Need-loop-holds Inv-loop μ-loop
 unfolding actionsOf
@@ -38,8 +38,8 @@ named c =
 antecedent-requires : tie.Need-antecedent-requires Inv-loop μ-loop
 antecedent-requires c κs = (c .before .before .before .before .before .before .pre .0, named c)
 
-having-requires : tie.Need-having-requires Inv-loop μ-loop
-having-requires c κs = c .before .before .before .before .before .before .before .pre .2
+firing-requires : tie.Need-firing-requires Inv-loop μ-loop
+firing-requires c κs = let p = c .before .before .before .before .before .before .before .pre in (p .2, p .4)
 
 mul-fired : tie.Need-mul-fired Inv-loop μ-loop
 unfolding actionsOf
@@ -62,10 +62,10 @@ loop-again : tie.Need-loop-again Inv-loop μ-loop
 unfolding firedIn
 loop-again c =
     let a = c .before .before .before .before .before .before .before .before .before .before .args in
-    let at-having = c .before .before in
-    let at-lowest = at-having .before .before in
+    let at-firing = c .before .before in
+    let at-lowest = at-firing .before .before in
     firing-more (at-lowest .before .before .loop .inv) (at-lowest .before .loop-test .taken) (at-lowest .lowest .ensures)
-    (at-having .having .ensures ∙ ap (having (a .labels .now) (a .set .0)) (at-having .before .antecedent .ensures)) (c .before .with-effect .ensures)
+    (at-firing .firing .ensures ∙ ap (having (a .labels .now) (a .set .0)) (at-firing .before .antecedent .ensures)) (c .before .with-effect .ensures)
     (c .others .ensures .0)
 
 same-length : tie.Need-same-length Inv-loop μ-loop
@@ -92,7 +92,7 @@ fire-spec =
     loop-holds
     lowest-requires
     antecedent-requires
-    having-requires
+    firing-requires
     mul-fired
     slice-write-fired
     with-effect-requires
