@@ -336,7 +336,8 @@ module _ {A : Actions} (plain : Plain A) (sets : Sets A) {n set : ℕ} (few : n 
         ∙ bit-further q (leavesOf A a) (bringsOf A a) (literals (at s))
 
     pub course-step : course n set next ≡ further (leavesOf A a) (bringsOf A a) (course n set at)
-    course-step = ext {n = wordWidth} (course-lt n set next narrow') (further-lt (leavesOf A a) (bringsOf A a) (course n set at) word-lt (brings-small plain sets a k)) (λ q h. sym (
+    course-step = ext {n = wordWidth} (course-lt n set next narrow')
+        (further-lt (leavesOf A a) (bringsOf A a) (course n set at) word-lt (brings-small plain sets a k)) (λ q h. sym (
         bit-further q (leavesOf A a) (bringsOf A a) (course n set at) ∙ test-eq
         (λ t. ⊎-elim
         (λ u. let (s, l, i, m) = course-at n set at q (and-left _ u) in

@@ -184,12 +184,13 @@ module _ (A : Actions) (set a : ℕ) (labels : List ℕ) {course w : ℕ} (small
       (sym (choose-failed _ _ f), sym (choose-failed _ _ f))
 
   pub step-made : {by : ℕ} {r : Stepped} {labels' : List ℕ} → common course w ≡ 0 → by ≡ effectsOf A a → labels' ≡ appliedIn A set by labels
-      → r ≡ told set labels labels' → (r ≡ answerIn A set a labels) × (labels' ≡ choose (readyIn A set a labels) (steppedIn A set a labels) labels)
+      → r ≡ told set labels (appliedIn A set by labels)
+      → (r ≡ answerIn A set a labels) × (labels' ≡ choose (readyIn A set a labels) (steppedIn A set a labels) labels)
   unfolding answerIn steppedIn
   step-made {by} {r} {labels'} e own end' answer =
       let t : So (readyIn A set a labels) = sym asked ∙ same-of e in
       let end : labels' ≡ appliedIn A set (effectsOf A a) labels = end' ∙ ap (λ (x : ℕ). appliedIn A set x labels) own in
-      (answer ∙ ap (told set labels) end ∙ sym (choose-held _ t), end ∙ sym (choose-held _ t))
+      (answer ∙ ap (λ (x : ℕ). told set labels (appliedIn A set x labels)) own ∙ sym (choose-held _ t), end ∙ sym (choose-held _ t))
 
 -- a step leaves sets of propositions
 pub stepped-narrow : (A : Actions) (n set a : ℕ) (xs : List ℕ) → ((e : ℕ) → e < A .effects → A .add e < 2 ^ propWidth)

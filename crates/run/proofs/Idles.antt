@@ -13,8 +13,6 @@ use lib.ListN.{length, getD}
 use Rattle.rules.specs.Test.{_and_, _or_, fails, same}
 use Rattle.rules.specs.Word.{bit, common, union, without, within, meets}
 use Rattle.rules.specs.Over.{keep, allBelow}
-use Rattle.rules.specs.Lists.{listOver}
-use Rattle.rules.specs.Layer.{labelIn}
 use Rattle.rules.proofs.Tests.{choose-held, choose-failed, holds-or, fails-of, fails-at, and-of, and-left, and-right, or-left, or-right, or-at}
 use Rattle.rules.proofs.Tests.{same-of, same-at, test-eq}
 use Rattle.rules.proofs.Overs.{all-of, all-at, any-of, any-at, bit-keep, bit-joinOver, joinOver-lt, keep-lt, keep-held, keep-failed}
@@ -25,10 +23,9 @@ use Rattle.rules.proofs.Layers.{length-listOver, getD-listOver, listOver-eq}
 use Rattle.words.specs.Width.{propWidth, wordWidth}
 use Rattle.words.specs.Rows.{rowLength}
 use Rattle.words.proofs.Writes.{list-all}
-use Rattle.run.specs.Course.{pack, leaves, brings}
-use Rattle.run.specs.Fire.{literalsIn, courseIn, having, sameRows, evenly, told}
+use Rattle.run.specs.Course.{pack, leaves, brings, further}
+use Rattle.run.specs.Fire.{literalsIn, courseIn, having, sameRows, evenly, evenAnswer, told}
 use Rattle.run.specs.declared.fire.Stepped.the-variants as did
-use Rattle.run.proofs.Touches.{cut-joined}
 use Rattle.run.proofs.Packs.{pack-lt, pack-low, pack-high, halves, leaves-low, leaves-high, brings-lt, brings-low, brings-high}
 
 -- ---- of one proposition, which the states x have
@@ -66,7 +63,7 @@ module _ (set : ℕ) (labels : List ℕ) where
       (keep-lt wordWidth (λ t. single-lt {n = wordWidth} {i = propWidth + p} (omega arith))))
 
   -- some state of the set lacks p
-  lacking-bit : {p : ℕ} → p < rowLength → bit p (courseIn set labels) ≡ fails (within set (getD labels p 0))
+  pub lacking-bit : {p : ℕ} → p < rowLength → bit p (courseIn set labels) ≡ fails (within set (getD labels p 0))
   unfolding courseIn
   lacking-bit {p} h =
       bit-joinOver p (λ i. literalsIn set i (getD labels i 0)) (λ i l. literal-bit p i (getD labels i 0))
@@ -80,7 +77,7 @@ module _ (set : ℕ) (labels : List ℕ) where
       (λ t. any-of _ h (or-left _ (and-of t (same-of refl))))
 
   -- some state of the set has p
-  having-bit : {p : ℕ} → p < rowLength → bit (propWidth + p) (courseIn set labels) ≡ meets (getD labels p 0) set
+  pub having-bit : {p : ℕ} → p < rowLength → bit (propWidth + p) (courseIn set labels) ≡ meets (getD labels p 0) set
   unfolding courseIn
   having-bit {p} h =
       bit-joinOver (propWidth + p) (λ i. literalsIn set i (getD labels i 0)) (λ i l. literal-bit (propWidth + p) i (getD labels i 0))
@@ -306,6 +303,10 @@ module _ (set del add : ℕ) (labels : List ℕ) (d : del < 2 ^ propWidth) (a : 
   unfolding evenly
   even-at l = getD-listOver _ l
 
+  pub even-long : length (evenly set del add labels) ≡ rowLength
+  unfolding evenly
+  even-long = length-listOver rowLength _
+
   abbrev now : ℕ
   now = courseIn set labels
 
@@ -321,7 +322,7 @@ module _ (set del add : ℕ) (labels : List ℕ) (d : del < 2 ^ propWidth) (a : 
       (λ u. and-of u (leaves-high del add p d a l ∙ fails-of (λ k.
       label-removed _ set (bit p del) (bit p add) (same-at (all-at _ t l) ∙ even-at l) k (sym (having-bit set labels l) ∙ u)))))
 
-  same-evenly : common now (leaves del add) ≡ now → So (sameRows labels (evenly set del add labels))
+  pub same-evenly : common now (leaves del add) ≡ now → So (sameRows labels (evenly set del add labels))
   unfolding sameRows
   same-evenly e = all-of (λ p l. same-of (same-label _ set (bit p del) (bit p add)
       (λ k. ⊎-elim
@@ -355,31 +356,13 @@ module _ (set del add : ℕ) (labels : List ℕ) (d : del < 2 ^ propWidth) (a : 
       ∙ sym (having-bit set (evenly set del add labels) l ∙ ap (λ (w : ℕ). meets w set) (even-at l)
       ∙ having-then (getD labels p 0) set (bit p del) (bit p add) some))
 
-  module _ {course leave : ℕ} (long : length labels ≡ rowLength) (is : course ≡ courseIn set labels) (leave-is : leave ≡ leaves del add) where
-    -- all of the word is left
-    pub even-none : common course leave ≡ course → (labels ≡ evenly set del add labels) × (did.Unchanged ≡ told set labels labels)
-    unfolding evenly
-    even-none e = (
-      rows-same long (length-listOver rowLength _) (same-evenly (sym (ap₂ common is leave-is) ∙ e ∙ is)),
-      told-none set labels labels (same-row labels),
-    )
-
-    -- the deletes are removed, the adds joined
-    pub even-some : {bring cut : ℕ} {labels₁ labels₂ : List ℕ} → (common course leave ≡ course → ⊥) → bring ≡ brings del add → cut ≡ without del add
-        → labels₁ ≡ listOver (length labels) (λ q. without (labelIn labels q) (keep (bit q cut) set))
-        → labels₂ ≡ listOver (length labels₁) (λ q. union (labelIn labels₁ q) (keep (bit q add) set))
-        → (labels₂ ≡ evenly set del add labels) × (did.Changed (union (common course leave) bring) ≡ told set labels labels₂)
-    unfolding labelIn evenly
-    even-some {bring} {cut} {labels₁} {labels₂} off bring-is g one two =
-        let off' : common now (leaves del add) ≡ now → ⊥ = λ e. off (ap₂ common is leave-is ∙ e ∙ sym is) in
-        let long₁ : length labels₁ ≡ rowLength = ap length one ∙ length-listOver (length labels) _ ∙ long in
-        let end : labels₂ ≡ evenly set del add labels =
-        two ∙ ap (λ (n : ℕ). listOver n (λ q. union (getD labels₁ q 0) (keep (bit q add) set))) long₁ ∙ listOver-eq (λ p k.
-        ap (λ (w : ℕ). union w (keep (bit p add) set)) (ap (λ (m : List ℕ). getD m p 0) one ∙ getD-listOver _ (omega (arith, long))
-        ∙ ap (λ (w : ℕ). without (getD labels p 0) (keep (bit p w) set)) g)
-        ∙ cut-joined (getD labels p 0) del add p set) in (
-          end,
-          told-some set labels labels₂
-              (fails-of (λ t. off' (evenly-same (subst (λ (l : List ℕ). So (sameRows labels l)) end t))))
-              (ap₂ union (ap₂ common is leave-is) bring-is ∙ evenly-course (changed-some off') ∙ ap (courseIn set) (sym end)),
-        )
+  -- what the word tells of it is so
+  pub even-told : {course : ℕ} → course ≡ courseIn set labels → evenAnswer course del add ≡ told set labels (evenly set del add labels)
+  unfolding evenAnswer further
+  even-told {course} is = ap (λ (w : ℕ). evenAnswer w del add) is ∙ ⊎-elim
+      (λ t. choose-held _ t ∙ told-none set labels (evenly set del add labels) (same-evenly (same-at t)))
+      (λ f.
+      let off : common now (leaves del add) ≡ now → ⊥ = λ e. fails-at f (same-of e) in
+      choose-failed _ _ f
+      ∙ told-some set labels (evenly set del add labels) (fails-of (λ t. off (evenly-same t))) (evenly-course (changed-some off)))
+      (holds-or (same (common now (leaves del add)) now))

@@ -9,5 +9,6 @@ pub mod Steps
 pub mod Starts
 pub mod Touches
 pub mod Idles
+pub mod Settles
 pub mod Fires
 pub mod Built

@@ -2,28 +2,24 @@
 -- Assumes nothing.
 use Prim.Native.Nat.{ℕ, zero, suc, _+_, _^_, _≤_, _<_}
 use mathlib.Core.Path.{_≡_, refl, sym, ap, ap₂, subst, _∙_}
-use mathlib.Core.Bool.{Bool, So}
-use mathlib.Core.Logic.{⊎-elim}
 use mathlib.Core.List.{List, _++_}
 use native.Mathlib.Numerals.{add-one}
 use native.Mathlib.Omega.{arith}
 use lib.Bits.{or-zero-l}
 use lib.Count.{trailingZeros}
-use lib.ListN.{length, getD, set, take, drop, length-set}
-use lib.Seq.{getD-set-same, getD-set-other}
+use lib.ListN.{length, getD, set, take, drop}
 use Rattle.rules.specs.Test.{same, choose}
 use Rattle.rules.specs.Word.{bit, common, union, without, single, first}
 use Rattle.rules.specs.Over.{joinOver, meetOver, joinOf, meetOf}
 use Rattle.rules.specs.Lists.{listOver}
-use Rattle.rules.proofs.Tests.{choose-held, choose-failed, holds-or, fails-of, fails-at, and-right, same-of, same-at, below-of}
+use Rattle.rules.proofs.Tests.{choose-held, below-of}
 use Rattle.rules.proofs.Overs.{joinOver-eq, joinOver-next, keep-held}
-use Rattle.rules.proofs.Words.{bit-first, no-bit-zero, without-lt}
+use Rattle.rules.proofs.Words.{bit-first}
 use Rattle.rules.proofs.Layers.{length-listOver, getD-listOver, listOver-eq}
 use Rattle.words.specs.Width.{propWidth, wordWidth}
 use Rattle.words.specs.Memory.{putAt}
-use Rattle.words.proofs.MemberLoops.{lowest-in, lowest-lt, Members, members-none, members-more, members-done, Shares, shares-none, shares-more, shares-done}
-use Rattle.words.proofs.Spreads.{bit-left, stays}
-use Rattle.words.proofs.Writes.{list-all, put-take, put-rest}
+use Rattle.words.proofs.MemberLoops.{Members, members-none, members-more, members-done, Shares, shares-none, shares-more, shares-done}
+use Rattle.words.proofs.Writes.{put-take, put-rest}
 use Rattle.run.specs.Course.{came, setsOf}
 
 -- ---- what all states of a set have, and what some of them have: of its members, one after the other
@@ -90,49 +86,6 @@ module _ {f : ℕ → ℕ} {n i all some : ℕ} (m : Passing f n i all some) whe
         m .met ∙ ap (λ (j : ℕ). meetOver j f (first propWidth)) e ∙ meet-first f n (first propWidth) n (omega arith),
         m .joined ∙ ap (λ (j : ℕ). joinOver j f) e ∙ join-first f n,
       )
-
--- ---- the word of each member of a set is changed: g j x is what becomes of word j, if that is x
-
-pub record Changes (g : ℕ → ℕ → ℕ) (n all : ℕ) (row₀ : List ℕ) (left : ℕ) (row : List ℕ) : Type 0 where
-  pub few : n ≤ wordWidth
-  pub room : n ≤ length row₀
-  pub inside : left < 2 ^ n
-  pub long : length row ≡ length row₀
-  pub is : (j : ℕ) → choose (bit j left) (g j (getD row j 0)) (getD row j 0) ≡ choose (bit j all) (g j (getD row₀ j 0)) (getD row₀ j 0)
-
-pub changes-none : {g : ℕ → ℕ → ℕ} {n all : ℕ} {row : List ℕ} → n ≤ wordWidth → n ≤ length row → all < 2 ^ n → Changes g n all row all row
-changes-none f r h = record { few = f; room = r; inside = h; long = refl; is = λ j. refl }
-
-module _ {g : ℕ → ℕ → ℕ} {n all : ℕ} {row₀ : List ℕ} {left : ℕ} {row : List ℕ} (m : Changes g n all row₀ left row) where
-  pub changes-more : {left' q x : ℕ} → 0 < left → q ≡ trailingZeros wordWidth left → x ≡ g q (getD row q 0)
-      → left' ≡ without left (single (trailingZeros wordWidth left)) → Changes g n all row₀ left' (set row q x)
-  changes-more {left'} {q} {x} some e f h =
-      let low : q < n = subst (λ (i : ℕ). i < n) (sym e) (lowest-lt n left (m .few) (m .inside) some) in
-      let has : So (bit q left) = subst (λ (i : ℕ). So (bit i left)) (sym e) (lowest-in n left (m .few) (m .inside) some) in
-      let h' : left' ≡ without left (single q) = h ∙ ap (λ (i : ℕ). without left (single i)) (sym e) in
-      record {
-        few = m .few;
-        room = m .room;
-        inside = subst (λ (y : ℕ). y < 2 ^ n) (sym h) (without-lt n _ (m .inside));
-        long = length-set row q x ∙ m .long;
-        is = λ j. ⊎-elim
-            (λ u.
-            let at : j ≡ q = same-at u in
-            choose-failed _ _ (fails-of (λ t. fails-at (and-right _ (sym (bit-left j q left left' h') ∙ t)) u))
-            ∙ ap (λ (i : ℕ). getD (set row q x) i 0) at ∙ getD-set-same row q x 0 (omega (arith, m .long, m .room)) ∙ f
-            ∙ ap (λ (i : ℕ). g i (getD row i 0)) (sym at) ∙ sym (choose-held _ (ap (λ (i : ℕ). bit i left) at ∙ has)) ∙ m .is j)
-            (λ u.
-            ap₂ (λ (b : Bool) (y : ℕ). choose b (g j y) y) (bit-left j q left left' h' ∙ stays (bit j left) (same j q) u)
-            (getD-set-other row q j x 0 (λ at. fails-at u (same-of at)))
-            ∙ m .is j)
-            (holds-or (same j q));
-      }
-
-  pub changes-done : left ≤ 0 → row ≡ listOver (length row₀) (λ j. choose (bit j all) (g j (getD row₀ j 0)) (getD row₀ j 0))
-  changes-done h =
-      let e : left ≡ 0 = omega arith in
-      sym (list-all row (m .long))
-      ∙ listOver-eq (λ j l. sym (choose-failed _ _ (fails-of (λ t. no-bit-zero j (sym (ap (bit j) e) ∙ t)))) ∙ m .is j)
 
 -- ---- the start sets at the front, of which those of the set are changed
 

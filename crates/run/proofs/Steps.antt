@@ -89,7 +89,8 @@ module _ {A : Actions} {n : ℕ} {start : ℕ → ℕ} {set : ℕ} {list : List 
         idle-is = g .idle-is ∙ ap (λ (x : ℕ). k + x) (idle-turn A n set xs list a h e)
             ∙ sym (add-assoc k (keep (idle A n set a xs) 1) _)
             ∙ ap₂ (λ (x : ℕ) (ys : List ℕ). k + x + idleFrom A n set ys (drop (suc i) list)) told next
-            ∙ ap (λ (j : ℕ). k + still w (common w (leavesOf A a)) + idleFrom A n set (setsOf n start set (further (leavesOf A a) (bringsOf A a) w)) (drop j list))
+            ∙ ap (λ (j : ℕ). k + still w (common w (leavesOf A a))
+            + idleFrom A n set (setsOf n start set (further (leavesOf A a) (bringsOf A a) w)) (drop j list))
             (sym (add-one i));
       }
 
@@ -130,7 +131,8 @@ module _ {A : Actions} {n : ℕ} {start : ℕ → ℕ} {set : ℕ} {list : List 
       let r = go-more narrow plain some (go-steps m (omega arith) (λ k i. full k (omega arith))) a h refl l
       (ap (common v) (sym need) ∙ full m (omega arith)) in
       subst (λ (x : ℕ). Going A n start set list (suc m) (further x (getD bring a 0) v) (stillAt leave bring list w m + still v (common v x))) left
-      (subst (λ (x : ℕ). Going A n start set list (suc m) (further (leavesOf A a) x v) (stillAt leave bring list w m + still v (common v (leavesOf A a)))) brought
+      (subst (λ (x : ℕ). Going A n start set list (suc m) (further (leavesOf A a) x v)
+      (stillAt leave bring list w m + still v (common v (leavesOf A a)))) brought
       (subst (λ (j : ℕ). Going A n start set list j (further (leavesOf A a) (bringsOf A a) v)
       (stillAt leave bring list w m + still v (common v (leavesOf A a)))) (add-one m) r))
 

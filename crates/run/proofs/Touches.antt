@@ -271,7 +271,7 @@ module _ (x del add p t : ℕ) where
   cut-bits true true true true = refl
   cut-bits true true true false = refl
 
-  pub cut-joined : union (without x (keep (bit p (without del add)) t)) (keep (bit p add) t) ≡ union (without x (keep (bit p del) t)) (keep (bit p add) t)
+  cut-joined : union (without x (keep (bit p (without del add)) t)) (keep (bit p add) t) ≡ union (without x (keep (bit p del) t)) (keep (bit p add) t)
   cut-joined = ext-all (λ s.
       bits s (bit p (without del add))
       ∙ ap (λ (b : Bool). (bit s x and fails (b and bit s t)) or (bit p add and bit s t)) (bit-without p del add)

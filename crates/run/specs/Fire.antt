@@ -5,7 +5,7 @@ use mathlib.Core.Bool.{Bool}
 use mathlib.Core.List.{List}
 use lib.ListN.{length, getD}
 use Rattle.rules.specs.Test.{_and_, fails, same, choose}
-use Rattle.rules.specs.Word.{bit, union, without, within, meets, single}
+use Rattle.rules.specs.Word.{bit, common, union, without, within, meets, single}
 use Rattle.rules.specs.Over.{keep, joinOver, joinOf, meetOf, allBelow, firstBelow}
 use Rattle.rules.specs.Lists.{listOver}
 use Rattle.rules.specs.Domain.{Actions}
@@ -16,6 +16,7 @@ use Rattle.graph.specs.Limits.{maxEffects}
 use Rattle.graph.specs.Format.{actionsOf}
 use Rattle.graph.specs.File.{Taken}
 use Rattle.graph.specs.declared.format.Counts.{Counts}
+use Rattle.run.specs.Course.{leaves, brings, further}
 use Rattle.run.specs.declared.fire.Fired.{Fired}
 use Rattle.run.specs.declared.fire.Stepped.{Stepped}
 use Rattle.run.specs.declared.fire.Stepped.the-variants as did
@@ -39,6 +40,13 @@ literalsIn set p label = union (keep (fails (within set label)) (single p)) (kee
 -- what some state of the set lacks, and above that what some state of it has
 unfoldable pub courseIn : ℕ → List ℕ → ℕ
 courseIn set labels = joinOver rowLength (λ p. literalsIn set p (getD labels p 0))
+
+-- of proposition p, while only the word is kept up: what none lacks all states of the set have, what none has all lack, and else the label tells
+unfoldable pub settledLabel : ℕ → ℕ → ℕ → ℕ → ℕ
+settledLabel set course p label = choose (bit p course) (choose (bit (propWidth + p) course) label (without label set)) (union label set)
+
+unfoldable pub settled : ℕ → ℕ → List ℕ → List ℕ
+settled set course labels = listOver rowLength (λ p. settledLabel set course p (getD labels p 0))
 
 -- the effects of action a, as a word
 unfoldable pub effectsOf : Actions → ℕ → ℕ
@@ -109,6 +117,17 @@ sameRows xs ys = allBelow rowLength (λ p. same (getD xs p 0) (getD ys p 0))
 -- effects that fire in every state of the set, and delete and add this in all
 unfoldable pub evenly : ℕ → ℕ → ℕ → List ℕ → List ℕ
 evenly set del add labels = listOver rowLength (λ p. union (without (getD labels p 0) (keep (bit p del) set)) (keep (bit p add) set))
+
+-- what the word tells of them
+unfoldable pub evenAnswer : ℕ → ℕ → ℕ → Stepped
+evenAnswer course del add =
+    choose (same (common course (leaves del add)) course) did.Unchanged (did.Changed (further (leaves del add) (brings del add) course))
+
+-- the word after a step with this answer
+unfoldable pub nextOf : ℕ → Stepped → ℕ
+nextOf course did.Missing = course
+nextOf course (did.Changed next) = next
+nextOf course did.Unchanged = course
 
 -- request Eight, of what the states had before and have after a step: 'changed some state of the set, changed none'
 unfoldable pub told : ℕ → List ℕ → List ℕ → Stepped

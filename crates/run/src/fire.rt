@@ -1,5 +1,6 @@
 // Version 2: a step of an action in every state of a set at once. The sets of all states are kept by proposition, a word of states for each, so that an effect
-// finds by a few words in what states it fires; and, as in version 1, one word tells what some state of the set lacks and what some state of it has.
+// finds by a few words in what states it fires; and, as in version 1, one word tells what some state of the set lacks and what some state of it has. Where all
+// effects of a step fire in every state of the set or in none, only that word is kept up; the words by proposition are settled when they are needed.
 use crate::step::brings;
 use crate::step::leaves;
 use graph::file::byte;
@@ -36,7 +37,7 @@ ghost use Rattle.graph.specs.File.{Taken};
 ghost use Rattle.run.specs.Course.{Known};
 ghost use Rattle.run.specs.Fire as F;
 ghost use Rattle.run.specs.Fire.{Empty, Rooms, setIn, effectsOf, firedBy, ofEffect, joinFired, ofEffects, removedBy, joinedBy, appliedIn, steppedIn};
-ghost use Rattle.run.specs.Fire.{sameRows, evenly, told, answerIn, readyIn, labelsAt, idleAt, firstLack};
+ghost use Rattle.run.specs.Fire.{settledLabel, settled, evenAnswer, nextOf, sameRows, told, answerIn, readyIn, labelsAt, idleAt, firstLack};
 
 // The effects of each action, in a row of empty words.
 pub fn read_owned(file: &[u8], c: Counts, owned: &mut [u64])
@@ -79,10 +80,11 @@ fn course_of(labels: &[u64], set: States) -> u64
     course
 }
 
-// The states of the set in which an effect with this antecedent fires. Mostly the course tells it: all of them, or none.
+// The states of the set in which an effect with this antecedent fires. Mostly the course tells it: all of them, or none. Else only what some state lacks is
+// looked at, and of that the labels are kept up, since some state has it.
 fn firing(labels: &[u64], set: States, course: u64, when: u32) -> u64
-    requires { ⌜ (length (now labels) ≡ rowLength) × (course ≡ F.courseIn (set .0) (now labels)) ⌝ }
-    ensures { λ r. ⌜ r ≡ F.having (now (labels .entry)) (set .0) when ⌝ }
+    requires { ⌜ (length (now labels) ≡ rowLength) × (course ≡ F.courseIn (set .0) (settled (set .0) course (now labels))) ⌝ }
+    ensures { λ r. ⌜ r ≡ F.having (settled (set .0) course (now (labels .entry))) (set .0) when ⌝ }
 {
     let needed = wide(when);
     if course & needed == 0 {
@@ -92,7 +94,32 @@ fn firing(labels: &[u64], set: States, course: u64, when: u32) -> u64
     if course & somewhere != somewhere {
         return 0;
     }
-    having(labels, set, Props(when))
+    let lacked = (course % (1u64 << PROP_WIDTH)) as u32;
+    having(labels, set, Props(when).common(Props(lacked)))
+}
+
+// The label of proposition p.
+fn settled_label(label: u64, p: usize, set: States, course: u64) -> u64
+    requires { ⌜ p < propWidth ⌝ }
+    ensures { λ r. ⌜ r ≡ settledLabel (set .0) course p label ⌝ }
+{
+    if (course >> p) % 2 == 0 {
+        return label | set.0;
+    }
+    if (course >> (PROP_WIDTH + p)) % 2 == 0 {
+        return label ^ (label & set.0);
+    }
+    label
+}
+
+// All labels, of which only those were kept up that differ within the set.
+fn settle(labels: &mut [u64], set: States, course: u64)
+    requires { ⌜ length (now labels) ≡ rowLength ⌝ }
+    ensures { λ r. ⌜ now (labels .exit) ≡ settled (set .0) course (now (labels .entry)) ⌝ }
+{
+    for p in 0..ROW {
+        labels[p] = settled_label(labels[p], p, set, course);
+    }
 }
 
 // What the effects of a step do: the deletes and the adds of those that fire in every state of the set, and which ones fire in some of its states only.
@@ -135,9 +162,9 @@ fn fire(
     fired: &mut [u64],
 ) -> Fired
     requires { ⌜ Taken (now file) c × (by < 2 ^ c .effects) × (length (now labels) ≡ rowLength) × (length (now fired) ≡ maxEffects)
-        × (course ≡ F.courseIn (set .0) (now labels)) ⌝ }
-    ensures { λ r. ⌜ (r ≡ ofEffects (actionsOf (now (file .entry)) c) (set .0) by (now (labels .entry)))
-        × (now (fired .exit) ≡ firedBy (actionsOf (now (file .entry)) c) (set .0) by (now (labels .entry)) (now (fired .entry))) ⌝ }
+        × (course ≡ F.courseIn (set .0) (settled (set .0) course (now labels))) ⌝ }
+    ensures { λ r. ⌜ (r ≡ ofEffects (actionsOf (now (file .entry)) c) (set .0) by (settled (set .0) course (now (labels .entry))))
+        × (now (fired .exit) ≡ firedBy (actionsOf (now (file .entry)) c) (set .0) by (settled (set .0) course (now (labels .entry))) (now (fired .entry))) ⌝ }
 {
     let mut left = by;
     let mut did = Fired {
@@ -205,18 +232,14 @@ pub enum Stepped {
     Unchanged,
 }
 
-// Deletes and adds in every state of the set. The word tells whether that changes any of them.
-fn apply_evenly(course: u64, del: Props, add: Props, set: States, labels: &mut [u64]) -> Stepped
-    requires { ⌜ (length (now labels) ≡ rowLength) × (course ≡ F.courseIn (set .0) (now labels)) ⌝ }
-    ensures { λ r. ⌜ (now (labels .exit) ≡ evenly (set .0) (del .0) (add .0) (now (labels .entry)))
-        × (r ≡ told (set .0) (now (labels .entry)) (now (labels .exit))) ⌝ }
+// Deletes and adds in every state of the set. The word tells whether that changes any of them, and nothing else is kept up.
+fn apply_evenly(course: u64, del: Props, add: Props) -> Stepped
+    ensures { λ r. ⌜ r ≡ evenAnswer course (del .0) (add .0) ⌝ }
 {
     let left = course & leaves(del, add);
     if left == course {
         return Stepped::Unchanged;
     }
-    strip(&mut *labels, del.without(add), set.0);
-    spread(&mut *labels, add, set.0);
     Stepped::Changed(left | brings(del, add))
 }
 
@@ -266,14 +289,17 @@ fn apply(
     fired: &mut [u64],
 ) -> Stepped
     requires { ⌜ Taken (now file) c × (by < 2 ^ c .effects) × (length (now labels) ≡ rowLength) × (length (now before) ≡ rowLength)
-        × (length (now fired) ≡ maxEffects) × (course ≡ F.courseIn (set .0) (now labels)) ⌝ }
-    ensures { λ r. ⌜ (now (labels .exit) ≡ appliedIn (actionsOf (now (file .entry)) c) (set .0) by (now (labels .entry)))
-        × (r ≡ told (set .0) (now (labels .entry)) (now (labels .exit))) ⌝ }
+        × (length (now fired) ≡ maxEffects) × (course ≡ F.courseIn (set .0) (settled (set .0) course (now labels))) ⌝ }
+    ensures { λ r. ⌜ (settled (set .0) (nextOf course r) (now (labels .exit))
+        ≡ appliedIn (actionsOf (now (file .entry)) c) (set .0) by (settled (set .0) course (now (labels .entry))))
+        × (r ≡ told (set .0) (settled (set .0) course (now (labels .entry)))
+        (appliedIn (actionsOf (now (file .entry)) c) (set .0) by (settled (set .0) course (now (labels .entry))))) ⌝ }
 {
     let did = fire(file, c, by, set, course, &*labels, &mut *fired);
     if did.some == 0 {
-        return apply_evenly(course, Props(did.del), Props(did.add), set, &mut *labels);
+        return apply_evenly(course, Props(did.del), Props(did.add));
     }
+    settle(&mut *labels, set, course);
     remember(&*labels, &mut *before);
     strip(&mut *labels, Props(did.del).without(Props(did.add)), set.0);
     remove_deletes(file, c, did.some, &*fired, &mut *labels);
@@ -294,10 +320,13 @@ fn step_effects(
     before: &mut [u64],
     fired: &mut [u64],
 ) -> Stepped
-    requires { ⌜ Rooms (now file) c (now owned) (now labels) (now before) (now fired) × (a < c .actions) × (course ≡ F.courseIn (set .0) (now labels)) ⌝ }
-    ensures { λ r. ⌜ (r ≡ answerIn (actionsOf (now (file .entry)) c) (set .0) a (now (labels .entry)))
-        × (now (labels .exit) ≡ choose (readyIn (actionsOf (now (file .entry)) c) (set .0) a (now (labels .entry)))
-        (steppedIn (actionsOf (now (file .entry)) c) (set .0) a (now (labels .entry))) (now (labels .entry))) ⌝ }
+    requires { ⌜ Rooms (now file) c (now owned) (now labels) (now before) (now fired) × (a < c .actions)
+        × (course ≡ F.courseIn (set .0) (settled (set .0) course (now labels))) ⌝ }
+    ensures { λ r. ⌜ (r ≡ answerIn (actionsOf (now (file .entry)) c) (set .0) a (settled (set .0) course (now (labels .entry))))
+        × (settled (set .0) (nextOf course r) (now (labels .exit))
+        ≡ choose (readyIn (actionsOf (now (file .entry)) c) (set .0) a (settled (set .0) course (now (labels .entry))))
+        (steppedIn (actionsOf (now (file .entry)) c) (set .0) a (settled (set .0) course (now (labels .entry))))
+        (settled (set .0) course (now (labels .entry)))) ⌝ }
 {
     if course & wide(precondition(file, c, a)) != 0 {
         return Stepped::Missing;
@@ -349,6 +378,7 @@ pub fn walk_effects(
             continue;
         }
         let Stepped::Changed(next) = did else {
+            settle(&mut *labels, set, course);
             return Gone {
                 made: i - 1,
                 idle: idle,
@@ -356,6 +386,7 @@ pub fn walk_effects(
         };
         course = next;
     }
+    settle(&mut *labels, set, course);
     Gone {
         made: i,
         idle: idle,

@@ -187,13 +187,34 @@ fn move_members(set: States, course: u64, out: &mut [u32])
     }
 }
 
+// Version 1: all states move. No word of the set is looked at, so that the loop takes several states at a time.
+fn move_all(course: u64, out: &mut [u32])
+    ensures { λ r. ⌜ now (out .exit) ≡ setsOf (length (now (out .entry))) (λ s. getD (now (out .entry)) s 0) (first (length (now (out .entry)))) course ⌝ }
+{
+    for s in 0..out.len() {
+        out[s] = came(course, Props(out[s])).0;
+    }
+}
+
+// Version 1: the states of the set move where they lie.
+fn move_states(set: States, course: u64, out: &mut [u32])
+    requires { ⌜ (set .0 < 2 ^ length (now out)) × (length (now out) ≤ stateWidth) ⌝ }
+    ensures { λ r. ⌜ now (out .exit) ≡ setsOf (length (now (out .entry))) (λ s. getD (now (out .entry)) s 0) (set .0) course ⌝ }
+{
+    if set.0 == States::first(out.len()).0 {
+        move_all(course, &mut *out);
+        return;
+    }
+    move_members(set, course, &mut *out);
+}
+
 // Version 1: the end sets of all states, at the front of the output.
 fn lay(file: &[u8], c: Counts, set: States, course: u64, out: &mut [u32])
     requires { ⌜ Taken (now file) c × Some (c .states) (set .0) × (c .states ≤ length (now out)) ⌝ }
     ensures { λ r. ⌜ now (out .exit) ≡ putAt 0 (setsOf (c .states) (startOf (now (file .entry)) c) (set .0) course) (now (out .entry)) ⌝ }
 {
     lay_starts(file, c, &mut *out);
-    move_members(set, course, &mut out[..c.states]);
+    move_states(set, course, &mut out[..c.states]);
 }
 
 // Version 1: of each action what the steps go by, what it needs, what it leaves and what it brings.

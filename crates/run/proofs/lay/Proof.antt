@@ -16,23 +16,23 @@ returns c =
     let at-starts = c .before .before .before .before .before .before in
     let start = at-starts .before .before .before .before in
     laid-sets (start .args .c .states) (startOf (start .args .file .now) (start .args .c)) _ _ (start .pre .2) (at-starts .lay-starts .ensures)
-    (start .args .set .0) (start .args .course) _ (c .before .before .move-members .ensures)
+    (start .args .set .0) (start .args .course) _ (c .before .before .move-states .ensures)
 
-slice-aggregate-move-members : tie.Need-slice-aggregate-move-members
-slice-aggregate-move-members c =
+slice-aggregate-move-states : tie.Need-slice-aggregate-move-states
+slice-aggregate-move-states c =
     let at-starts = c .before .before .before in
     let start = at-starts .before .before .before .before in
     sym (lent-long (start .args .c .states) (startOf (start .args .file .now) (start .args .c)) _ _ (start .pre .2) (at-starts .lay-starts .ensures))
 
-move-members-requires : tie.Need-move-members-requires
-move-members-requires c κs =
+move-states-requires : tie.Need-move-states-requires
+move-states-requires c κs =
     let at-starts = c .before .before .before in
     let start = at-starts .before .before .before .before in
     let long = lent-long (start .args .c .states) (startOf (start .args .file .now) (start .args .c)) _ _ (start .pre .2) (at-starts .lay-starts .ensures) in
     (subst (λ (n : ℕ). start .args .set .0 < 2 ^ n) (sym long) (start .pre .1 .inside), omega (arith, long, start .pre .0 .ranged .states))
 
-slice-relend-prefix-move-members : tie.Need-slice-relend-prefix-move-members
-slice-relend-prefix-move-members c = search needs
+slice-relend-prefix-move-states : tie.Need-slice-relend-prefix-move-states
+slice-relend-prefix-move-states c = search needs
 
 same-length : tie.Need-same-length
 same-length c = search needs
@@ -42,8 +42,8 @@ lay-spec =
     tie.close
     (tie.spec
     lay-starts-requires
-    slice-relend-prefix-move-members
-    slice-aggregate-move-members
-    move-members-requires
+    slice-relend-prefix-move-states
+    slice-aggregate-move-states
+    move-states-requires
     same-length
     returns)

@@ -5,7 +5,7 @@ use native.Mathlib.Omega.{arith}
 use lib.ListN.{length}
 use Rattle.words.proofs.MemberLoops.{lowest-lt}
 use Rattle.run.specs.Course.{came, setsOf}
-use Rattle.run.proofs.Starts.{Changes, changes-none, changes-more, changes-done}
+use Rattle.run.proofs.Touches.{Changes, changes-none, changes-more, changes-done}
 use Rattle.run.proofs.move_members.Statement.{statement}
 use Rattle.run.proofs.move_members.Tie as tie
 

@@ -1,6 +1,6 @@
 -- The loop writes the word of one effect after the other, and joins what they do.
 use Rattle.run.proofs.Touches.{Firing, firing-none, firing-more, firing-done, changes-done}
-use Rattle.run.specs.Fire.{having, firedIn, firedBy}
+use Rattle.run.specs.Fire.{settled, having, firedIn, firedBy}
 use Rattle.graph.specs.Format.{actionsOf}
 use Rattle.words.proofs.MemberLoops.{lowest-lt}
 use Rattle.rules.specs.Lists.{listOver}
@@ -14,7 +14,8 @@ use Rattle.run.proofs.fire.fire.Statement.{statement}
 use Rattle.run.proofs.fire.fire.Tie as tie
 
 abbrev Inv-loop : tie.InvT-loop
-Inv-loop file c by set course labels fired₀ left₀ did₀ fired left did = Firing (actionsOf file c) (set .0) by labels fired₀ left did fired
+Inv-loop file c by set course labels fired₀ left₀ did₀ fired left did =
+    Firing (actionsOf file c) (set .0) by (settled (set .0) course labels) fired₀ left did fired
 
 abbrev μ-loop : tie.MeasureT-loop
 μ-loop file c by set course labels fired₀ left₀ did₀ fired left did = left
@@ -62,11 +63,13 @@ loop-again : tie.Need-loop-again Inv-loop μ-loop
 unfolding firedIn
 loop-again c =
     let a = c .before .before .before .before .before .before .before .before .before .before .args in
+    let now = settled (a .set .0) (a .course) (a .labels .now) in
     let at-firing = c .before .before in
     let at-lowest = at-firing .before .before in
     firing-more (at-lowest .before .before .loop .inv) (at-lowest .before .loop-test .taken) (at-lowest .lowest .ensures)
-    (at-firing .firing .ensures ∙ ap (having (a .labels .now) (a .set .0)) (at-firing .before .antecedent .ensures)) (c .before .with-effect .ensures)
-    (c .others .ensures .0)
+    (_∙_ {b = having now (a .set .0) (at-firing .before .antecedent .result)} (at-firing .firing .ensures)
+    (ap (having now (a .set .0)) (at-firing .before .antecedent .ensures)))
+    (c .before .with-effect .ensures) (c .others .ensures .0)
 
 same-length : tie.Need-same-length Inv-loop μ-loop
 same-length c = c .before .loop .inv .changes .long
@@ -77,10 +80,11 @@ returns c =
     let s = c .before .before .before .before .before in
     let a = s .args in
     let A = actionsOf (a .file .now) (a .c) in
+    let now = settled (a .set .0) (a .course) (a .labels .now) in
     let m = c .before .loop .inv in (
       firing-done m (omega arith),
       changes-done (m .changes) (omega arith)
-          ∙ ap (λ (n : ℕ). listOver n (λ e. choose (bit e (a .by)) (firedIn A (a .set .0) (a .labels .now) e) (getD (a .fired .now) e 0))) (s .pre .3),
+          ∙ ap (λ (n : ℕ). listOver n (λ e. choose (bit e (a .by)) (firedIn A (a .set .0) now e) (getD (a .fired .now) e 0))) (s .pre .3),
     )
 
 pub fire-spec : {M : Type 1} → statement M

@@ -8,7 +8,7 @@ use Rattle.rules.proofs.Layers.{length-listOver}
 use Rattle.words.specs.Width.{propWidth}
 use Rattle.words.specs.Rows.{rowLength}
 use Rattle.graph.specs.Format.{actionsOf}
-use Rattle.run.specs.Fire.{effectsOf}
+use Rattle.run.specs.Fire.{effectsOf, settled, nextOf}
 use Rattle.run.proofs.Runs.{narrow-of}
 use Rattle.run.proofs.Touches.{effects-lt, owned-at}
 use Rattle.run.proofs.Fires.{step-missing, step-made}
@@ -27,11 +27,12 @@ unfolding actionsOf
 small s = narrow-of (s .args .file .now) (s .args .c) (s .pre .0 .taken) .pre (s .args .a) (s .pre .1)
 
 returns : tie.Need-returns
+unfolding nextOf
 returns c =
     let at-wide = c .before in
     let s = at-wide .before .before .before .before .before .before .before in
     let a = s .args in
-    step-missing (actionsOf (a .file .now) (a .c)) (a .set .0) (a .a) (a .labels .now) (small s) (s .pre .2)
+    step-missing (actionsOf (a .file .now) (a .c)) (a .set .0) (a .a) (settled (a .set .0) (a .course) (a .labels .now)) (small s) (s .pre .2)
     (at-wide .wide .ensures ∙ at-wide .before .precondition .ensures) (c .if1 .taken)
 
 -- the word of the action's effects
@@ -46,8 +47,10 @@ returns-2 c =
     let at-wide = at-test .before in
     let s = at-wide .before .before .before .before .before .before .before in
     let a = s .args in
-    step-made (actionsOf (a .file .now) (a .c)) (a .set .0) (a .a) (a .labels .now) (small s) (s .pre .2)
-    (at-wide .wide .ensures ∙ at-wide .before .precondition .ensures) (at-test .if1 .left) (word s) (did .apply .ensures .0) (did .apply .ensures .1)
+    step-made (actionsOf (a .file .now) (a .c)) (a .set .0) (a .a) (settled (a .set .0) (a .course) (a .labels .now)) (small s) (s .pre .2)
+    (at-wide .wide .ensures ∙ at-wide .before .precondition .ensures)
+    {labels' = settled (a .set .0) (nextOf (a .course) (did .apply .result)) (did .apply .last .1 .1 .1 .1 .1 .0)}
+    (at-test .if1 .left) (word s) (did .apply .ensures .0) (did .apply .ensures .1)
 
 apply-requires : tie.Need-apply-requires
 unfolding actionsOf
