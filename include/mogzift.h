@@ -293,8 +293,10 @@ size_t mogzift_extract(const uint8_t *file, size_t file_len, size_t depth, uint6
  * Runs the sequence from each state of the set and writes the N states' sets of propositions after it into the front of
  * out; states outside the set keep their start. A step needs its action's precondition in every state of the set. Then, in
  * each, the action's effects fire whose antecedents held there before the step: all that they delete is removed, then all
- * that they add is joined, so that an add wins over a delete. An action without effects changes nothing.
- * Answered: answer[1] is the number of sets written, N. Refused: 1 to 5, 16, 15, 7, 10 (N sets), 11, 12.
+ * that they add is joined, so that an add wins over a delete. An action without effects changes nothing. A step is idle if
+ * it leaves every state of the set as it was; states outside the set do not count.
+ * Answered: answer[1] is the number of sets written, N, answer[2] the number of idle steps, 0 for an empty sequence.
+ * Refused: 1 to 5, 16, 15, 7, 10 (N sets), 11, 12.
  */
 size_t mogzift_run(const uint8_t *file, size_t file_len, uint64_t set, const uint8_t *list, size_t list_len,
                    uint32_t *out, size_t out_len, uint64_t answer[3]);

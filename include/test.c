@@ -181,6 +181,12 @@ static size_t run(uint64_t set, const uint8_t *list, size_t len, size_t out_len)
     return mogzift_run(file, file_len, set, list, len, sets_out, out_len, answer);
 }
 
+/* Whether a run over the lamp's two states was accepted with so many idle steps and these sets. */
+static int ran(size_t code, uint64_t idle, uint32_t first, uint32_t second) {
+    return code == 0 && told(MOGZIFT_ANSWERED, 2, idle) && wrote(0, 2, 0, 0) && sets_out[0] == first &&
+           sets_out[1] == second;
+}
+
 static size_t plan(size_t depth, uint64_t set, uint32_t goal, size_t len, size_t out_len) {
     mark();
     return mogzift_plan(file, file_len, depth, set, goal, words, len, sets_out, out_len, answer);
@@ -619,6 +625,63 @@ static void runs(void) {
     file[28] = 0;
 }
 
+/*
+ * Idle steps, which leave every state of the set as it was. What the walk needs, adds and deletes stands at 8, 12 and 16,
+ * what the light does at 20, 24 and 28.
+ */
+static void idle_steps(void) {
+    static const uint8_t list[8] = {LIGHT, LIGHT, LIGHT, WALK, WALK, LIGHT, WALK, 2};
+    static const uint8_t longest[65535] = {LIGHT};
+    CHECK(ran(run(BOTH, list, 0, 3), 0, DOOR, DESK));
+    /* what is lit stays lit */
+    CHECK(ran(run(DESK, list, 1, 3), 0, DOOR, DESK | LIT));
+    CHECK(ran(run(DESK, list, 2, 3), 1, DOOR, DESK | LIT));
+    CHECK(ran(run(DESK, list, 3, 3), 2, DOOR, DESK | LIT));
+    /* one that is turned away tells its place, whatever was idle before */
+    CHECK(refused(run(DESK, list, 4, 3), MOGZIFT_NO_PRECONDITION, 3));
+    CHECK(refused(run(DESK, list, 8, 3), MOGZIFT_BAD_SEQUENCE, 7));
+    CHECK(refused(run(DESK, list, 3, 1), MOGZIFT_SHORT_OUTPUT, 2));
+    CHECK(refused(run(4, list, 3, 3), MOGZIFT_BAD_STATE_SET, 0));
+
+    /* a walk from anywhere changes the state at the door, once, and never the one at the desk */
+    file[8] = 0;
+    CHECK(ran(run(DESK, list + 3, 1, 3), 1, DOOR, DESK));
+    CHECK(ran(run(DOOR, list + 3, 1, 3), 0, DESK, DESK));
+    CHECK(ran(run(BOTH, list + 3, 1, 3), 0, DESK, DESK));
+    CHECK(ran(run(DESK, list + 3, 2, 3), 2, DOOR, DESK));
+    CHECK(ran(run(DOOR, list + 3, 2, 3), 1, DESK, DESK));
+    CHECK(ran(run(BOTH, list + 3, 2, 3), 1, DESK, DESK));
+    CHECK(ran(run(BOTH, list + 3, 4, 3), 2, DESK | LIT, DESK | LIT)); /* the second walk and the third */
+    CHECK(ran(run(DESK, list, 7, 3), 6, DOOR, DESK | LIT));
+    CHECK(refused(run(BOTH, list + 3, 5, 3), MOGZIFT_BAD_SEQUENCE, 4));
+    /* as many steps as may be: a light, and walks */
+    CHECK(refused(run(BOTH, longest, sizeof longest, 3), MOGZIFT_NO_PRECONDITION, 0));
+    CHECK(ran(run(BOTH, longest + 1, sizeof longest - 1, 3), 65533, DESK, DESK));
+    CHECK(ran(run(DESK, longest, sizeof longest, 3), 65534, DOOR, DESK | LIT));
+
+    file[12] = 0; /* a walk that leaves the door only */
+    CHECK(ran(run(DESK, list + 3, 2, 3), 2, DOOR, DESK)); /* deletes what is not there */
+    CHECK(ran(run(BOTH, list + 3, 2, 3), 1, 0, DESK));
+    file[16] = 0; /* one that does nothing */
+    CHECK(ran(run(BOTH, list + 3, 2, 3), 2, DOOR, DESK));
+    CHECK(ran(run(DOOR, list + 3, 1, 3), 1, DOOR, DESK));
+    file[12] = DESK; /* one that only comes to the desk */
+    CHECK(ran(run(DESK, list + 3, 2, 3), 2, DOOR, DESK)); /* adds what is there */
+    CHECK(ran(run(BOTH, list + 3, 2, 3), 1, DOOR | DESK, DESK));
+    file[16] = DESK; /* and deletes what it adds */
+    CHECK(ran(run(DESK, list + 3, 2, 3), 2, DOOR, DESK));
+    CHECK(ran(run(BOTH, list + 3, 2, 3), 1, DOOR | DESK, DESK));
+    file[8] = DOOR;
+    file[12] = DESK;
+    file[16] = DOOR;
+    /* there and back: at the end all is as it was, and no step is idle */
+    file[24] = DOOR;
+    file[28] = DESK;
+    CHECK(ran(run(DOOR, list + 4, 2, 3), 0, DOOR, DESK));
+    file[24] = LIT;
+    file[28] = 0;
+}
+
 static void plans(void) {
     CHECK(plan(2, BOTH, LIT, 48, 3) == 0 && told(MOGZIFT_ANSWERED, 2, 3) && wrote(0, 2, 0, 0));
     CHECK(sets_out[0] == (1 << WALK | 1 << LIGHT) && sets_out[1] == 1 << LIGHT);
@@ -746,6 +809,69 @@ static void runs_2(void) {
     file[SECOND_EFFECT + 1] = DESK;
 }
 
+/* The sets of the two effects, which are those of one action: antecedent, add, delete. */
+static void set_effects(uint8_t when, uint8_t add, uint8_t del, uint8_t other_when, uint8_t other_add,
+                        uint8_t other_del) {
+    file[FIRST_EFFECT + 1] = when;
+    file[FIRST_EFFECT + 5] = add;
+    file[FIRST_EFFECT + 9] = del;
+    file[SECOND_EFFECT + 1] = other_when;
+    file[SECOND_EFFECT + 5] = other_add;
+    file[SECOND_EFFECT + 9] = other_del;
+}
+
+static void idle_steps_2(void) {
+    static const uint8_t list[7] = {WAIT, GO, GO, GO, WAIT, GO, 2};
+    static const uint8_t longest[65535] = {GO}; /* and waits */
+    CHECK(ran(run(BOTH, list, 0, 3), 0, DOOR, DESK));
+    CHECK(ran(run(BOTH, list, 1, 3), 1, DOOR, DESK)); /* an action without effects */
+    CHECK(ran(run(BOTH, list, 2, 3), 1, DESK, DESK | LIT));
+    CHECK(ran(run(BOTH, list, 3, 3), 1, DESK | LIT, DESK | LIT)); /* idle in the second state, and not in the first */
+    CHECK(ran(run(BOTH, list, 4, 3), 2, DESK | LIT, DESK | LIT));
+    CHECK(ran(run(BOTH, list, 6, 3), 4, DESK | LIT, DESK | LIT));
+    CHECK(ran(run(DOOR, list, 3, 3), 1, DESK | LIT, DESK));
+    CHECK(ran(run(DESK, list, 3, 3), 2, DOOR, DESK | LIT)); /* the first state, which would change, is outside the set */
+    CHECK(ran(run(BOTH, longest, sizeof longest, 3), 65534, DESK, DESK | LIT));
+    CHECK(ran(run(BOTH, longest + 1, sizeof longest - 1, 3), 65534, DOOR, DESK));
+
+    /* one that is turned away tells its place, whatever was idle before */
+    CHECK(refused(run(BOTH, list, 7, 3), MOGZIFT_BAD_SEQUENCE, 6));
+    CHECK(refused(run(BOTH, list, 1, 1), MOGZIFT_SHORT_OUTPUT, 2));
+    CHECK(refused(run(0, list, 1, 3), MOGZIFT_BAD_STATE_SET, 0));
+    file[9] = DOOR; /* a wait needs the door */
+    CHECK(refused(run(DOOR, list, 5, 3), MOGZIFT_NO_PRECONDITION, 4));
+    CHECK(refused(run(BOTH, list, 5, 3), MOGZIFT_NO_PRECONDITION, 0));
+    CHECK(ran(run(DOOR, list, 4, 3), 2, DESK | LIT, DESK));
+    file[9] = 0;
+
+    /* what is deleted in both states is added again where it was, or where it was not */
+    set_effects(0, 0, DESK, DESK, DESK, 0);
+    CHECK(ran(run(BOTH, list + 1, 3, 3), 3, DOOR, DESK));
+    set_effects(0, 0, DESK, DOOR, DESK, 0);
+    CHECK(ran(run(BOTH, list + 1, 1, 3), 0, DOOR | DESK, 0));
+    CHECK(ran(run(BOTH, list + 1, 2, 3), 1, DOOR | DESK, 0));
+    /* what is deleted where one is at the door is added in both states: once there, it stays */
+    set_effects(DOOR, 0, LIT, 0, LIT, 0);
+    CHECK(ran(run(BOTH, list + 1, 3, 3), 2, DOOR | LIT, DESK | LIT));
+    CHECK(ran(run(DOOR, list + 1, 3, 3), 2, DOOR | LIT, DESK));
+    /* each fires in one state: it adds what is there, deletes what is not, or both */
+    set_effects(DOOR, DOOR, 0, DESK, 0, DOOR | LIT);
+    CHECK(ran(run(BOTH, list + 1, 2, 3), 2, DOOR, DESK));
+    set_effects(DOOR, DOOR, DESK | LIT, DESK, DESK, DESK);
+    CHECK(ran(run(BOTH, list + 1, 2, 3), 2, DOOR, DESK));
+    /* neither fires, or only in the second state, and there once with a change */
+    set_effects(LIT, 0, DOOR | DESK, DOOR | DESK, LIT, 0);
+    CHECK(ran(run(BOTH, list + 1, 3, 3), 3, DOOR, DESK));
+    set_effects(DOOR | DESK, DOOR, 0, DESK, LIT, 0);
+    CHECK(ran(run(BOTH, list + 1, 3, 3), 2, DOOR, DESK | LIT));
+    CHECK(ran(run(DOOR, list + 1, 3, 3), 3, DOOR, DESK));
+    /* there and back: at the end all is as it was, and no step is idle */
+    set_effects(DOOR, DESK, DOOR, DESK, DOOR, DESK);
+    CHECK(ran(run(BOTH, list + 1, 1, 3), 0, DESK, DOOR));
+    CHECK(ran(run(BOTH, list + 1, 2, 3), 0, DOOR, DESK));
+    put(LAMP_2, sizeof LAMP_2);
+}
+
 /* An action is marked, not an effect of it, and once. */
 static void plans_2(void) {
     CHECK(plan(2, BOTH, LIT, 48, 3) == 0 && told(MOGZIFT_ANSWERED, 2, 2) && wrote(0, 2, 0, 0));
@@ -824,7 +950,7 @@ static void effect_counts(void) {
 
     begin_2(1, 2, 1);
     CHECK(build(1, 49) == 0 && told(MOGZIFT_ANSWERED, 3, 0) && wrote(3, 0, 0, 0));
-    CHECK(run(1, list, 2, 1) == 0 && told(MOGZIFT_ANSWERED, 1, 0) && wrote(0, 1, 0, 0) && sets_out[0] == 0);
+    CHECK(run(1, list, 2, 1) == 0 && told(MOGZIFT_ANSWERED, 1, 2) && wrote(0, 1, 0, 0) && sets_out[0] == 0);
     for (i = 0; i < 32; i++) {
         add_effect(1, 0, 1, 0);
     }
@@ -832,8 +958,8 @@ static void effect_counts(void) {
     CHECK(answered(fitting_depth(563), MOGZIFT_ANSWERED, 1, 0));
     CHECK(answered(fitting_depth(562), MOGZIFT_ANSWERED, 0, 0));
     CHECK(refused(build(1, 49), MOGZIFT_SHORT_MEMORY, 563));
-    CHECK(run(1, list, 1, 1) == 0 && sets_out[0] == 0);
-    CHECK(run(1, list, 2, 1) == 0 && sets_out[0] == 1);
+    CHECK(run(1, list, 1, 1) == 0 && told(MOGZIFT_ANSWERED, 1, 1) && sets_out[0] == 0);
+    CHECK(run(1, list, 2, 1) == 0 && told(MOGZIFT_ANSWERED, 1, 1) && sets_out[0] == 1);
     add_effect(1, 0, 1, 0);
     CHECK(refused(fitting_depth(563), MOGZIFT_BAD_COUNT, 8));
 
@@ -882,6 +1008,7 @@ int main(void) {
     pages();
     extracts();
     runs();
+    idle_steps();
     plans();
     depths();
     texts();
@@ -901,6 +1028,7 @@ int main(void) {
     pages();
     extracts();
     runs_2();
+    idle_steps_2();
     plans_2();
     depths();
     texts_2();

@@ -105,6 +105,15 @@ pub struct Plan {
     pub count: usize,
 }
 
+/// A sequence that was run.
+#[derive(Clone, Copy, Debug, PartialEq, Eq, Hash)]
+pub struct Ran {
+    /// How many sets were written, which is N.
+    pub sets: usize,
+    /// How many steps were idle: they left every state of the set as it was. States outside the set do not count.
+    pub idle: usize,
+}
+
 /// The bytes of output that [`levels_text`] asks for: the longest text's.
 pub const TEXT_ROOM: usize = 8600;
 
@@ -468,12 +477,13 @@ pub fn extract(file: &[u8], depth: usize, set: u64, words: &[u64], out: &mut [u6
     .map(count)
 }
 
-/// Runs a sequence of actions from each state of a set; answers the number of sets written, which is N.
+/// Runs a sequence of actions from each state of a set; answers the number of sets written, which is N, and that of the
+/// idle steps.
 ///
 /// In version 2 a step fires, in each state, the action's effects whose antecedents held there before it. What a step
 /// deletes is removed before what it adds is joined, in both versions, so that an add wins over a delete.
-pub fn run(file: &[u8], set: u64, list: &[u8], out: &mut [u32]) -> Result<usize, Refusal> {
-    told(|answer| unsafe {
+pub fn run(file: &[u8], set: u64, list: &[u8], out: &mut [u32]) -> Result<Ran, Refusal> {
+    let answer = told(|answer| unsafe {
         proved::mogzift_run(
             file.as_ptr(),
             file.len(),
@@ -484,8 +494,11 @@ pub fn run(file: &[u8], set: u64, list: &[u8], out: &mut [u32]) -> Result<usize,
             out.len(),
             answer,
         )
+    })?;
+    Ok(match answer {
+        (ANSWERED, sets, idle) => Ran { sets, idle },
+        _ => unreachable!("{answer:?} of a run"),
     })
-    .map(count)
 }
 
 /// The relaxed plan of a goal for a set of states: of each layer below the level the set of the actions that are marked,

@@ -175,7 +175,7 @@ impl Problem {
 ///
 /// // carried from both states
 /// let mut ends = [0; 2];
-/// assert_eq!(mogzift::run(&file, 0b11, &[0], &mut ends), Ok(2));
+/// assert_eq!(mogzift::run(&file, 0b11, &[0], &mut ends), Ok(mogzift::Ran { sets: 2, idle: 0 }));
 /// assert_eq!(ends, [0b00110, 0b11010]);
 ///
 /// // the letter in the office: packed and carried, or carried at once
@@ -413,7 +413,7 @@ impl Graph {
 #[cfg(test)]
 mod tests {
     use super::*;
-    use crate::{reference, Built};
+    use crate::{reference, Built, Ran};
 
     /// The bytes of the README's table.
     const LAMP: [u8; 40] = *b"SAG\x01\x00\x03\x02\x02\
@@ -711,34 +711,91 @@ mod tests {
         }
     }
 
-    /// A file, a list, and the states that it leads to from each state.
-    type Led = (Vec<u8>, &'static [u8], Vec<u32>);
+    /// A file, a list, the sets that it leads to from each state, and how many of its steps are idle.
+    type Led = (Vec<u8>, &'static [u8], Vec<u32>, usize);
+
+    /// Runs each list from all states, in both versions.
+    fn check_led(all: Vec<Led>) {
+        for (file, list, ends, idle) in all {
+            let (set, mut proved, mut plain) = ((1 << ends.len()) - 1, vec![9; ends.len()], vec![9; ends.len()]);
+            let ran = Ok(Ran { sets: ends.len(), idle });
+            assert_eq!(crate::run(&file, set, list, &mut proved), ran);
+            assert_eq!(reference::run(&file, set, list, &mut plain), ran);
+            assert_eq!((proved, plain), (ends.clone(), ends));
+        }
+    }
 
     /// Steps that add and delete one proposition: by one action, by one effect, by two effects in either order.
     fn added_and_deleted() -> Result<Vec<Led>, Refusal> {
         let both = Problem::new(2)?.action(0, 1, 1)?.action(1, 0, 1)?.state(0)?.state(3)?;
         let effects = || ConditionalProblem::new(3)?.action(0)?.state(0)?.state(2)?.state(3);
         Ok(vec![
-            (both.bytes()?, &[0], vec![1, 3]),
-            (both.bytes()?, &[0, 1], vec![0, 2]),
-            (ConditionalProblem::from(both.clone()).bytes()?, &[0], vec![1, 3]),
-            (ConditionalProblem::from(both).bytes()?, &[0, 1], vec![0, 2]),
+            (both.bytes()?, &[0], vec![1, 3], 0),
+            (both.bytes()?, &[0, 1], vec![0, 2], 0),
+            (ConditionalProblem::from(both.clone()).bytes()?, &[0], vec![1, 3], 0),
+            (ConditionalProblem::from(both).bytes()?, &[0, 1], vec![0, 2], 0),
             // the second fires in states 1 and 2 only
-            (effects()?.effect(0, 0, 1, 0)?.effect(0, 2, 4, 1)?.bytes()?, &[0], vec![1, 7, 7]),
-            (effects()?.effect(0, 2, 4, 1)?.effect(0, 0, 1, 0)?.bytes()?, &[0], vec![1, 7, 7]),
-            (effects()?.effect(0, 0, 1, 2)?.effect(0, 0, 2, 1)?.bytes()?, &[0], vec![3, 3, 3]),
+            (effects()?.effect(0, 0, 1, 0)?.effect(0, 2, 4, 1)?.bytes()?, &[0], vec![1, 7, 7], 0),
+            (effects()?.effect(0, 2, 4, 1)?.effect(0, 0, 1, 0)?.bytes()?, &[0], vec![1, 7, 7], 0),
+            (effects()?.effect(0, 0, 1, 2)?.effect(0, 0, 2, 1)?.bytes()?, &[0], vec![3, 3, 3], 0),
             // only the first fires in state 2, only the second in state 1
-            (effects()?.effect(0, 1, 4, 0)?.effect(0, 2, 0, 4)?.bytes()?, &[0, 0], vec![0, 2, 7]),
+            (effects()?.effect(0, 1, 4, 0)?.effect(0, 2, 0, 4)?.bytes()?, &[0, 0], vec![0, 2, 7], 1),
         ])
     }
 
     #[test]
     fn an_add_wins_over_a_delete() {
-        for (file, list, ends) in added_and_deleted().unwrap() {
-            let (set, mut proved, mut plain) = ((1 << ends.len()) - 1, vec![9; ends.len()], vec![9; ends.len()]);
-            assert_eq!(crate::run(&file, set, list, &mut proved), Ok(ends.len()));
-            assert_eq!(reference::run(&file, set, list, &mut plain), Ok(ends.len()));
-            assert_eq!((proved, plain), (ends.clone(), ends));
+        check_led(added_and_deleted().unwrap());
+    }
+
+    /// Steps that leave every state as it was, and others.
+    fn idle_steps() -> Result<Vec<Led>, Refusal> {
+        let actions = Problem::new(2)?.action(0, 1, 0)?.action(0, 0, 2)?.action(0, 1, 1)?.action(0, 0, 0)?;
+        let actions = actions.state(0)?.state(1)?;
+        let effects = || ConditionalProblem::new(3)?.action(0)?.action(0)?.state(1)?.state(2);
+        let swapped = effects()?.effect(0, 1, 0, 5)?.effect(0, 0, 4, 0)?.effect(1, 4, 0, 4)?.effect(1, 2, 4, 0)?;
+        Ok(vec![
+            (actions.bytes()?, &[], vec![0, 1], 0),
+            (actions.bytes()?, &[3, 1], vec![0, 1], 2),
+            // one of the states has what is added
+            (actions.bytes()?, &[0], vec![1, 1], 0),
+            (actions.bytes()?, &[0, 0, 2, 3, 1], vec![1, 1], 4),
+            (ConditionalProblem::from(actions).bytes()?, &[0, 0, 2, 3, 1], vec![1, 1], 4),
+            // deleted in every state, and added again in those that had it
+            (effects()?.effect(0, 0, 0, 1)?.effect(0, 1, 1, 0)?.bytes()?, &[0, 0, 1], vec![1, 2], 3),
+            // deleted in every state, and added in another than those that had it
+            (effects()?.effect(0, 0, 0, 1)?.effect(0, 2, 1, 0)?.bytes()?, &[0, 0], vec![0, 3], 1),
+            // added in every state, and deleted in one that has it
+            (effects()?.effect(0, 0, 4, 0)?.effect(0, 1, 0, 4)?.bytes()?, &[0, 0], vec![5, 6], 1),
+            // each fires in one state, and does nothing there
+            (effects()?.effect(0, 1, 1, 2)?.effect(0, 2, 2, 5)?.bytes()?, &[0, 1, 0], vec![1, 2], 3),
+            // 4 and 6 after the first step; the second takes 4 from the first state only, and again from none
+            (swapped.bytes()?, &[0, 1, 1], vec![0, 6], 1),
+        ])
+    }
+
+    #[test]
+    fn an_idle_step_leaves_every_state_as_it_was() {
+        check_led(idle_steps().unwrap());
+    }
+
+    /// Where a run is turned away nothing is told of idle steps, also if there were some; states outside the set, whatever a
+    /// step would do there, do not count.
+    #[test]
+    fn idle_steps_are_those_of_the_set() {
+        let run = |file: &[u8], set: u64, list: &[u8]| {
+            let answer = crate::run(file, set, list, &mut [9; 2]);
+            assert_eq!(answer, reference::run(file, set, list, &mut [9; 2]));
+            answer
+        };
+        let problem = || Problem::new(2)?.action(0, 1, 0)?.action(2, 0, 0)?.state(0)?.state(1);
+        let file = problem().unwrap().bytes().unwrap();
+        for file in [file, problem().map(ConditionalProblem::from).unwrap().bytes().unwrap()] {
+            assert_eq!(run(&file, 0b10, &[0, 0]), Ok(Ran { sets: 2, idle: 2 }));
+            assert_eq!(run(&file, 0b01, &[0, 0]), Ok(Ran { sets: 2, idle: 1 }));
+            assert_eq!(run(&file, 0b11, &[0, 0]), Ok(Ran { sets: 2, idle: 1 }));
+            assert_eq!(run(&file, 0b10, &[0, 0, 1]), Err(Refusal::Precondition(2)));
+            assert_eq!(run(&file, 0b10, &[0, 0, 2]), Err(Refusal::Sequence(2)));
         }
     }
 

@@ -22,12 +22,13 @@
 //! - Level by share keeps the states that did not weigh enough: fewer do not, either, and of more it weighs the new ones.
 //! - Page remembers in which layers such a word stands in the way, for all goals to come, and looks for a rest once.
 //! - Plan goes over the propositions that are needed only, and over the effects that add one as a set.
-//! - Run follows a sequence of version 1 once, for all states, and asks whether all preconditions held after many steps at
-//!   a time. In version 2, where a step differs by state, it keeps a word of states for each proposition.
+//! - Run follows a sequence of version 1 once, for all states: one word has what some of them lack and what some have, and
+//!   tells whether a precondition holds and whether a step is idle. In version 2, where a step differs by state, it keeps a
+//!   word of states for each proposition, and compares those that a step touches.
 
 #![allow(clippy::needless_range_loop)] // an index that several rows share
 
-use crate::{word_count, Built, Level, Levels, Plan, Refusal, Rest, TEXT_ROOM};
+use crate::{word_count, Built, Level, Levels, Plan, Ran, Refusal, Rest, TEXT_ROOM};
 use crate::{ENTRY_GOAL, ENTRY_NEVER, ENTRY_NOT_BY_DEPTH};
 use std::fmt::Write;
 
@@ -1538,128 +1539,177 @@ fn moves(set: u64) -> [Move; 6] {
 
 // ---- run
 
-/// Runs a sequence of actions from each state of a set; answers the number of sets written, which is N.
-pub fn run(file: &[u8], set: u64, list: &[u8], out: &mut [u32]) -> Result<usize, Refusal> {
+/// Runs a sequence of actions from each state of a set; answers the number of sets written, which is N, and that of the
+/// idle steps.
+pub fn run(file: &[u8], set: u64, list: &[u8], out: &mut [u32]) -> Result<Ran, Refusal> {
     let problem = Problem::open(file)?;
     problem.check_set(set)?;
-    if out.len() < problem.states {
-        return Err(Refusal::Output(problem.states));
+    let sets = problem.states;
+    if out.len() < sets {
+        return Err(Refusal::Output(sets));
     }
     if list.len() > 65535 {
         return Err(Refusal::Sequence(65535));
     }
+    let (starts, ends) = (problem.starts(), &mut out[..sets]);
+    if list.is_empty() {
+        copy_sets(starts, ends);
+        return Ok(Ran { sets, idle: 0 }); // and there is no table to make
+    }
     let known = |a: u8| (a as usize) < problem.actions;
-    if !list.is_empty() && !known(list.iter().fold(0, |most, &a| most.max(a))) {
+    if !known(list.iter().fold(0, |most, &a| most.max(a))) {
         return Err(Refusal::Sequence(list.iter().position(|&a| !known(a)).unwrap()));
     }
-    match problem.rules() {
-        Rules::Actions(actions) => run_actions(actions, problem.starts(), set, list, out)?,
-        rules => run_effects(rules, problem.starts(), set, list, out)?,
-    }
-    Ok(problem.states)
-}
-
-/// Version 1. A step removes and adds the same propositions in every state, and so does a sequence: it is followed
-/// once, with the propositions that all states of the set have, and the states are moved at its end.
-#[inline(always)]
-fn run_actions(actions: &[u8], starts: &[u8], set: u64, list: &[u8], out: &mut [u32]) -> Result<(), Refusal> {
-    // of each state: all ones if it is of the set
-    let mut within = [0; 64];
-    let mut sure = u32::MAX;
-    for ((s, within), start) in within.iter_mut().enumerate().zip(starts.chunks_exact(4)) {
-        *within = ((set >> s & 1) as u32).wrapping_neg();
-        sure &= set_of(start) | !*within;
-    }
-    let (kept, added) = follow(actions, sure, list)?;
-    for ((end, start), within) in out.iter_mut().zip(starts.chunks_exact(4)).zip(&within) {
-        let start = set_of(start);
-        *end = (start & kept | added) & within | start & !within;
-    }
-    Ok(())
-}
-
-/// What a step keeps, adds to that, and does not ask for. A set stands in both halves of a word, so that two sets take
-/// a step at once.
-#[derive(Clone, Copy, Default)]
-#[repr(align(32))]
-struct Step {
-    kept: u64,
-    added: u64,
-    unasked: u32,
-}
-
-impl Step {
-    fn of(bytes: &[u8]) -> Step {
-        let [pre, add, del] = three_sets(bytes);
-        let twice = |set: u32| set as u64 | (set as u64) << 32;
-        Step { kept: twice(!del), added: twice(add), unasked: !pre }
-    }
-}
-
-/// After so many steps it is asked whether all preconditions held.
-const BLOCK: usize = 64;
-
-/// Follows a list of actions, given as bytes, from what all states have: what the list keeps of a set, and what it adds.
-#[inline(always)]
-fn follow(actions: &[u8], sure: u32, list: &[u8]) -> Result<(u32, u32), Refusal> {
-    if list.is_empty() {
-        return Ok((u32::MAX, 0)); // and there is no table to make
-    }
-    let mut steps = [Step::default(); 32];
-    for (step, bytes) in steps.iter_mut().zip(actions.chunks_exact(12)) {
-        *step = Step::of(bytes);
-    }
-    // below what all states have, above what becomes of the empty set
-    let mut both = sure as u64;
-    let mut kept = u32::MAX;
-    for (i, block) in list.chunks(BLOCK).enumerate() {
-        let before = both;
-        let mut held = u32::MAX;
-        for &a in block {
-            let step = &steps[a as usize % 32];
-            held &= both as u32 | step.unasked;
-            both = both & step.kept | step.added;
-            kept &= step.kept as u32;
-        }
-        if held != u32::MAX {
-            return Err(Refusal::Precondition(BLOCK * i + first_unmet(&steps, before, block)));
-        }
-    }
-    Ok((kept, (both >> 32) as u32))
-}
-
-/// The first step of a block that asks for something which the states do not all have by then.
-fn first_unmet(steps: &[Step; 32], mut sure: u64, block: &[u8]) -> usize {
-    let unmet = |&a: &u8| {
-        let step = &steps[a as usize % 32];
-        let had = sure as u32;
-        sure = sure & step.kept | step.added;
-        had | step.unasked != u32::MAX
+    let changes = match problem.rules() {
+        Rules::Actions(actions) => run_actions(actions, starts, set, list, ends)?,
+        rules => run_effects(rules, starts, set, list, ends)?,
     };
-    block.iter().position(unmet).unwrap()
+    Ok(Ran { sets, idle: list.len() - changes })
 }
 
-/// Version 2. An effect fires in some states and not in others, so the sets are kept turned round: of each proposition
-/// the states that have it.
-#[inline(never)] // version 1 is quicker without it in the same function
-fn run_effects(rules: Rules, starts: &[u8], set: u64, list: &[u8], out: &mut [u32]) -> Result<(), Refusal> {
-    if list.is_empty() {
-        out.iter_mut().zip(starts.chunks_exact(4)).for_each(|(end, start)| *end = set_of(start));
-        return Ok(()); // and nothing is turned round
+/// Copies the sets of these bytes.
+#[inline(always)]
+fn copy_sets(bytes: &[u8], to: &mut [u32]) {
+    for (to, bytes) in to.iter_mut().zip(bytes.chunks_exact(4)) {
+        *to = set_of(bytes);
     }
-    let steps = Steps::new(rules);
-    let (mut labels, mut fired) = (start_labels(starts), [0; 32]);
-    for (i, &a) in list.iter().enumerate() {
-        if !steps.take(a as usize % 32, set, &mut labels, &mut fired) {
-            return Err(Refusal::Precondition(i));
+}
+
+/// Of the states of a set, below what some lack, above what some have. Each proposition is in a half or in both.
+#[derive(Clone, Copy)]
+struct Mix(u64);
+
+impl Mix {
+    #[inline(always)]
+    fn of(starts: &[u8], set: u64) -> Mix {
+        let (lacked, had) = if set == first_bits(starts.len() / 4) {
+            (!sets_of(starts).fold(u32::MAX, |all, start| all & start), joined(starts))
+        } else {
+            let start = |s: usize| set_of(&starts[4 * s..]);
+            States(set).fold((0, 0), |(lacked, had), s| (lacked | !start(s), had | start(s)))
+        };
+        Mix(lacked as u64 | (had as u64) << 32)
+    }
+
+    fn lacked(self) -> u32 {
+        self.0 as u32
+    }
+
+    fn had(self) -> u32 {
+        (self.0 >> 32) as u32
+    }
+
+    /// Writes the sets of all states, if each step did the same in every state of the set: where some still lack what
+    /// others have, no step added or deleted it.
+    #[inline(always)]
+    fn end(self, starts: &[u8], set: u64, ends: &mut [u32]) {
+        let (kept, added) = (self.had(), !self.lacked());
+        copy_sets(starts, ends);
+        if set == first_bits(ends.len()) {
+            for end in ends {
+                *end = *end & kept | added;
+            }
+        } else {
+            for s in States(set) {
+                ends[s] = ends[s] & kept | added;
+            }
         }
     }
-    for (i, ends) in out[..starts.len() / 4].chunks_mut(32).enumerate() {
+}
+
+/// What goes from a mix in a step that adds and deletes this in every state: after it no state lacks the one or has the
+/// other.
+#[inline(always)]
+fn gone(add: u32, del: u32) -> u64 {
+    add as u64 | ((del & !add) as u64) << 32
+}
+
+/// What comes to the mix where this goes: what no state lacks all have, and what none has all lack.
+#[inline(always)]
+fn come(gone: u64) -> u64 {
+    gone.rotate_left(32)
+}
+
+/// The actions of version 1: of each what stays of a mix in a step, what comes to that, and what no state may lack.
+struct Table {
+    stay: [u64; 32],
+    come: [u64; 32],
+    pre: [u64; 32],
+}
+
+impl Table {
+    #[inline(always)]
+    fn of(actions: &[u8]) -> Table {
+        let mut table = Table { stay: [0; 32], come: [0; 32], pre: [0; 32] };
+        for (a, bytes) in actions.chunks_exact(12).enumerate() {
+            let (a, [pre, add, del]) = (a % 32, three_sets(bytes));
+            let gone = gone(add, del);
+            (table.stay[a], table.come[a], table.pre[a]) = (!gone, come(gone), pre as u64);
+        }
+        table
+    }
+}
+
+/// Version 1; answers how many steps were not idle. A step removes and adds the same propositions in every state, and so
+/// does a sequence: it is followed once, with what some states of the set lack and have, and the states are moved at its
+/// end.
+#[inline(always)]
+fn run_actions(actions: &[u8], starts: &[u8], set: u64, list: &[u8], ends: &mut [u32]) -> Result<usize, Refusal> {
+    let (mix, changes) = follow(&Table::of(actions), Mix::of(starts, set), list)?;
+    mix.end(starts, set, ends);
+    Ok(changes)
+}
+
+/// The mix that a list of actions leads to, and how many of its steps were not idle.
+#[inline(never)] // within a call its loop may be short of registers
+fn follow(table: &Table, Mix(mut mix): Mix, list: &[u8]) -> Result<(Mix, usize), Refusal> {
+    let mut changes = 0;
+    let mut take = |a: u8| {
+        let a = a as usize % 32;
+        if mix & table.pre[a] != 0 {
+            return false;
+        }
+        // if all of it stays, what comes was there
+        let stays = mix & table.stay[a];
+        changes += (stays != mix) as usize;
+        mix = stays | table.come[a];
+        true
+    };
+    // four steps at a time are quicker than one or eight
+    let fours = list.chunks_exact(4);
+    let last = fours.remainder();
+    for (i, four) in fours.enumerate() {
+        for (j, &a) in four.iter().enumerate() {
+            if !take(a) {
+                return Err(Refusal::Precondition(4 * i + j));
+            }
+        }
+    }
+    match last.iter().position(|&a| !take(a)) {
+        Some(j) => Err(Refusal::Precondition(list.len() - last.len() + j)),
+        None => Ok((Mix(mix), changes)),
+    }
+}
+
+/// Version 2; answers how many steps were not idle. An effect fires in some states and not in others, so the sets are kept
+/// turned round: of each proposition the states that have it.
+#[inline(never)] // version 1 is quicker without it in the same function
+fn run_effects(rules: Rules, starts: &[u8], set: u64, list: &[u8], ends: &mut [u32]) -> Result<usize, Refusal> {
+    let steps = Steps::new(rules);
+    let (mut labels, mut fired, mut before) = (start_labels(starts), [0; 32], [0; 32]);
+    let mut changes = 0;
+    for (i, &a) in list.iter().enumerate() {
+        match steps.take(a as usize % 32, set, &mut labels, &mut fired, &mut before) {
+            Some(changed) => changes += changed as usize,
+            None => return Err(Refusal::Precondition(i)),
+        }
+    }
+    for (i, ends) in ends.chunks_mut(32).enumerate() {
         let mut rows = labels.map(|states| (states >> (32 * i)) as u32);
         turn_bits(&mut rows);
         ends.copy_from_slice(&rows[..ends.len()]);
     }
-    Ok(())
+    Ok(changes)
 }
 
 /// Preconditions and effects by action, and the sets of each effect.
@@ -1685,16 +1735,32 @@ impl Steps {
         steps
     }
 
-    /// A step of an action in the states of a set. Whether its precondition held in all of them; else it is not made.
+    /// A step of an action in the states of a set: whether it changes one of them, or none if its precondition does not
+    /// hold in all of them; then it is not made.
     #[inline(always)]
-    fn take(&self, a: usize, set: u64, labels: &mut [u64; 32], fired: &mut [u64; 32]) -> bool {
+    fn take(
+        &self,
+        a: usize,
+        set: u64,
+        labels: &mut [u64; 32],
+        fired: &mut [u64; 32],
+        before: &mut [u64; 32],
+    ) -> Option<bool> {
         let having = |props: u32, labels: &[u64; 32]| Members::<32>(props).fold(set, |all, p| all & labels[p]);
         if having(self.pre[a], labels) != set {
-            return false;
+            return None;
         }
         let effects = self.effects[a];
+        let mut touched = 0;
         for e in Members::<32>(effects) {
             fired[e] = having(self.when[e], labels);
+            if fired[e] != 0 {
+                touched |= self.add[e] | self.del[e];
+            }
+        }
+        // what one effect deletes another may add
+        for p in Members::<32>(touched) {
+            before[p] = labels[p];
         }
         for e in Members::<32>(effects) {
             for p in Members::<32>(self.del[e]) {
@@ -1706,7 +1772,7 @@ impl Steps {
                 labels[p] |= fired[e];
             }
         }
-        true
+        Some(Members::<32>(touched).any(|p| labels[p] != before[p]))
     }
 }
 

@@ -5,11 +5,12 @@
 //! makes each look, where that does not take too long. A build for possible sets is held to one for the file that has them
 //! as its states, two levels to the single calls for them, and the levels of states chosen between the sure and the
 //! possible sets to these two. A level by share is held to a weighing of the states one by one, and on built words to the
-//! levels of single states, to that of all of them, and to those by other shares.
+//! levels of single states, to that of all of them, and to those by other shares. A run is held to one that takes each step
+//! in each state by itself, and counts the steps that leave all of them as they were.
 //!
 //! Prints how often each kind of answer came up, and fails where one that the paper has never did.
 
-use mogzift::{reference, word_count, Built, Level, Levels, Plan, Refusal, Rest, TEXT_ROOM};
+use mogzift::{reference, word_count, Built, Level, Levels, Plan, Ran, Refusal, Rest, TEXT_ROOM};
 use std::collections::{BTreeMap, BTreeSet};
 use std::fmt::Debug;
 use std::time::Instant;
@@ -136,7 +137,7 @@ impl Problem {
     fn after(&self, action: usize, state: u32) -> u32 {
         let fired = self.effects.iter().filter(|effect| effect.owner == action && effect.when & !state == 0);
         let (add, del) = fired.fold((0, 0), |(add, del), effect| (add | effect.add, del | effect.del));
-        (state | add) & !del
+        state & !del | add
     }
 }
 
@@ -428,6 +429,87 @@ fn first_enough(
     })
 }
 
+// ---- runs, state by state
+
+/// A run in which each step was taken in each state of the set by itself: what is answered, the sets of all states after
+/// it, and of its steps how many were of each of these kinds.
+struct Walk {
+    ran: Ran,
+    ends: Vec<u32>,
+    /// An effect fires in some states of the set and not in all.
+    parted: usize,
+    /// Such a step is idle.
+    parted_idle: usize,
+    /// It changes some states of the set and not all.
+    uneven: usize,
+    /// It is idle, and would change a state outside the set.
+    idle_within: usize,
+}
+
+/// Of an accepted file the run of a list with room for so many sets, or why it is turned away.
+fn walk(file: &[u8], set: u64, list: &[u8], room: usize) -> Result<Walk, Refusal> {
+    let [actions, states] = [6, 7].map(|at| file[at] as usize);
+    let set_at = |at: usize| u32::from_le_bytes(*file[at..].first_chunk().expect("four bytes"));
+    let within = |s: usize| set >> s & 1 == 1;
+    if set == 0 || (states..64).any(within) {
+        return Err(Refusal::StateSet);
+    }
+    if room < states {
+        return Err(Refusal::Output(states));
+    }
+    if list.len() > 65_535 {
+        return Err(Refusal::Sequence(65_535));
+    }
+    if let Some(at) = list.iter().position(|&a| a as usize >= actions) {
+        return Err(Refusal::Sequence(at));
+    }
+    let (pre, effects): (Vec<u32>, Vec<Effect>) = if version(file) == 1 {
+        let effect = |a: usize| {
+            let at = 8 + 12 * a;
+            Effect { owner: a, when: 0, add: set_at(at + 4), del: set_at(at + 8) }
+        };
+        ((0..actions).map(|a| set_at(8 + 12 * a)).collect(), (0..actions).map(effect).collect())
+    } else {
+        let effect = |e: usize| {
+            let at = 9 + 4 * actions + 13 * e;
+            Effect { owner: file[at] as usize, when: set_at(at + 1), add: set_at(at + 5), del: set_at(at + 9) }
+        };
+        ((0..actions).map(|a| set_at(9 + 4 * a)).collect(), (0..file[8] as usize).map(effect).collect())
+    };
+    let mut sets: Vec<u32> = (0..states).map(|s| set_at(file.len() - 4 * (states - s))).collect();
+
+    let members: Vec<usize> = (0..states).filter(|&s| within(s)).collect();
+    let others: Vec<usize> = (0..states).filter(|&s| !within(s)).collect();
+    let (mut idle, mut parted, mut parted_idle, mut uneven, mut idle_within) = (0, 0, 0, 0, 0);
+    for (i, &a) in list.iter().enumerate() {
+        let a = a as usize;
+        if members.iter().any(|&s| pre[a] & !sets[s] != 0) {
+            return Err(Refusal::Precondition(i));
+        }
+        let own: Vec<&Effect> = effects.iter().filter(|effect| effect.owner == a).collect();
+        let fires = |effect: &Effect, state: u32| effect.when & !state == 0;
+        let after = |state: u32| {
+            let mut next = state;
+            own.iter().filter(|effect| fires(effect, state)).for_each(|effect| next &= !effect.del);
+            own.iter().filter(|effect| fires(effect, state)).for_each(|effect| next |= effect.add);
+            next
+        };
+        let nexts: Vec<u32> = members.iter().map(|&s| after(sets[s])).collect();
+        let changed = members.iter().zip(&nexts).filter(|(&s, &next)| sets[s] != next).count();
+        let part = own.iter().any(|effect| {
+            let fired = members.iter().filter(|&&s| fires(effect, sets[s])).count();
+            0 < fired && fired < members.len()
+        });
+        idle += (changed == 0) as usize;
+        parted += part as usize;
+        parted_idle += (part && changed == 0) as usize;
+        uneven += (0 < changed && changed < members.len()) as usize;
+        idle_within += (changed == 0 && others.iter().any(|&s| after(sets[s]) != sets[s])) as usize;
+        members.iter().zip(nexts).for_each(|(&s, next)| sets[s] = next);
+    }
+    Ok(Walk { ran: Ran { sets: states, idle }, ends: sets, parted, parted_idle, uneven, idle_within })
+}
+
 // ---- looks, one by one
 
 /// A count of looks that may take more than so many steps, one for each two propositions and two vertices, is not made.
@@ -598,6 +680,15 @@ impl Kind for Built {
     }
 }
 
+impl Kind for Ran {
+    fn kind(&self) -> &'static str {
+        match self.idle {
+            0 => "written",
+            _ => "with idle steps",
+        }
+    }
+}
+
 /// The entries that were written for a page of goals.
 #[derive(Debug, PartialEq)]
 struct Entries(usize);
@@ -674,6 +765,15 @@ struct Tally {
     weighed: usize,
     partial: usize,
     whole: usize,
+    /// The runs that were accepted, those with a step that is idle, with one of which an effect fires in a part of the
+    /// set's states, with such a one that is idle, with one that changes a part of these states, and with one that is idle
+    /// where a state outside the set would change.
+    walked: usize,
+    idle: usize,
+    parted: usize,
+    parted_idle: usize,
+    uneven: usize,
+    idle_within: usize,
     kinds: BTreeMap<(usize, &'static str, &'static str), usize>,
     places: BTreeMap<(usize, usize, usize), usize>,
 }
@@ -903,12 +1003,29 @@ impl Tally {
         self.memory("extract", &before, &proved, &plain, answer.unwrap_or(0), input);
     }
 
+    /// What is answered and written is held to what is found state by state, and so is a refusal.
     fn run(&mut self, file: &[u8], set: u64, list: &[u8], before: Vec<u32>) {
         let input = || format!("set {set:x}, list {list:?}, {} out, file {file:02x?}", before.len());
         let (mut proved, mut plain) = (before.clone(), before.clone());
         let answer = mogzift::run(file, set, list, &mut proved);
         self.compare("run", file, answer, reference::run(file, set, list, &mut plain), input);
-        self.memory("run", &before, &proved, &plain, answer.unwrap_or(0), input);
+        self.memory("run", &before, &proved, &plain, answer.map_or(0, |ran| ran.sets), input);
+        let walk = match mogzift::fitting_depth(file, 0) {
+            Err(Refusal::Memory(_)) => walk(file, set, list, before.len()),
+            other => other.map(|depth| unreachable!("depth {depth} in no words")),
+        };
+        let wanted = walk.as_ref().map(|walk| walk.ran).map_err(|&why| why);
+        assert!(answer == wanted, "run {answer:?}, state by state {wanted:?}; {}", input());
+        if let Ok(Walk { ran, ends, parted, parted_idle, uneven, idle_within }) = walk {
+            let sets = &proved[..ends.len()];
+            assert!(ends == sets, "run: sets {sets:x?}, state by state {ends:x?}; {}", input());
+            self.walked += 1;
+            self.idle += (ran.idle > 0) as usize;
+            self.parted += (parted > 0) as usize;
+            self.parted_idle += (parted_idle > 0) as usize;
+            self.uneven += (uneven > 0) as usize;
+            self.idle_within += (idle_within > 0) as usize;
+        }
     }
 
     fn plan(&mut self, file: &[u8], depth: usize, set: u64, goal: u32, words: &[u64], before: Vec<u32>) {
@@ -1491,6 +1608,8 @@ fn check_kinds(tally: &Tally, version: usize) {
         ("entry", REFUSED[7]),
         ("extract", "written"),
         ("run", "written"),
+        ("run", "with idle steps"),
+        ("run", REFUSED[11]),
         ("plan", "plan of level 0"),
         ("plan", "plan of a level above 0"),
         ("depth", "depth 0"),
@@ -1532,11 +1651,21 @@ fn main() {
     println!(
         "{weighed} levels by share on built words, {partial} between those of single states, {whole} of all states"
     );
+    let Tally { walked, idle, parted, parted_idle, uneven, idle_within, .. } = tally;
+    println!(
+        "{walked} runs, {idle} with an idle step, {idle_within} with one that would change a state outside the set"
+    );
+    println!("{uneven} runs with a step that changes some states only");
+    println!(
+        "{parted} runs with an effect that fires in some states only, {parted_idle} with an idle step that has one"
+    );
     [1, 2].into_iter().for_each(|version| print_kinds(&tally, version));
     print_places(&tally);
     assert!(tally.calls >= 100_000, "too few calls");
     assert!(tally.looked >= PROBLEMS / 2, "too few counts of looks");
     assert!(tally.loose >= PROBLEMS / 2, "too few levels of chosen states");
     assert!(tally.partial >= PROBLEMS / 10 && tally.whole >= PROBLEMS / 10, "too few levels by share");
+    assert!(tally.idle >= PROBLEMS / 4 && tally.idle_within >= PROBLEMS / 10, "too few runs with idle steps");
+    assert!(tally.parted_idle >= PROBLEMS / 100 && tally.uneven >= PROBLEMS / 100, "too few runs that differ by state");
     [1, 2].into_iter().for_each(|version| check_kinds(&tally, version));
 }

@@ -466,12 +466,12 @@ fn reads(case: &Case, seed: u64, random: &mut Random) {
 
     // hardly a list works from all states at once
     let steps = list(random, file, 1);
-    let (_, times) = race!(run(file, 1, &steps => vec![0; 64]));
-    times.print("run", case, format!("1 state, {} steps", steps.len()));
+    let (ran, times) = race!(run(file, 1, &steps => vec![0; 64]));
+    times.print("run", case, format!("1 state, {} steps, {} idle", steps.len(), ran.idle));
     let refilled = case.refilled();
     let steps = list(random, &refilled, all);
-    let (_, times) = race!(run(&refilled, all, &steps => vec![0; 64]));
-    times.print("run", case, format!("all states, {} steps, refilled", steps.len()));
+    let (ran, times) = race!(run(&refilled, all, &steps => vec![0; 64]));
+    times.print("run", case, format!("all states, {} steps, {} idle, refilled", steps.len(), ran.idle));
     let (_, times) = race!(run(file, all, &[] => vec![0; 64]));
     times.print("run", case, "all states, no step".to_string());
 }
