@@ -1551,15 +1551,11 @@ pub fn run(file: &[u8], set: u64, list: &[u8], out: &mut [u32]) -> Result<Ran, R
     if list.len() > 65535 {
         return Err(Refusal::Sequence(65535));
     }
-    let (starts, ends) = (problem.starts(), &mut out[..sets]);
-    if list.is_empty() {
-        copy_sets(starts, ends);
-        return Ok(Ran { sets, idle: 0 }); // and there is no table to make
-    }
     let known = |a: u8| (a as usize) < problem.actions;
-    if !known(list.iter().fold(0, |most, &a| most.max(a))) {
+    if !list.is_empty() && !known(list.iter().fold(0, |most, &a| most.max(a))) {
         return Err(Refusal::Sequence(list.iter().position(|&a| !known(a)).unwrap()));
     }
+    let (starts, ends) = (problem.starts(), &mut out[..sets]);
     let changes = match problem.rules() {
         Rules::Actions(actions) => run_actions(actions, starts, set, list, ends)?,
         rules => run_effects(rules, starts, set, list, ends)?,
@@ -1655,7 +1651,12 @@ impl Table {
 /// end.
 #[inline(always)]
 fn run_actions(actions: &[u8], starts: &[u8], set: u64, list: &[u8], ends: &mut [u32]) -> Result<usize, Refusal> {
-    let (mix, changes) = follow(&Table::of(actions), Mix::of(starts, set), list)?;
+    let mix = Mix::of(starts, set);
+    if list.is_empty() {
+        mix.end(starts, set, ends);
+        return Ok(0); // and there is no table to make
+    }
+    let (mix, changes) = follow(&Table::of(actions), mix, list)?;
     mix.end(starts, set, ends);
     Ok(changes)
 }
@@ -1695,6 +1696,10 @@ fn follow(table: &Table, Mix(mut mix): Mix, list: &[u8]) -> Result<(Mix, usize),
 /// turned round: of each proposition the states that have it.
 #[inline(never)] // version 1 is quicker without it in the same function
 fn run_effects(rules: Rules, starts: &[u8], set: u64, list: &[u8], ends: &mut [u32]) -> Result<usize, Refusal> {
+    if list.is_empty() {
+        copy_sets(starts, ends);
+        return Ok(0); // and nothing is turned round
+    }
     let steps = Steps::new(rules);
     let (mut labels, mut fired, mut before) = (start_labels(starts), [0; 32], [0; 32]);
     let mut changes = 0;
