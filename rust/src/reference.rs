@@ -23,8 +23,9 @@
 //! - Page remembers in which layers such a word stands in the way, for all goals to come, and looks for a rest once.
 //! - Plan goes over the propositions that are needed only, and over the effects that add one as a set.
 //! - Run follows a sequence of version 1 once, for all states: one word has what some of them lack and what some have, and
-//!   tells whether a precondition holds and whether a step is idle. In version 2, where a step differs by state, it keeps a
-//!   word of states for each proposition, and compares those that a step touches.
+//!   tells whether a precondition holds and whether a step is idle. So it is in version 2 where an effect fires in every
+//!   state or in none. Where one fires in a part of them, and from then on, there is a word of states for each proposition
+//!   in which they differ.
 
 #![allow(clippy::needless_range_loop)] // an index that several rows share
 
@@ -1551,11 +1552,15 @@ pub fn run(file: &[u8], set: u64, list: &[u8], out: &mut [u32]) -> Result<Ran, R
     if list.len() > 65535 {
         return Err(Refusal::Sequence(65535));
     }
+    let (starts, ends) = (problem.starts(), &mut out[..sets]);
+    if list.is_empty() {
+        copy_sets(starts, ends);
+        return Ok(Ran { sets, idle: 0 }); // and there is no table to make
+    }
     let known = |a: u8| (a as usize) < problem.actions;
-    if !list.is_empty() && !known(list.iter().fold(0, |most, &a| most.max(a))) {
+    if !known(list.iter().fold(0, |most, &a| most.max(a))) {
         return Err(Refusal::Sequence(list.iter().position(|&a| !known(a)).unwrap()));
     }
-    let (starts, ends) = (problem.starts(), &mut out[..sets]);
     let changes = match problem.rules() {
         Rules::Actions(actions) => run_actions(actions, starts, set, list, ends)?,
         rules => run_effects(rules, starts, set, list, ends)?,
@@ -1593,6 +1598,15 @@ impl Mix {
 
     fn had(self) -> u32 {
         (self.0 >> 32) as u32
+    }
+
+    /// A step that adds and deletes this in every state. Whether it changes one.
+    #[inline(always)]
+    fn step(&mut self, add: u32, del: u32) -> bool {
+        let gone = gone(add, del);
+        let changes = self.0 & gone != 0;
+        self.0 = self.0 & !gone | come(gone);
+        changes
     }
 
     /// Writes the sets of all states, if each step did the same in every state of the set: where some still lack what
@@ -1651,12 +1665,7 @@ impl Table {
 /// end.
 #[inline(always)]
 fn run_actions(actions: &[u8], starts: &[u8], set: u64, list: &[u8], ends: &mut [u32]) -> Result<usize, Refusal> {
-    let mix = Mix::of(starts, set);
-    if list.is_empty() {
-        mix.end(starts, set, ends);
-        return Ok(0); // and there is no table to make
-    }
-    let (mix, changes) = follow(&Table::of(actions), mix, list)?;
+    let (mix, changes) = follow(&Table::of(actions), Mix::of(starts, set), list)?;
     mix.end(starts, set, ends);
     Ok(changes)
 }
@@ -1692,27 +1701,48 @@ fn follow(table: &Table, Mix(mut mix): Mix, list: &[u8]) -> Result<(Mix, usize),
     }
 }
 
-/// Version 2; answers how many steps were not idle. An effect fires in some states and not in others, so the sets are kept
-/// turned round: of each proposition the states that have it.
+/// Version 2; answers how many steps were not idle. Where all effects of a step fire in every state of the set or in none,
+/// the mix of the states tells all, as in version 1. Only once some fire in a part of them the sets are turned round: of
+/// each proposition in which the states differ it is kept which of the set have it.
 #[inline(never)] // version 1 is quicker without it in the same function
 fn run_effects(rules: Rules, starts: &[u8], set: u64, list: &[u8], ends: &mut [u32]) -> Result<usize, Refusal> {
-    if list.is_empty() {
-        copy_sets(starts, ends);
-        return Ok(0); // and nothing is turned round
-    }
     let steps = Steps::new(rules);
-    let (mut labels, mut fired, mut before) = (start_labels(starts), [0; 32], [0; 32]);
+    let mut mix = Mix::of(starts, set);
+    let mut labels = None;
     let mut changes = 0;
     for (i, &a) in list.iter().enumerate() {
-        match steps.take(a as usize % 32, set, &mut labels, &mut fired, &mut before) {
-            Some(changed) => changes += changed as usize,
-            None => return Err(Refusal::Precondition(i)),
+        let a = a as usize % 32;
+        if steps.pre[a] & mix.lacked() != 0 {
+            return Err(Refusal::Precondition(i));
+        }
+        // what is added and deleted in every state, and the effects that may fire in some
+        let (mut add, mut del, mut some) = (0, 0, 0);
+        for e in Members::<32>(steps.effects[a]) {
+            let when = steps.when[e];
+            if when & mix.lacked() == 0 {
+                add |= steps.add[e];
+                del |= steps.del[e];
+            } else if when & !mix.had() == 0 {
+                some |= 1 << e;
+            }
+        }
+        if some == 0 {
+            changes += mix.step(add, del) as usize;
+        } else {
+            let labels = labels.get_or_insert_with(|| start_labels(starts).map(|states: u64| states & set));
+            changes += steps.part(some, add, del, set, labels, &mut mix) as usize;
         }
     }
-    for (i, ends) in ends.chunks_mut(32).enumerate() {
-        let mut rows = labels.map(|states| (states >> (32 * i)) as u32);
-        turn_bits(&mut rows);
-        ends.copy_from_slice(&rows[..ends.len()]);
+    mix.end(starts, set, ends);
+    let differ = mix.lacked() & mix.had();
+    if let Some(labels) = labels.filter(|_| differ != 0) {
+        for (i, ends) in ends.chunks_mut(32).enumerate() {
+            let mut rows = labels.map(|states| (states >> (32 * i)) as u32);
+            turn_bits(&mut rows);
+            for s in Members::<32>((set >> (32 * i)) as u32) {
+                ends[s] = ends[s] & !differ | rows[s] & differ;
+            }
+        }
     }
     Ok(changes)
 }
@@ -1740,44 +1770,44 @@ impl Steps {
         steps
     }
 
-    /// A step of an action in the states of a set: whether it changes one of them, or none if its precondition does not
-    /// hold in all of them; then it is not made.
-    #[inline(always)]
-    fn take(
-        &self,
-        a: usize,
-        set: u64,
-        labels: &mut [u64; 32],
-        fired: &mut [u64; 32],
-        before: &mut [u64; 32],
-    ) -> Option<bool> {
-        let having = |props: u32, labels: &[u64; 32]| Members::<32>(props).fold(set, |all, p| all & labels[p]);
-        if having(self.pre[a], labels) != set {
-            return None;
-        }
-        let effects = self.effects[a];
-        let mut touched = 0;
-        for e in Members::<32>(effects) {
-            fired[e] = having(self.when[e], labels);
+    /// A step that adds and deletes something in every state, and of which some effects may fire in a part of the states.
+    /// Whether it changes a state. The label of a proposition in which the states do not differ is not looked at: all have
+    /// it or none has.
+    #[inline(never)]
+    fn part(&self, some: u32, add: u32, del: u32, set: u64, labels: &mut [u64; 32], mix: &mut Mix) -> bool {
+        let (lacked, had) = (mix.lacked(), mix.had());
+        let mut fired = [0; 32];
+        let (mut some_add, mut some_del) = (0, 0);
+        for e in Members::<32>(some) {
+            fired[e] = Members::<32>(self.when[e] & lacked).fold(set, |all, p| all & labels[p]);
             if fired[e] != 0 {
-                touched |= self.add[e] | self.del[e];
+                some_add |= self.add[e];
+                some_del |= self.del[e];
             }
         }
-        // what one effect deletes another may add
-        for p in Members::<32>(touched) {
-            before[p] = labels[p];
-        }
-        for e in Members::<32>(effects) {
-            for p in Members::<32>(self.del[e]) {
+        // what these effects may change, which nothing adds in every state
+        let del = del & !add;
+        let touched = (some_add & (lacked | del) | some_del & had & !del) & !add;
+        Members::<32>(touched & !lacked).for_each(|p| labels[p] = set);
+        Members::<32>(touched & !had).for_each(|p| labels[p] = 0);
+        let before = *labels;
+        Members::<32>(touched & del).for_each(|p| labels[p] = 0);
+        for e in Members::<32>(some) {
+            for p in Members::<32>(self.del[e] & touched) {
                 labels[p] &= !fired[e];
             }
         }
-        for e in Members::<32>(effects) {
-            for p in Members::<32>(self.add[e]) {
+        for e in Members::<32>(some) {
+            for p in Members::<32>(self.add[e] & touched) {
                 labels[p] |= fired[e];
             }
         }
-        Some(Members::<32>(touched).any(|p| labels[p] != before[p]))
+        let changed = Members::<32>(touched).fold(0, |all, p| all | ((labels[p] != before[p]) as u32) << p);
+        for p in Members::<32>(changed) {
+            let (lacked, had) = ((labels[p] != set) as u64, (labels[p] != 0) as u64);
+            mix.0 = mix.0 & !(1 << p | 1 << (32 + p)) | lacked << p | had << (32 + p);
+        }
+        mix.step(add, del & !touched) || changed != 0
     }
 }
 
