@@ -107,16 +107,16 @@ module _ {A : Actions} {n set : ℕ} where
   -- the sets stay as many
   ends_long : {xs ends : List ℕ} (list : List ℕ) → length xs ≡ n → Ends A n set xs list ends → length ends ≡ n
   ends_long [] long e = ap length (sym (ends_here e)) ∙ long
-  ends_long {xs} (a ∷ list) long e = ends_long list (stepped_long A n set a xs) (ends_on e)
+  ends_long {xs} (a ∷ list) long e = ends_long {xs = stepped A n set a xs} list (stepped_long A n set a xs) (ends_on e)
 
   -- the back of a list runs from where its front ends
   ends_back : {xs mid ends : List ℕ} (front back : List ℕ) → Ends A n set xs front mid → Ends A n set xs (front ++ back) ends → Ends A n set mid back ends
   ends_back {ends = ends} [] back e f = subst (λ (ys : List ℕ). Ends A n set ys back ends) (ends_here e) f
-  ends_back (a ∷ front) back e f = ends_back front back (ends_on e) (ends_on f)
+  ends_back {xs = xs} (a ∷ front) back e f = ends_back {xs = stepped A n set a xs} front back (ends_on e) (ends_on f)
 
   ends_joined : {xs mid ends : List ℕ} (front back : List ℕ) → Ends A n set xs front mid → Ends A n set mid back ends → Ends A n set xs (front ++ back) ends
   ends_joined {ends = ends} [] back e f = subst (λ (ys : List ℕ). Ends A n set ys back ends) (sym (ends_here e)) f
-  ends_joined (a ∷ front) back e f = ends_more (ends_first e) (ends_joined front back (ends_on e) f)
+  ends_joined {xs = xs} (a ∷ front) back e f = ends_more (ends_first e) (ends_joined {xs = stepped A n set a xs} front back (ends_on e) f)
 
   -- and the idle steps of both are those of the list
   idle_joined : {xs mid : List ℕ} (front back : List ℕ) → Ends A n set xs front mid
@@ -124,7 +124,7 @@ module _ {A : Actions} {n set : ℕ} where
   unfolding idle_from
   idle_joined {xs} {mid} [] back e =
       let q : idle_from A n set xs back ≡ idle_from A n set mid back = ap (λ (ys : List ℕ). idle_from A n set ys back) (ends_here e) in omega (arith, q)
-  idle_joined (a ∷ front) back e = let q = idle_joined front back (ends_on e) in omega (arith, q)
+  idle_joined {xs} (a ∷ front) back e = let q = idle_joined {xs = stepped A n set a xs} front back (ends_on e) in omega (arith, q)
 
   -- without an idle first step it ends the same
   ends_idle : {a : ℕ} {xs list ends : List ℕ} → length xs ≡ n → So (idle A n set a xs) → Ends A n set xs (a ∷ list) ends → Ends A n set xs list ends
@@ -232,7 +232,7 @@ module _ (A : Actions) (n set : ℕ) (P : ℕ → Type 0) where
         every = r.every;
       })
       (λ f.
-      let r : Trimmed A n set P (stepped A n set a xs) list _ = trim list (stepped_long A n set a xs) (every_on P a list every) (ends_on e) in
+      let r : Trimmed A n set P (stepped A n set a xs) list _ = trim {xs = stepped A n set a xs} list (stepped_long A n set a xs) (every_on P a list every) (ends_on e) in
       record {
         left = a ∷ r.left;
         same_ends = ends_more (ends_first e) r.same_ends;

@@ -230,7 +230,7 @@ module _ (A : Actions) (labels : List ℕ) (p : ℕ) where
   -- a state that a candidate covers is not left
   pub support_covers : (vs : List ℕ) (s : Support) {v : ℕ} (i : ℕ) → ((w : ℕ) → Memᴰ w vs → w < A.effects + A.props)
       → Memᴰ v vs → So (bit p (adds_of A v)) → So (bit i (label_in labels v)) → So (bit i (support A labels p vs s).left) → ⊥
-  support_covers [] s i h m a l t = Memᴰ.not_nil m
+  support_covers [] s i h m a l t = Memᴰ.not-nil m
   support_covers (w ∷ vs) s i h m a l t = by_step (λ (r : Support). So (bit i r.left) → ⊥) w vs
       (λ e t. no_bit_zero i (ap (bit i) (sym e) ∙ t))
       (λ b t. ⊎_elim
