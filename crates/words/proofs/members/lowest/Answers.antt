@@ -1,0 +1,7 @@
+-- A count of zeros of 64 bits is at most 64.
+use native.Mathlib.Omega.{arith}
+use lib.Count.{trailing_le}
+use Rattle.words.proofs.members.lowest.Goals as goal
+
+pub overflow_cast-result : goal.overflow_cast-result
+overflow_cast-result c = omega (arith, trailing_le 64 c.args.set)

@@ -1,0 +1,10 @@
+-- The loop writes one word after the other.
+use Prim.Native.Nat.{◌+◌, ◌-◌}
+use lib.ListN.{get_or}
+use Rattle.rules.specs.Word.{common}
+use Rattle.words.specs.Rows.{part_length}
+use Rattle.words.proofs.Writes.{Lists}
+use Rattle.words.proofs.parts.take_part.Given as goal
+
+abbrev pub invariant-loop-k : goal.invariant-loop-k
+invariant-loop-k l = Lists (λ k'. common (get_or l.words (l.at + k') 0) l.own) 0 part_length l.initial.part l.k l.part
