@@ -21,7 +21,7 @@ use graph::refusal::Refusal;
 use words::tables::ROW;
 
 // Built: the number of words written, and of the vertices and pairs that the scans looked at.
-#[derive(Drop)]
+#[derive(Clone, Copy)]
 pub enum BuildAnswer {
     Built(usize, usize),
     Refused(Refusal),

@@ -11,7 +11,7 @@ use layers::step::step;
 use rules::Shape;
 
 // How many steps were written, and how many vertices and pairs the scans of all steps of the depth look at.
-#[derive(Drop)]
+#[derive(Clone, Copy)]
 pub struct Steps {
     pub done: usize,
     pub looked: usize,

@@ -21,7 +21,7 @@ const STATE_WIDTH: usize = 64;
 const PIECE: usize = 64;
 
 // The states of a set that have near to go, and those that have far.
-#[derive(Drop)]
+#[derive(Clone, Copy)]
 struct Runs {
     set: u64,
     near: usize,
@@ -31,7 +31,7 @@ struct Runs {
 }
 
 // The states of a set that go down in each move, where they stand before it: in move i they go down by 2 ^ i.
-#[derive(Drop)]
+#[derive(Clone, Copy)]
 struct Moves {
     set: u64,
     m0: u64,

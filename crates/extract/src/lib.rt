@@ -13,7 +13,7 @@ use graph::layout::{stride, word_count};
 use graph::refusal::{Check, Refusal};
 use words::sets::States;
 
-#[derive(Drop)]
+#[derive(Clone, Copy)]
 pub enum ExtractAnswer {
     Extracted(usize),
     Refused(Refusal),

@@ -19,7 +19,7 @@ use crate::limits::{MAX_ACTIONS, MAX_EFFECTS};
 use crate::refusal::{Check, Refusal};
 use words::sets::{PROP_WIDTH, Props, STATE_WIDTH};
 
-#[derive(Drop)]
+#[derive(Clone, Copy)]
 pub enum FileAnswer {
     Taken(Counts),
     Refused(Refusal),

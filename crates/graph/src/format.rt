@@ -33,7 +33,7 @@ const ACTION_BYTES: usize = 12;
 const EFFECT_BYTES: usize = 13;
 
 // The version of a file and its four counts. In version 1 there is an effect for each action.
-#[derive(Drop)]
+#[derive(Clone, Copy)]
 pub struct Counts {
     pub version: usize,
     pub props: usize,

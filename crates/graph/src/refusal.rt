@@ -5,7 +5,7 @@ ghost use Rattle.graph.specs.Verdict.{number_of, place_of};
 use crate::limits::MAX_DEPTH;
 
 // The causes in the order of their numbers, 1 to 18, with the place where it varies.
-#[derive(Drop)]
+#[derive(Clone, Copy)]
 pub enum Refusal {
     Head,
     Version,
@@ -28,7 +28,7 @@ pub enum Refusal {
 }
 
 // What a single check comes to.
-#[derive(Drop)]
+#[derive(Clone, Copy)]
 pub enum Check {
     Passed,
     Refused(Refusal),

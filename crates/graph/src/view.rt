@@ -4,7 +4,7 @@ ghost use Rattle.graph.specs.Format.{set_at, set_bytes};
 
 use crate::file::set_at;
 
-#[derive(Drop)]
+#[derive(Clone, Copy)]
 pub struct View<'a> {
     pub bytes: &'a [u8],
     pub props: usize,

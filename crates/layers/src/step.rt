@@ -54,7 +54,7 @@ fn mate(
 }
 
 // Whether a step changed nothing, and how many vertices and pairs its scans looked at.
-#[derive(Drop)]
+#[derive(Clone, Copy)]
 pub struct Outcome {
     pub still: bool,
     pub looked: usize,

@@ -14,7 +14,7 @@ use rules::Shape;
 use words::sets::{Props, States};
 
 // What the layers say of a goal.
-#[derive(Drop)]
+#[derive(Clone, Copy)]
 pub enum Level {
     At(usize),
     Never,

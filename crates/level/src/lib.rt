@@ -19,13 +19,13 @@ use graph::refusal::{Check, Refusal};
 use rules::Shape;
 use words::sets::{Props, States};
 
-#[derive(Drop)]
+#[derive(Clone, Copy)]
 pub enum LevelAnswer {
     Level(Level),
     Refused(Refusal),
 }
 
-#[derive(Drop)]
+#[derive(Clone, Copy)]
 pub enum RestAnswer {
     At(usize),
     None,

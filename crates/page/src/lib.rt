@@ -22,7 +22,7 @@ use rules::Shape;
 use words::sets::{PROP_WIDTH, Props, States};
 
 // How many entries were written, one for each goal, or why the page is turned away.
-#[derive(Drop)]
+#[derive(Clone, Copy)]
 pub enum PageAnswer {
     Paged(usize),
     Refused(Refusal),

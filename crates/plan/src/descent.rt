@@ -10,7 +10,7 @@ ghost use Rattle.plan.specs.Search.{listed_actions, listed_shape, Tables, Live, 
 use crate::layer::{LayerAnswer, fall};
 
 // The words are whole, or states are left uncovered at this layer.
-#[derive(Drop)]
+#[derive(Clone, Copy)]
 pub enum Descent {
     Whole,
     Uncovered(usize),

@@ -16,14 +16,14 @@ use words::members::{lowest, others};
 use words::sets::{PROP_WIDTH, Props, wide};
 
 // The actions marked and the propositions needed below; or states are left uncovered.
-#[derive(Drop)]
+#[derive(Clone, Copy)]
 pub enum LayerAnswer {
     Marked(u32, u32),
     Uncovered,
 }
 
 // The states still uncovered, the actions marked, and the propositions needed below.
-#[derive(Drop)]
+#[derive(Clone, Copy)]
 pub struct Took {
     pub left: u64,
     pub marks: u32,

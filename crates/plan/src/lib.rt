@@ -33,7 +33,7 @@ use words::sets::{PROP_WIDTH, Props, States};
 use words::turned::columns_of_square;
 
 // The level and the number of marked actions, or why there is no plan.
-#[derive(Drop)]
+#[derive(Clone, Copy)]
 pub enum PlanAnswer {
     Plan(usize, usize),
     Refused(Refusal),

@@ -10,7 +10,7 @@ use graph::format::Counts;
 use graph::layout::word_count;
 use graph::refusal::{Check, Refusal};
 
-#[derive(Drop)]
+#[derive(Clone, Copy)]
 pub enum DepthAnswer {
     Depth(usize),
     Refused(Refusal),

@@ -25,7 +25,7 @@ const LEVELS_ROOM: usize = 8192;
 pub const TEXT_ROOM: usize = 8600;
 
 // The number of bytes written, or why the call is turned away.
-#[derive(Drop)]
+#[derive(Clone, Copy)]
 pub enum TextAnswer {
     Written(usize),
     Refused(Refusal),

@@ -14,7 +14,7 @@ use words::members::{lowest, others};
 use words::sets::PROP_WIDTH;
 
 // What the word tells of the effects of a step: that this goes of it; or that some effect may fire in a part of the set, which it does not tell.
-#[derive(Drop)]
+#[derive(Clone, Copy)]
 pub enum Even {
     Goes(u64),
     Partly,

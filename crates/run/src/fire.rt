@@ -102,7 +102,7 @@ fn settle(labels: &mut [u64], set: States, course: u64)
 }
 
 // What the effects of a step do: the deletes and the adds of those that fire in every state of the set, and which ones fire in some of its states only.
-#[derive(Drop)]
+#[derive(Clone, Copy)]
 pub struct Fired {
     pub del: u32,
     pub add: u32,
@@ -206,7 +206,7 @@ fn join_adds(file: &[u8], c: Counts, by: u64, fired: &[u64], labels: &mut [u64])
 
 // What a single step did: nothing, because some state of the set lacks its precondition; or it changed some state of the set, which makes this of what some
 // state lacks and some has; or it changed none.
-#[derive(Drop)]
+#[derive(Clone, Copy)]
 pub enum Stepped {
     Missing,
     Changed(u64),
@@ -316,7 +316,7 @@ fn step_effects(
 }
 
 // How many steps were made, and how many of them changed no state of the set.
-#[derive(Drop)]
+#[derive(Clone, Copy)]
 pub struct Gone {
     pub made: usize,
     pub idle: usize,

@@ -41,7 +41,7 @@ use words::tables::ROW;
 const MAX_STEPS: usize = 65535;
 
 // The number of sets written and that of idle steps, or why the run is turned away.
-#[derive(Drop)]
+#[derive(Clone, Copy)]
 pub enum RunAnswer {
     Ran(usize, usize),
     Refused(Refusal),
@@ -97,7 +97,7 @@ fn check_sequence(list: &[u8], actions: usize) -> Check
 }
 
 // What all of several states have, and what some of them have.
-#[derive(Drop)]
+#[derive(Clone, Copy)]
 struct Shared {
     all: u32,
     some: u32,

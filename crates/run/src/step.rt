@@ -42,7 +42,7 @@ pub fn came(course: u64, x: Props) -> Props
 
 // What came of a single step that was tried on the word: some state of the set lacks its precondition; or some of its effects may fire in a part of the set,
 // which the word does not tell (version 2); or it was made, and this is left of the word, and this has become of it.
-#[derive(Drop)]
+#[derive(Clone, Copy)]
 pub enum Tried {
     Missing,
     Partly,
@@ -61,7 +61,7 @@ pub fn try_step(course: u64, need: u64, leave: u64, bring: u64) -> Tried
 }
 
 // What a step that was made changed: some state of the set, or none.
-#[derive(Drop)]
+#[derive(Clone, Copy)]
 pub enum Change {
     Some,
     None,
@@ -89,7 +89,7 @@ pub fn counted(idle: usize, last: Change) -> usize
 }
 
 // Where the steps of a list led: up to the first that lacks its precondition, or through all of them.
-#[derive(Drop)]
+#[derive(Clone, Copy)]
 pub struct Walked {
     pub course: u64,
     pub made: usize,

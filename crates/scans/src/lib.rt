@@ -15,7 +15,7 @@ use words::members::{lowest, others, single};
 use words::tables::ROW;
 
 // The start states that might still be mutex, and how many looks were made.
-#[derive(Drop)]
+#[derive(Clone, Copy)]
 struct Seen {
     left: u64,
     looked: usize,
@@ -181,7 +181,7 @@ fn pair_looks(
 }
 
 // What changed in the table, and how many looks were made.
-#[derive(Drop)]
+#[derive(Clone, Copy)]
 pub struct Done {
     pub fresh: u64,
     pub looked: usize,

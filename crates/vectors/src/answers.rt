@@ -37,7 +37,7 @@ const SECOND: usize = 18;
 const DIGEST: usize = 19;
 
 // What a call answered, and its numbers, 0 for one that the answer lacks.
-#[derive(Drop)]
+#[derive(Clone, Copy)]
 pub struct Outcome {
     pub answer: u64,
     pub first: usize,

@@ -25,7 +25,7 @@ use words::sets::{Props, STATE_WIDTH, States};
 use words::tables::ROW;
 
 // The levels from the graph of the possible sets and from that of the sure sets.
-#[derive(Drop)]
+#[derive(Clone, Copy)]
 pub enum WithinAnswer {
     Levels(Level, Level),
     Refused(Refusal),

@@ -9,7 +9,7 @@ pub const PROP_WIDTH: usize = 32;
 pub const STATE_WIDTH: usize = 64;
 
 // A set of propositions, bit p for proposition p.
-#[derive(Drop)]
+#[derive(Clone, Copy)]
 pub struct Props(pub u32);
 
 impl Props {
@@ -86,7 +86,7 @@ pub fn wide(set: u32) -> u64
 }
 
 // A set of start states, bit s for state s.
-#[derive(Drop)]
+#[derive(Clone, Copy)]
 pub struct States(pub u64);
 
 impl States {

@@ -1,0 +1,7 @@
+-- `file::find_effect_set` meets its contract: the loop keeps what is left of the rule.
+use Prim.Native.Nat.{◌-◌}
+use Rattle.graph.proofs.Files.{EffectsLeft}
+use Rattle.graph.proofs.file.find_effect_set.Given as goal
+
+abbrev pub invariant-loop-e : goal.invariant-loop-e
+invariant-loop-e l = EffectsLeft l.file l.c l.e

@@ -1,0 +1,9 @@
+-- The loop writes one set after the other, and they fill the memory.
+use Prim.Native.Nat.{◌-◌}
+use lib.ListN.{length}
+use Rattle.together.specs.Interference.{interferers_of}
+use Rattle.words.proofs.Writes.{Lists}
+use Rattle.together.proofs.interference.interferer_sets.Given as goal
+
+abbrev pub invariant-loop-i : goal.invariant-loop-i
+invariant-loop-i l = Lists (interferers_of l.needs l.adds l.dels l.owners) 0 (length l.needs) l.initial.interferers l.i l.interferers
