@@ -1,0 +1,39 @@
+-- The layer is cut out of the words.
+use mathlib.Core.Path.{ap, subst, ◌∙◌}
+use mathlib.Core.List.{List}
+use Prim.Native.Nat.{◌+◌, ◌*◌, ◌≤◌}
+use native.Mathlib.Omega.{arith}
+use borrow.Author.Rules.{rules}
+use lib.ListN.{length}
+use Rattle.rules.specs.Layer.{size, stride}
+use Rattle.level.specs.Meets.{Judged}
+use Rattle.level.proofs.Parts.{layer_fits, layer_part, layer_length}
+use Rattle.level.proofs.layers.failing_at.Goals as goal
+use Rattle.level.proofs.layers.failing_at.Goals.{After-layer_size}
+
+-- the layer lies within the words
+fits : (c : After-layer_size)
+    → let a = c.args in a.t * stride a.s + size a.s.props ≤ length a.words.now
+fits c = layer_fits c.requires.0 _ (omega arith)
+
+pub overflow_add-end : goal.overflow_add-end
+overflow_add-end c = omega (arith, fits (goal.at.overflow_add-end c).After-layer_size)
+
+pub offset_bounds-words-at : goal.offset_bounds-words-at
+offset_bounds-words-at c = omega (arith, fits (goal.at.offset_bounds-words-at c).After-layer_size)
+
+pub slice_bounds-failing-start : goal.slice_bounds-failing-start
+slice_bounds-failing-start c = omega (arith, fits (goal.at.slice_bounds-failing-start c).After-layer_size)
+
+pub slice_bounds-failing-end : goal.slice_bounds-failing-end
+slice_bounds-failing-end c = omega (arith, fits (goal.at.slice_bounds-failing-end c).After-layer_size)
+
+pub failing-requires : goal.failing-requires
+failing-requires c =
+    (search rules, layer_length c.args.words.now _ _ (omega (arith, fits (goal.at.failing-requires c).After-layer_size)) ∙ c.layer_size.ensures.0, search rules)
+
+pub returns : goal.returns
+returns c =
+    let a = c.args in
+    let part = layer_part a.s a.t _ _ a.words.now c.layer_start-at.ensures.0 (ap (λ x. c.layer_start-at.result + x) c.layer_size.ensures.0) in
+    subst (λ (l : List _). Judged a.s.props l a.set.0 a.goal.0 c.failing.result) part c.failing.ensures
