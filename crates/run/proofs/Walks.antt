@@ -61,11 +61,9 @@ module _ (w need leave bring : ℕ) where
       (holds_or (same (common w need) 0))
 
   -- it was not made
-  pub tried_off : {r : Tried} → r ≡ tried_on w need leave bring → OneOf (0 ∷ 1 ∷ []) (tag_of the_type r) → common w need ≡ 0 → ⊥
+  pub tried_off : {r : Tried} → r ≡ tried_on w need leave bring → ((left next : ℕ) → r ≡ tried.Made left next → ⊥) → common w need ≡ 0 → ⊥
   unfolding tried_on
-  tried_off {r} e p z =
-      let k : r ≡ tried.Made (common w leave) (further leave bring w) = e ∙ choose_held _ (same_of z) in
-      miss (0 ∷ 1 ∷ []) 2 tt (subst (λ (x : Tried). OneOf (0 ∷ 1 ∷ []) (tag_of the_type x)) k p)
+  tried_off {r} e p z = p _ _ (e ∙ choose_held _ (same_of z))
 
 -- ---- the loop: the last step made is not counted yet
 

@@ -1,0 +1,10 @@
+-- The loop stores the two words of one effect after the other.
+use Prim.Native.Nat.{◌-◌}
+use Rattle.words.proofs.Writes.{Lists}
+use Rattle.graph.specs.Format.{actions_of}
+use Rattle.run.specs.Even.{goes_of}
+use Rattle.run.proofs.effects.read_effects.Given as goal
+
+abbrev pub invariant-loop-e : goal.invariant-loop-e
+invariant-loop-e l =
+    Lists (actions_of l.file l.c).when 0 l.c.effects l.initial.when l.e l.when × Lists (goes_of (actions_of l.file l.c)) 0 l.c.effects l.initial.goes l.e l.goes

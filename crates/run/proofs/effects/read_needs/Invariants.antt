@@ -1,0 +1,8 @@
+-- The loop stores the precondition of one action after the other.
+use Prim.Native.Nat.{◌-◌}
+use Rattle.words.proofs.Writes.{Lists}
+use Rattle.graph.specs.Format.{actions_of}
+use Rattle.run.proofs.effects.read_needs.Given as goal
+
+abbrev pub invariant-loop-a : goal.invariant-loop-a
+invariant-loop-a l = Lists (actions_of l.file l.c).pre 0 l.c.actions l.initial.needs l.a l.needs

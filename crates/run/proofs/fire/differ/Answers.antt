@@ -1,0 +1,19 @@
+use Prim.Native.Nat.{◌-◌}
+use native.Mathlib.Omega.{arith}
+use Rattle.run.proofs.Idles.{alike_none, alike_more, alike_done}
+use Rattle.run.proofs.fire.differ.Goals as goal
+
+pub loop-p-init : goal.loop-p-init
+loop-p-init c = alike_none
+
+pub loop-p-preserved : goal.loop-p-preserved
+loop-p-preserved c = alike_more c.loop-p.invariant c.loop-p-test.true
+
+pub returns : goal.returns
+returns c = alike_done c.loop-p.invariant c.loop-p-test.false
+
+pub bounds-xs-p : goal.bounds-xs-p
+bounds-xs-p c = omega (arith, c.requires.0)
+
+pub bounds-ys-p : goal.bounds-ys-p
+bounds-ys-p c = omega (arith, c.requires.1)

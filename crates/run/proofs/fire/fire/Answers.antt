@@ -1,0 +1,73 @@
+use Rattle.run.proofs.Touches.{firing_none, firing_more, firing_done, changes_done}
+use Rattle.run.specs.Fire.{settled, having, fired_in, fired_by}
+use Rattle.graph.specs.Format.{actions_of}
+use Rattle.words.proofs.MemberLoops.{lowest_lt}
+use Rattle.rules.specs.Lists.{list_over}
+use Rattle.rules.specs.Test.{choose}
+use Rattle.rules.specs.Word.{bit}
+use Prim.Native.Nat.{ℕ, ◌<◌}
+use mathlib.Core.Path.{ap, ◌∙◌}
+use lib.ListN.{get_or}
+use native.Mathlib.Omega.{arith}
+use Rattle.run.proofs.fire.fire.Goals as goal
+use Rattle.run.proofs.fire.fire.Goals.{After-lowest-e}
+
+pub loop-left-init : goal.loop-left-init
+unfolding actions_of
+loop-left-init c = let p = c.requires in
+    firing_none (omega (arith, p.0.ranged.effects)) (omega (arith, p.0.ranged.effects, p.3)) p.1
+
+-- the lowest effect that is left is one of the file's
+named : (c : After-lowest-e) → c.lowest-e.result < c.args.c.effects
+unfolding actions_of
+named c =
+    let m = c.loop-left.invariant.changes in
+    omega (arith, c.lowest-e.ensures, lowest_lt _ c.loop-left.left m.few m.inside c.loop-left-test.true)
+
+pub antecedent-requires : goal.antecedent-requires
+antecedent-requires c = (c.requires.0, named (goal.at.antecedent-requires c).After-lowest-e)
+
+pub firing-t-requires : goal.firing-t-requires
+firing-t-requires c = let p = c.requires in (p.2, p.4)
+
+pub offset_bounds-fired-e : goal.offset_bounds-fired-e
+unfolding actions_of
+offset_bounds-fired-e c = let m = c.loop-left.invariant.changes in omega (arith, named (goal.at.offset_bounds-fired-e c).After-lowest-e, m.room, m.long)
+
+pub bounds-fired-e : goal.bounds-fired-e
+unfolding actions_of
+bounds-fired-e c = let m = c.loop-left.invariant.changes in omega (arith, named (goal.at.bounds-fired-e c).After-lowest-e, m.room, m.long)
+
+pub with_effect-did-requires : goal.with_effect-did-requires
+with_effect-did-requires c = (c.requires.0, named (goal.at.with_effect-did-requires c).After-lowest-e)
+
+pub others-left-requires : goal.others-left-requires
+others-left-requires c = omega (arith, c.loop-left-test.true)
+
+pub loop-left-smaller : goal.loop-left-smaller
+loop-left-smaller c = omega (arith, c.others-left.ensures.1, c.loop-left-test.true)
+
+pub loop-left-preserved : goal.loop-left-preserved
+unfolding fired_in
+loop-left-preserved c =
+    let a = c.args in
+    let now = settled a.set.0 a.course a.labels.now in
+    firing_more c.loop-left.invariant c.loop-left-test.true c.lowest-e.ensures
+    (◌∙◌ {b = having now a.set.0 c.antecedent.result} c.firing-t.ensures
+    (ap (having now a.set.0) c.antecedent.ensures))
+    c.with_effect-did.ensures c.others-left.ensures.0
+
+pub shape_of-fired : goal.shape_of-fired
+shape_of-fired c = c.loop-left.invariant.changes.long
+
+pub returns : goal.returns
+unfolding fired_by
+returns c =
+    let a = c.args in
+    let A = actions_of a.file.now a.c in
+    let now = settled a.set.0 a.course a.labels.now in
+    let m = c.loop-left.invariant in (
+      firing_done m (omega arith),
+      changes_done m.changes (omega arith)
+          ∙ ap (λ (n : ℕ). list_over n (λ e. choose (bit e a.by) (fired_in A a.set.0 now e) (get_or a.fired.now e 0))) c.requires.3,
+    )

@@ -1,0 +1,12 @@
+-- The loop writes the word of one effect after the other, and joins what they do.
+use Rattle.run.proofs.Touches.{Firing}
+use Rattle.run.specs.Fire.{settled}
+use Rattle.graph.specs.Format.{actions_of}
+use Rattle.run.proofs.fire.fire.Given as goal
+
+abbrev pub invariant-loop-left : goal.invariant-loop-left
+invariant-loop-left l =
+    Firing (actions_of l.file l.c) l.set.0 l.by (settled l.set.0 l.course l.labels) l.initial.fired l.left l.did l.fired
+
+abbrev pub decreases-loop-left : goal.decreases-loop-left
+decreases-loop-left l = l.left

@@ -1,0 +1,51 @@
+use Rattle.run.proofs.Touches.{touches_none, touches_more, touches_done, union_twice}
+use Rattle.run.specs.Fire.{joined_by}
+use lib.Bits.{or_zero_r}
+use Rattle.graph.specs.Format.{actions_of}
+use Rattle.words.proofs.MemberLoops.{lowest_lt}
+use Rattle.rules.specs.Word.{union}
+use mathlib.Core.Path.{refl, sym, ◌∙◌}
+use Prim.Native.Nat.{◌<◌}
+use native.Mathlib.Omega.{arith}
+use Rattle.run.proofs.fire.join_adds.Goals as goal
+use Rattle.run.proofs.fire.join_adds.Goals.{After-lowest-e}
+
+pub loop-left-init : goal.loop-left-init
+loop-left-init c = let p = c.requires in
+    touches_none (λ x y. union x y) union_twice or_zero_r (omega (arith, p.0.ranged.effects)) p.1 p.3
+
+-- the lowest effect that is left is one of the file's
+named : (c : After-lowest-e) → c.lowest-e.result < c.args.c.effects
+named c =
+    omega (arith, c.lowest-e.ensures, lowest_lt _ c.loop-left.left c.loop-left.invariant.few c.loop-left.invariant.inside c.loop-left-test.true)
+
+pub added-requires : goal.added-requires
+added-requires c = (c.requires.0, named (goal.at.added-requires c).After-lowest-e)
+
+pub offset_bounds-fired-e : goal.offset_bounds-fired-e
+offset_bounds-fired-e c = omega (arith, named (goal.at.offset_bounds-fired-e c).After-lowest-e, c.requires.0.ranged.effects)
+
+pub bounds-fired-e : goal.bounds-fired-e
+bounds-fired-e c =
+    omega (arith, named (goal.at.bounds-fired-e c).After-lowest-e, c.requires.0.ranged.effects, c.requires.2)
+
+pub spread-requires : goal.spread-requires
+spread-requires c = omega (arith, c.loop-left.invariant.long)
+
+pub others-left-requires : goal.others-left-requires
+others-left-requires c = omega (arith, c.loop-left-test.true)
+
+pub loop-left-smaller : goal.loop-left-smaller
+loop-left-smaller c = omega (arith, c.others-left.ensures.1, c.loop-left-test.true)
+
+pub loop-left-preserved : goal.loop-left-preserved
+loop-left-preserved c =
+    touches_more (λ x y. union x y) union_twice or_zero_r c.loop-left.invariant c.loop-left-test.true c.lowest-e.ensures
+    c.added.ensures refl c.spread.ensures c.others-left.ensures.0
+
+pub shape_of-labels : goal.shape_of-labels
+shape_of-labels c = c.loop-left.invariant.long ∙ sym c.requires.3
+
+pub returns : goal.returns
+unfolding joined_by actions_of
+returns c = touches_done (λ x y. union x y) union_twice or_zero_r c.loop-left.invariant (omega arith)

@@ -1,0 +1,13 @@
+-- The loop joins the adds of one effect after the other.
+use Rattle.run.proofs.Touches.{Touches, union_twice}
+use lib.Bits.{or_zero_r}
+use Rattle.graph.specs.Format.{actions_of}
+use Rattle.rules.specs.Word.{union}
+use Rattle.run.proofs.fire.join_adds.Given as goal
+
+abbrev pub invariant-loop-left : goal.invariant-loop-left
+invariant-loop-left l =
+    Touches (λ x y. union x y) union_twice or_zero_r l.c.effects (actions_of l.file l.c).add l.by l.fired l.initial.labels l.left l.labels
+
+abbrev pub decreases-loop-left : goal.decreases-loop-left
+decreases-loop-left l = l.left

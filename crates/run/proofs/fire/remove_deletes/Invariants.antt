@@ -1,0 +1,12 @@
+-- The loop removes the deletes of one effect after the other.
+use Rattle.run.proofs.Touches.{Touches, without_twice, without_none}
+use Rattle.graph.specs.Format.{actions_of}
+use Rattle.rules.specs.Word.{without}
+use Rattle.run.proofs.fire.remove_deletes.Given as goal
+
+abbrev pub invariant-loop-left : goal.invariant-loop-left
+invariant-loop-left l =
+    Touches (λ x y. without x y) without_twice without_none l.c.effects (actions_of l.file l.c).del l.by l.fired l.initial.labels l.left l.labels
+
+abbrev pub decreases-loop-left : goal.decreases-loop-left
+decreases-loop-left l = l.left

@@ -1,0 +1,8 @@
+-- The loop takes one state after the other.
+use Prim.Native.Nat.{◌-◌}
+use Rattle.graph.specs.Format.{start_of}
+use Rattle.run.proofs.Starts.{Passing}
+use Rattle.run.proofs.shared_by_all.Given as goal
+
+abbrev pub invariant-loop-s : goal.invariant-loop-s
+invariant-loop-s l = Passing (start_of l.file l.c) l.c.states l.s l.all l.some
