@@ -1,0 +1,15 @@
+-- What is left of the layer, with the search now, is the whole layer, at each head of the two loops.
+use Rattle.plan.proofs.Supports.{Laying, Seeking}
+use Rattle.plan.proofs.layer.support.Given as goal
+
+abbrev pub invariant-loop-by : goal.invariant-loop-by
+invariant-loop-by l = Seeking l.wanted l.live l.labels l.needs l.owners l.adders l.p l.under l.s l.by
+
+abbrev pub decreases-loop-by : goal.decreases-loop-by
+decreases-loop-by l = l.by
+
+abbrev pub invariant-props : goal.invariant-props
+invariant-props l = Laying l.wanted l.live l.labels l.needs l.owners l.adders l.under l.s l.props
+
+abbrev pub decreases-props : goal.decreases-props
+decreases-props l = l.props
