@@ -1,0 +1,7 @@
+-- What `level` answered is returned and told.
+use Rattle.mogzift.specs.Answer.{level_says}
+use Rattle.mogzift.proofs.Tells.{tells_as}
+use Rattle.mogzift.proofs.mogzift_level.Goals as goal
+
+pub returns : goal.returns
+returns c = tells_as level_says c.level-answered.ensures c.tell_level.ensures
