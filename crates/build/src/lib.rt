@@ -1,4 +1,6 @@
 // The build: the file's graph to a depth, written into lent memory, or the cause for which it is turned away.
+#![tactic(auto)]
+
 mod copies;
 
 // For the other crates of this repository, which meet what each function asks.

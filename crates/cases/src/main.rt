@@ -7,6 +7,8 @@
 // words of that memory, s the level at the share SET / OUT of the weights (how many they are, a byte, and then each, two bytes, the lower one first):
 // a call, whose answer is printed, and behind that the output of a plan, a run and a page;
 // g, G, o print the words FILE to DEPTH of the graph memory, of that of the possible sets, of the extract's output.
+#![tactic(auto)]
+
 mod calls;
 mod line;
 mod show;

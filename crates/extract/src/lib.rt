@@ -1,4 +1,6 @@
 // Extract: the words of a graph cut to a set of start states, bits closed up in order.
+#![tactic(auto)]
+
 mod close;
 
 ghost use Rattle.std.specs.Prelude.{◌≡◌, length};

@@ -1,4 +1,5 @@
 // The file and label crate: the problem file, what turns a call away, and where the words of a graph lie.
+#![tactic(auto)]
 
 // What the calls' answers are made of.
 pub mod refusal;

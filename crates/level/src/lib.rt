@@ -1,4 +1,6 @@
 // Level and rest: the file and the depth are given again, and the graph words are read as found.
+#![tactic(auto)]
+
 mod goal;
 
 // For the other crates of this repository, which meet what each function asks.

@@ -1,24 +1,32 @@
 // Reads a problem file from standard input and prints its depth, its rest and its levels.
+#![tactic(auto)]
+
 use report::{TEXT_ROOM, TextAnswer, levels_text};
+use std::io;
+use std::io::Write;
+use streams::read_full;
+
+// No file that is taken is longer than 809 bytes: of a longer one only the first 4,096 are read and judged.
+const FILE_ROOM: usize = 4096;
 
 // The room is the longest text's, so that the answer is never a refusal.
-fn print_in(file: &[u8], text: &mut [u8]) {
+fn print_in(output: &mut impl Write, file: &[u8], text: &mut [u8]) -> io::Result<()> {
     let answer = levels_text(file, &mut *text);
     if let TextAnswer::Written(n) = answer {
         if n <= text.len() {
-            io::write_all(1, &text[..n]);
+            return output.write_all(&text[..n]);
         }
     }
+    Ok(())
 }
 
-fn print(file: &[u8]) {
+fn print(output: &mut impl Write, file: &[u8]) -> io::Result<()> {
     let mut text = [0u8; TEXT_ROOM];
-    print_in(file, &mut text);
+    print_in(output, file, &mut text)
 }
 
-// Only the first 4,096 bytes are read and judged: no file that is taken is longer than 809.
-fn main() {
-    let mut file = io::buffer();
-    let n = io::read_full(0, &mut file);
-    print(&file[..n]);
+fn main(rt: HostRuntime) -> io::Result<()> {
+    let mut file = [0u8; FILE_ROOM];
+    let n = read_full(&mut rt.stdin(), &mut file)?;
+    print(&mut rt.stdout(), &file[..n])
 }

@@ -1,4 +1,6 @@
 // The calls for C and Rust, over numbers and slices. A slice passes as a pointer and a length, the answer's room as a pointer to three numbers.
+#![tactic(auto)]
+
 mod tell;
 
 ghost use Rattle.std.specs.Prelude.{◌≡◌, length};

@@ -1,4 +1,6 @@
 // A page of goals: the level of each, over the same words and for the same set of states, in one call.
+#![tactic(auto)]
+
 mod memo;
 
 ghost use Rattle.std.specs.Prelude.{◌≡◌, ◌≤◌, length, get_or};

@@ -1,4 +1,6 @@
 // The relaxed plan.
+#![tactic(auto)]
+
 mod descent;
 mod layer;
 mod output;

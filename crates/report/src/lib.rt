@@ -1,4 +1,6 @@
 // The text that `levels` prints, as a function of the file's bytes.
+#![tactic(auto)]
+
 pub mod depth;
 mod fit;
 mod lines;

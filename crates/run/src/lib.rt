@@ -1,4 +1,6 @@
 // Running a sequence of actions from each state of a set.
+#![tactic(auto)]
+
 mod effects;
 mod even;
 mod fire;

@@ -1,4 +1,6 @@
 // The end of a step: the next proposition layer by what its tables tell, and how many vertices and pairs its scans look at.
+#![tactic(auto)]
+
 ghost use Rattle.std.specs.Prelude.{◌≡◌, ℕ, ◌+◌, ◌-◌, ◌*◌, ◌≤◌, ◌<◌, ◌^◌, List, length, get_or};
 ghost use Rattle.std.proofs.Math.Bool.{So};
 ghost use Rattle.std.specs.Int.Count.{ones};

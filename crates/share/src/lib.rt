@@ -1,4 +1,6 @@
 // Enough of the weight: the level at a share of the start states, each with its weight. The graph words are read as found.
+#![tactic(auto)]
+
 mod enough;
 mod weights;
 

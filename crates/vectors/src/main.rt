@@ -1,5 +1,7 @@
 // The outside vectors: library calls and problem files with the answers of an independent implementation, run through the library and compared.
 // `tools/vectors.py` writes the data files calls.bin and levels.bin.
+#![tactic(auto)]
+
 ghost use Rattle.std.specs.Prelude.{◌≡◌, length};
 
 mod answers;

@@ -1,4 +1,6 @@
 // Start states known within bounds: the file's states are the sure sets, a lent list gives the possible sets. The graph for these, and levels from both graphs.
+#![tactic(auto)]
+
 mod possible;
 
 ghost use Rattle.std.specs.Prelude.{◌≡◌, length};

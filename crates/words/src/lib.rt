@@ -1,4 +1,6 @@
 // Words as sets, their members, and tables of words: nothing here knows of files, layers or labels.
+#![tactic(auto)]
+
 pub mod columns;
 pub mod members;
 pub mod parts;

@@ -17,15 +17,15 @@ shared : (c : Joined-set-first) → let a = c.args in
     × (c.if-set-first.shared.some ≡ join_of a.c.states a.set.0 (start_of a.file.now a.c))
 shared c =
     let a = c.args in
-    elim c.if-set-first.branch [ 
-      then-set-first w ↦ (
+    elim c.if-set-first.branch [
+      | then-set-first w ↦ (
         ap (λ x. x.all) w.shared-is ∙ w.shared_by_all-shared.ensures.0
             ∙ ap (λ (s : ℕ). meet_of a.c.states s (start_of a.file.now a.c) (first prop_width)) (sym (w.if-set-first.true ∙ c.first.ensures)),
         ap (λ x. x.some) w.shared-is ∙ w.shared_by_all-shared.ensures.1
             ∙ ap (λ (s : ℕ). join_of a.c.states s (start_of a.file.now a.c)) (sym (w.if-set-first.true ∙ c.first.ensures)),
       )
-    | else-set-first w ↦ (ap (λ x. x.all) w.shared-is ∙ w.shared_by_members-shared.ensures.0, ap (λ x. x.some) w.shared-is ∙ w.shared_by_members-shared.ensures.1)
-     ]
+      | else-set-first w ↦ (ap (λ x. x.all) w.shared-is ∙ w.shared_by_members-shared.ensures.0, ap (λ x. x.some) w.shared-is ∙ w.shared_by_members-shared.ensures.1)
+    ]
 
 pub returns : goal.returns
 returns c =

@@ -16,7 +16,11 @@ returns c =
     let p = single a.p in
     let q = single (prop_width + a.p) in
     ap₂ union
-    (elim c.if-had-set.branch [ then-had-set w ↦ w.lacking-is ∙ lacking_none a.set.0 a.label p w.if-had-set.true
-    | else-had-set w ↦ w.lacking-is ∙ w.single-lacking.ensures ∙ lacking_some a.set.0 a.label p w.if-had-set.false ])
-    (elim c.if-had-eq0.branch [ then-had-eq0 w ↦ w.having-is ∙ having_none a.set.0 a.label q w.if-had-eq0.true
-    | else-had-eq0 w ↦ w.having-is ∙ w.single-having.ensures ∙ having_some a.set.0 a.label q w.if-had-eq0.false ])
+    (elim c.if-had-set.branch [
+      | then-had-set w ↦ w.lacking-is ∙ lacking_none a.set.0 a.label p w.if-had-set.true
+      | else-had-set w ↦ w.lacking-is ∙ w.single-lacking.ensures ∙ lacking_some a.set.0 a.label p w.if-had-set.false
+    ])
+    (elim c.if-had-eq0.branch [
+      | then-had-eq0 w ↦ w.having-is ∙ having_none a.set.0 a.label q w.if-had-eq0.true
+      | else-had-eq0 w ↦ w.having-is ∙ w.single-having.ensures ∙ having_some a.set.0 a.label q w.if-had-eq0.false
+    ])

@@ -64,13 +64,13 @@ returns-then-wanted-have c =
 pub loop-t-preserved : goal.loop-t-preserved
 loop-t-preserved c =
     elim c.if-not-within.branch [
-      then-not-within+else-wanted-have w ↦
+      | then-not-within+else-wanted-have w ↦
           subst (λ (x : States). Seeks (goal.at.loop-t-preserved c).Start x.0 c.if-not-within.have (c.loop-t.t + 1)) (sym w.short-is)
           (subst (λ (x : ℕ). Seeks (goal.at.loop-t-preserved c).Start c.holders_at-held.result.0 x (c.loop-t.t + 1)) (sym w.have-is)
           (seeking_more _ _ _ _ _ c.loop-t.invariant (omega arith)
           ((looked (goal.at.loop-t-preserved c).After-holders_at-held).else (is_fails (sym c.within.ensures ∙ w.if-not-within.true))) w.weight_by-have.ensures.0
           (omega (arith, w.if-wanted-have.false, ap (λ (x : ℕ). x * c.args.numerator) c.requires.2.is))))
-    | else-not-within w ↦
+      | else-not-within w ↦
           subst (λ (x : States). Seeks (goal.at.loop-t-preserved c).Start x.0 c.if-not-within.have (c.loop-t.t + 1)) (sym w.short-is)
           (subst (λ (x : ℕ). Seeks (goal.at.loop-t-preserved c).Start c.loop-t.short.0 x (c.loop-t.t + 1)) (sym w.have-is)
           (seeking_on _ _ _ _ _ c.loop-t.invariant (omega arith) ((looked (goal.at.loop-t-preserved c).After-holders_at-held).inside (sym c.within.ensures ∙ w.if-not-within.false))))
