@@ -12,6 +12,8 @@ use page::{PageAnswer, page};
 use plan::{PlanAnswer, plan};
 use run::{RunAnswer, run};
 use share::level_share;
+use std::io;
+use std::io::Write;
 use within::{WithinAnswer, build_within, level_within};
 use words::sets::{Props, States};
 
@@ -36,20 +38,25 @@ fn states(line: &[u8]) -> States {
 }
 
 // With no text nothing is said.
-fn say_built(line: &[u8], answer: BuildAnswer) {
+fn say_built(to: &mut impl Write, line: &[u8], answer: BuildAnswer) -> io::Result<()> {
     if line.len() == TEXT {
-        return;
+        return Ok(());
     }
     match answer {
-        BuildAnswer::Built(n, looked) => say_graph(n, looked),
-        BuildAnswer::Refused(why) => say_refusal(why),
+        BuildAnswer::Built(n, looked) => say_graph(to, n, looked),
+        BuildAnswer::Refused(why) => say_refusal(to, why),
     }
 }
 
-pub fn build_to(line: &[u8], file: &[u8], words: &mut [u64]) {
+pub fn build_to(
+    to: &mut impl Write,
+    line: &[u8],
+    file: &[u8],
+    words: &mut [u64],
+) -> io::Result<()> {
     let n = fitting(size(line, WORDS), words.len());
     let answer = build(file, size(line, DEPTH), &mut words[0..n]);
-    say_built(line, answer);
+    say_built(to, line, answer)
 }
 
 fn wide(b: u8) -> u32 {
@@ -79,38 +86,47 @@ fn listed(list: &[u8]) -> [u32; LISTED] {
     ]
 }
 
-pub fn build_within_to(line: &[u8], file: &[u8], memory: &[u8], words: &mut [u64]) {
+pub fn build_within_to(
+    to: &mut impl Write,
+    line: &[u8],
+    file: &[u8],
+    memory: &[u8],
+    words: &mut [u64],
+) -> io::Result<()> {
     let list = cut(memory, LIST, size(line, GOAL));
     let possible = listed(list);
     let m = fitting(list.len(), LISTED);
     let n = fitting(size(line, WORDS), words.len());
     let answer = build_within(file, &possible[0..m], size(line, DEPTH), &mut words[0..n]);
-    say_built(line, answer);
+    say_built(to, line, answer)
 }
 
-pub fn rest_of(line: &[u8], file: &[u8], graph: &[u64]) {
+pub fn rest_of(to: &mut impl Write, line: &[u8], file: &[u8], graph: &[u64]) -> io::Result<()> {
     match rest(file, size(line, DEPTH), graph) {
-        RestAnswer::At(t) => say_line(RESTS, t),
-        RestAnswer::None => say_name(NONE),
-        RestAnswer::Refused(why) => say_refusal(why),
+        RestAnswer::At(t) => say_line(to, RESTS, t),
+        RestAnswer::None => say_name(to, NONE),
+        RestAnswer::Refused(why) => say_refusal(to, why),
     }
 }
 
-fn say_level_or_why(answer: LevelAnswer) {
+fn say_level_or_why(to: &mut impl Write, answer: LevelAnswer) -> io::Result<()> {
     match answer {
-        LevelAnswer::Level(level) => say_level(level),
-        LevelAnswer::Refused(why) => say_refusal(why),
+        LevelAnswer::Level(level) => say_level(to, level),
+        LevelAnswer::Refused(why) => say_refusal(to, why),
     }
 }
 
-pub fn level_of(line: &[u8], file: &[u8], graph: &[u64]) {
-    say_level_or_why(level(
-        file,
-        size(line, DEPTH),
-        states(line),
-        Props(number(line, GOAL)),
-        graph,
-    ));
+pub fn level_of(to: &mut impl Write, line: &[u8], file: &[u8], graph: &[u64]) -> io::Result<()> {
+    say_level_or_why(
+        to,
+        level(
+            file,
+            size(line, DEPTH),
+            states(line),
+            Props(number(line, GOAL)),
+            graph,
+        ),
+    )
 }
 
 fn weight(low: u8, high: u8) -> u16 {
@@ -136,21 +152,36 @@ fn weights(memory: &[u8]) -> [u16; LISTED] {
     ]
 }
 
-pub fn share_of(line: &[u8], file: &[u8], memory: &[u8], graph: &[u64]) {
+pub fn share_of(
+    to: &mut impl Write,
+    line: &[u8],
+    file: &[u8],
+    memory: &[u8],
+    graph: &[u64],
+) -> io::Result<()> {
     let room = weights(memory);
     let n = fitting(byte_at(memory, LIST) as usize, LISTED);
-    say_level_or_why(level_share(
-        file,
-        size(line, DEPTH),
-        Props(number(line, GOAL)),
-        &room[0..n],
-        short(line, SET),
-        short(line, OUT),
-        graph,
-    ));
+    say_level_or_why(
+        to,
+        level_share(
+            file,
+            size(line, DEPTH),
+            Props(number(line, GOAL)),
+            &room[0..n],
+            short(line, SET),
+            short(line, OUT),
+            graph,
+        ),
+    )
 }
 
-pub fn levels_of(line: &[u8], file: &[u8], possible: &[u64], sure: &[u64]) {
+pub fn levels_of(
+    to: &mut impl Write,
+    line: &[u8],
+    file: &[u8],
+    possible: &[u64],
+    sure: &[u64],
+) -> io::Result<()> {
     match level_within(
         file,
         size(line, DEPTH),
@@ -159,25 +190,37 @@ pub fn levels_of(line: &[u8], file: &[u8], possible: &[u64], sure: &[u64]) {
         possible,
         sure,
     ) {
-        WithinAnswer::Levels(first, second) => say_levels(first, second),
-        WithinAnswer::Refused(why) => say_refusal(why),
+        WithinAnswer::Levels(first, second) => say_levels(to, first, second),
+        WithinAnswer::Refused(why) => say_refusal(to, why),
     }
 }
 
-pub fn extract_to(line: &[u8], file: &[u8], graph: &[u64], out: &mut [u64]) {
+pub fn extract_to(
+    to: &mut impl Write,
+    line: &[u8],
+    file: &[u8],
+    graph: &[u64],
+    out: &mut [u64],
+) -> io::Result<()> {
     let n = fitting(size(line, OUT), out.len());
     let answer = extract(file, size(line, DEPTH), states(line), graph, &mut out[0..n]);
-    say_extracted(answer);
+    say_extracted(to, answer)
 }
 
-fn say_extracted(answer: ExtractAnswer) {
+fn say_extracted(to: &mut impl Write, answer: ExtractAnswer) -> io::Result<()> {
     match answer {
-        ExtractAnswer::Extracted(n) => say_line(EXTRACTED, n),
-        ExtractAnswer::Refused(why) => say_refusal(why),
+        ExtractAnswer::Extracted(n) => say_line(to, EXTRACTED, n),
+        ExtractAnswer::Refused(why) => say_refusal(to, why),
     }
 }
 
-fn plan_to(line: &[u8], file: &[u8], graph: &[u64], out: &mut [u32]) {
+fn plan_to(
+    to: &mut impl Write,
+    line: &[u8],
+    file: &[u8],
+    graph: &[u64],
+    out: &mut [u32],
+) -> io::Result<()> {
     match plan(
         file,
         size(line, DEPTH),
@@ -186,38 +229,66 @@ fn plan_to(line: &[u8], file: &[u8], graph: &[u64], out: &mut [u32]) {
         graph,
         out,
     ) {
-        PlanAnswer::Plan(level, count) => say_plan(level, count),
-        PlanAnswer::Refused(why) => say_refusal(why),
+        PlanAnswer::Plan(level, count) => say_plan(to, level, count),
+        PlanAnswer::Refused(why) => say_refusal(to, why),
     }
 }
 
-fn run_to(line: &[u8], file: &[u8], list: &[u8], out: &mut [u32]) {
+fn run_to(
+    to: &mut impl Write,
+    line: &[u8],
+    file: &[u8],
+    list: &[u8],
+    out: &mut [u32],
+) -> io::Result<()> {
     match run(file, states(line), list, out) {
-        RunAnswer::Ran(n, idle) => say_run(n, idle),
-        RunAnswer::Refused(why) => say_refusal(why),
+        RunAnswer::Ran(n, idle) => say_run(to, n, idle),
+        RunAnswer::Refused(why) => say_refusal(to, why),
     }
 }
 
 // A call that writes sets.
-fn sets_to(letter: u8, line: &[u8], file: &[u8], memory: &[u8], graph: &[u64], out: &mut [u32]) {
+fn sets_to(
+    to: &mut impl Write,
+    letter: u8,
+    line: &[u8],
+    file: &[u8],
+    memory: &[u8],
+    graph: &[u64],
+    out: &mut [u32],
+) -> io::Result<()> {
     match letter {
-        b'p' => plan_to(line, file, graph, out),
-        b'n' => run_to(line, file, cut(memory, LIST, size(line, DEPTH)), out),
-        _ => say_name(show::NO_STEP),
+        b'p' => plan_to(to, line, file, graph, out),
+        b'n' => run_to(to, line, file, cut(memory, LIST, size(line, DEPTH)), out),
+        _ => say_name(to, show::NO_STEP),
     }
 }
 
 // What it writes is printed too.
-pub fn sets_of(letter: u8, line: &[u8], file: &[u8], memory: &[u8], graph: &[u64]) {
+pub fn sets_of(
+    to: &mut impl Write,
+    letter: u8,
+    line: &[u8],
+    file: &[u8],
+    memory: &[u8],
+    graph: &[u64],
+) -> io::Result<()> {
     let mut room = [FRESH; SETS];
     let n = fitting(size(line, OUT), SETS);
     let out = &mut room[0..n];
-    sets_to(letter, line, file, memory, graph, &mut *out);
-    say_name(show::SETS);
-    show_output(&out[..], &[0; 0]);
+    sets_to(&mut *to, letter, line, file, memory, graph, &mut *out)?;
+    say_name(&mut *to, show::SETS)?;
+    show_output(to, &out[..], &[0; 0])
 }
 
-fn page_to(line: &[u8], file: &[u8], list: &[u8], graph: &[u64], out: &mut [u16]) {
+fn page_to(
+    to: &mut impl Write,
+    line: &[u8],
+    file: &[u8],
+    list: &[u8],
+    graph: &[u64],
+    out: &mut [u16],
+) -> io::Result<()> {
     let goals = listed(list);
     let n = fitting(list.len(), LISTED);
     match page(
@@ -228,23 +299,30 @@ fn page_to(line: &[u8], file: &[u8], list: &[u8], graph: &[u64], out: &mut [u16]
         graph,
         out,
     ) {
-        PageAnswer::Paged(n) => say_line(PAGED, n),
-        PageAnswer::Refused(why) => say_refusal(why),
+        PageAnswer::Paged(n) => say_line(to, PAGED, n),
+        PageAnswer::Refused(why) => say_refusal(to, why),
     }
 }
 
 // A page with its entries.
-pub fn page_of(line: &[u8], file: &[u8], memory: &[u8], graph: &[u64]) {
+pub fn page_of(
+    to: &mut impl Write,
+    line: &[u8],
+    file: &[u8],
+    memory: &[u8],
+    graph: &[u64],
+) -> io::Result<()> {
     let mut room = [FRESH_ENTRY; OUTPUT];
     let n = fitting(size(line, OUT), OUTPUT);
     let out = &mut room[0..n];
     page_to(
+        &mut *to,
         line,
         file,
         cut(memory, LIST, size(line, GOAL)),
         graph,
         &mut *out,
-    );
-    say_name(show::ENTRIES);
-    show_output(&[0; 0], &out[..]);
+    )?;
+    say_name(&mut *to, show::ENTRIES)?;
+    show_output(to, &[0; 0], &out[..])
 }

@@ -13,11 +13,16 @@ mod calls;
 mod line;
 mod show;
 
-use bytes::scan::find;
-use line::{cut, letter, number, size};
+use line::{cut, letter, line_end, number, size};
+use std::io;
+use std::io::Write;
+use streams::read_full;
 
 // The byte memory: the file, and from `calls::LIST` on, behind the longest file, a list of 65,536 steps, one more than a run takes.
 const BYTES: usize = 66436;
+
+// Room for the script.
+const SCRIPT: usize = 65536;
 
 // The graph memory: what the lamp takes at depth 255.
 const GRAPH: usize = 5361;
@@ -39,16 +44,22 @@ fn part<'a>(words: &'a [u64], a: usize, b: usize) -> &'a [u64] {
     &words[..0]
 }
 
-fn say_text(line: &[u8]) {
-    show::say(cut(
-        line,
-        line::TEXT,
-        std::num::wrapping_sub_usize(line.len(), line::TEXT),
-    ));
+fn say_text(to: &mut impl Write, line: &[u8]) -> io::Result<()> {
+    show::say(
+        to,
+        cut(
+            line,
+            line::TEXT,
+            std::num::wrapping_sub_usize(line.len(), line::TEXT),
+        ),
+    )
 }
 
-fn show_part(line: &[u8], words: &[u64]) {
-    show::show_words(part(words, size(line, line::FILE), size(line, line::DEPTH)));
+fn show_part(to: &mut impl Write, line: &[u8], words: &[u64]) -> io::Result<()> {
+    show::show_words(
+        to,
+        part(words, size(line, line::FILE), size(line, line::DEPTH)),
+    )
 }
 
 fn put_byte(line: &[u8], memory: &mut [u8]) {
@@ -67,69 +78,107 @@ fn put_word(line: &[u8], words: &mut [u64]) {
 
 // A step that leaves the file and the graph as they are.
 fn reading_step(
+    to: &mut impl Write,
     letter: u8,
     line: &[u8],
     memory: &[u8],
     words: &[u64],
     possible: &[u64],
     out: &mut [u64],
-) {
+) -> io::Result<()> {
     let file = file(line, memory);
     let graph = part(words, 0, size(line, line::WORDS));
     match letter {
-        b'r' => calls::rest_of(line, file, graph),
-        b'l' => calls::level_of(line, file, graph),
-        b'L' => calls::levels_of(line, file, part(possible, 0, size(line, line::OUT)), graph),
-        b's' => calls::share_of(line, file, memory, graph),
-        b'x' => calls::extract_to(line, file, graph, out),
-        b'm' => calls::page_of(line, file, memory, graph),
-        b'g' => show_part(line, words),
-        b'G' => show_part(line, possible),
-        b'o' => show_part(line, &out[..]),
-        _ => calls::sets_of(letter, line, file, memory, graph),
+        b'r' => calls::rest_of(to, line, file, graph),
+        b'l' => calls::level_of(to, line, file, graph),
+        b'L' => calls::levels_of(
+            to,
+            line,
+            file,
+            part(possible, 0, size(line, line::OUT)),
+            graph,
+        ),
+        b's' => calls::share_of(to, line, file, memory, graph),
+        b'x' => calls::extract_to(to, line, file, graph, out),
+        b'm' => calls::page_of(to, line, file, memory, graph),
+        b'g' => show_part(to, line, words),
+        b'G' => show_part(to, line, possible),
+        b'o' => show_part(to, line, &out[..]),
+        _ => calls::sets_of(to, letter, line, file, memory, graph),
     }
 }
 
-fn step(line: &[u8], memory: &mut [u8], words: &mut [u64], possible: &mut [u64], out: &mut [u64]) {
+fn step(
+    to: &mut impl Write,
+    line: &[u8],
+    memory: &mut [u8],
+    words: &mut [u64],
+    possible: &mut [u64],
+    out: &mut [u64],
+) -> io::Result<()> {
     let letter = letter(line);
     match letter {
-        b'e' => put_byte(line, memory),
-        b'w' => put_word(line, words),
-        b'b' => calls::build_to(line, file(line, &memory[..]), words),
-        b'B' => calls::build_within_to(line, file(line, &memory[..]), &memory[..], possible),
-        _ => reading_step(letter, line, &memory[..], &words[..], &possible[..], out),
+        b'e' => {
+            put_byte(line, memory);
+            Ok(())
+        }
+        b'w' => {
+            put_word(line, words);
+            Ok(())
+        }
+        b'b' => calls::build_to(to, line, file(line, &memory[..]), words),
+        b'B' => calls::build_within_to(to, line, file(line, &memory[..]), &memory[..], possible),
+        _ => reading_step(
+            to,
+            letter,
+            line,
+            &memory[..],
+            &words[..],
+            &possible[..],
+            out,
+        ),
     }
 }
 
 fn steps(
+    to: &mut impl Write,
     script: &[u8],
     memory: &mut [u8],
     words: &mut [u64],
     possible: &mut [u64],
     out: &mut [u64],
-) {
+) -> io::Result<()> {
     let mut at = 0;
     while at < script.len() {
-        let end = find(script, at, script.len(), b'\n');
+        let end = line_end(script, at);
         let line = &script[at..end];
-        say_text(line);
-        step(line, &mut *memory, &mut *words, &mut *possible, &mut *out);
+        say_text(&mut *to, line)?;
+        step(
+            &mut *to,
+            line,
+            &mut *memory,
+            &mut *words,
+            &mut *possible,
+            &mut *out,
+        )?;
         at = end + 1;
     }
+    Ok(())
 }
 
-fn main() {
-    let mut script = io::large_buffer();
-    let n = io::read_full(0, &mut script);
+fn main(rt: HostRuntime) -> io::Result<()> {
+    let mut script = [0u8; SCRIPT];
+    let n = read_full(&mut rt.stdin(), &mut script)?;
     let mut memory = [0u8; BYTES];
     let mut words = [7u64; GRAPH];
     let mut possible = [7u64; POSSIBLE];
     let mut out = [7u64; 49];
     steps(
+        &mut rt.stdout(),
         &script[..n],
         &mut memory,
         &mut words,
         &mut possible,
         &mut out,
-    );
+    )
 }

@@ -1,10 +1,11 @@
 // Answers and memory as lines of text on standard output.
-use bytes::scan::find;
 use graph::refusal::{Refusal, number, place};
 use level::layers::Level;
+use std::io;
+use std::io::Write;
 
-pub fn say(text: &[u8]) {
-    io::write_all(1, text);
+pub fn say(to: &mut impl Write, text: &[u8]) -> io::Result<()> {
+    to.write_all(text)
 }
 
 // What an answer begins with, and the whole of one that has no number.
@@ -38,135 +39,120 @@ pub const ENTRIES: usize = 13;
 
 const LEVELS: usize = 14;
 
-const NAMES: usize = 15;
-
 // How many elements an output has at most.
 pub const OUTPUT: usize = 6;
 
-// How wide a name is with the dots behind it.
-const NAME: usize = 14;
-
-// The text from `at` on, up to the dots.
-fn say_column(names: &[u8], at: usize) {
-    if at <= names.len() {
-        let end = find(names, at, names.len(), b'.');
-        say(&names[at..end]);
+fn text_of(name: usize) -> &'static str {
+    match name {
+        BUILT => "built ",
+        RESTS => "rest ",
+        NONE => "none\n",
+        LEVEL => "level ",
+        NEVER => "never",
+        NOT_BY_DEPTH => "not by depth",
+        EXTRACTED => "extracted ",
+        RAN => "ran ",
+        REFUSED => "refused ",
+        PLAN => "plan ",
+        SETS => "sets: ",
+        NO_STEP => "no such step\n",
+        PAGED => "paged ",
+        ENTRIES => "entries: ",
+        _ => "levels ",
     }
 }
 
-pub fn say_name(name: usize) {
-    let at = name % NAMES * NAME;
-    say_column(
-        b"built ........rest .........none\n.........level ........never.........not by depth..extracted ....ran ..........refused ......plan .........sets: ........no such step\n.paged ........entries: .....levels .......",
-        at,
-    );
+pub fn say_name(to: &mut impl Write, name: usize) -> io::Result<()> {
+    write!(to, "{}", text_of(name))
 }
 
-fn end_line() {
-    say(b"\n");
-}
-
-fn say_number(n: usize) {
-    io::print_decimal(1, n as u64);
-}
-
-// A number and the end of the line.
-fn say_end(n: usize) {
-    say_number(n);
-    end_line();
+fn end_line(to: &mut impl Write) -> io::Result<()> {
+    writeln!(to)
 }
 
 // An answer with one number.
-pub fn say_line(name: usize, n: usize) {
-    say_name(name);
-    say_end(n);
+pub fn say_line(to: &mut impl Write, name: usize, n: usize) -> io::Result<()> {
+    writeln!(to, "{}{n}", text_of(name))
 }
 
-pub fn say_refusal(why: Refusal) {
-    say_name(REFUSED);
-    say_word(number(why) as u64);
-    say_end(place(why));
+pub fn say_refusal(to: &mut impl Write, why: Refusal) -> io::Result<()> {
+    writeln!(to, "{}{} {}", text_of(REFUSED), number(why), place(why))
 }
 
 // An answer with two numbers, and what the second one is.
-fn say_both(name: usize, first: usize, what: &[u8], second: usize) {
-    say_name(name);
-    say_number(first);
-    say(what);
-    say_end(second);
+fn say_both(
+    to: &mut impl Write,
+    name: usize,
+    first: usize,
+    what: &str,
+    second: usize,
+) -> io::Result<()> {
+    writeln!(to, "{}{first}{what}{second}", text_of(name))
 }
 
-pub fn say_graph(words: usize, looked: usize) {
-    say_both(BUILT, words, b" looked ", looked);
+pub fn say_graph(to: &mut impl Write, words: usize, looked: usize) -> io::Result<()> {
+    say_both(to, BUILT, words, " looked ", looked)
 }
 
-pub fn say_plan(level: usize, count: usize) {
-    say_both(PLAN, level, b" count ", count);
+pub fn say_plan(to: &mut impl Write, level: usize, count: usize) -> io::Result<()> {
+    say_both(to, PLAN, level, " count ", count)
 }
 
-pub fn say_run(sets: usize, idle: usize) {
-    say_both(RAN, sets, b" idle ", idle);
+pub fn say_run(to: &mut impl Write, sets: usize, idle: usize) -> io::Result<()> {
+    say_both(to, RAN, sets, " idle ", idle)
 }
 
 // A level by itself: the layer, or that there is none.
-fn say_layer(level: Level) {
+fn say_layer(to: &mut impl Write, level: Level) -> io::Result<()> {
     match level {
-        Level::At(t) => say_number(t),
-        Level::Never => say_name(NEVER),
-        Level::NotByDepth => say_name(NOT_BY_DEPTH),
+        Level::At(t) => write!(to, "{t}"),
+        Level::Never => say_name(to, NEVER),
+        Level::NotByDepth => say_name(to, NOT_BY_DEPTH),
     }
 }
 
-pub fn say_level(level: Level) {
+pub fn say_level(to: &mut impl Write, level: Level) -> io::Result<()> {
     if let Level::At(_t) = level {
-        say_name(LEVEL);
+        say_name(&mut *to, LEVEL)?;
     }
-    say_layer(level);
-    end_line();
+    say_layer(&mut *to, level)?;
+    end_line(to)
 }
 
-pub fn say_levels(first: Level, second: Level) {
-    say_name(LEVELS);
-    say_layer(first);
-    say(b", ");
-    say_layer(second);
-    end_line();
+pub fn say_levels(to: &mut impl Write, first: Level, second: Level) -> io::Result<()> {
+    say_name(&mut *to, LEVELS)?;
+    say_layer(&mut *to, first)?;
+    write!(to, ", ")?;
+    say_layer(&mut *to, second)?;
+    end_line(to)
 }
 
 // A number and a blank.
-fn say_word(x: u64) {
-    io::print_decimal(1, x);
-    say(b" ");
-}
-
-fn say_set(x: u32) {
-    say_word(x as u64);
-}
-
-fn say_entry(x: u16) {
-    say_word(x as u64);
+fn say_word(to: &mut impl Write, x: u64) -> io::Result<()> {
+    write!(to, "{x} ")
 }
 
 // Element i of an output, which is sets or entries, the other none; nothing where there are fewer.
-fn say_element(sets: &[u32], entries: &[u16], i: usize) {
+fn say_element(to: &mut impl Write, sets: &[u32], entries: &[u16], i: usize) -> io::Result<()> {
     if i < sets.len() {
-        say_set(sets[i]);
+        say_word(&mut *to, u64::from(sets[i]))?;
     }
     if i < entries.len() {
-        say_entry(entries[i]);
+        say_word(to, u64::from(entries[i]))?;
     }
+    Ok(())
 }
 
-pub fn show_words(words: &[u64]) {
-    for i in 0..words.len() {
-        say_word(words[i]);
+pub fn show_words(to: &mut impl Write, words: &[u64]) -> io::Result<()> {
+    for x in words {
+        say_word(&mut *to, *x)?;
     }
-    end_line();
+    end_line(to)
 }
 
-pub fn show_output(sets: &[u32], entries: &[u16]) {
+pub fn show_output(to: &mut impl Write, sets: &[u32], entries: &[u16]) -> io::Result<()> {
     for i in 0..OUTPUT {
-        say_element(sets, entries, i);
+        say_element(&mut *to, sets, entries, i)?;
     }
-    end_line();
+    end_line(to)
 }

@@ -1,4 +1,4 @@
-// The calls for C and Rust, over numbers and slices. A slice passes as a pointer and a length, the answer's room as a pointer to three numbers.
+// The calls over numbers and slices, for C and Rust: `mogzift_c` exports them.
 #![tactic(auto)]
 
 mod tell;
@@ -31,13 +31,7 @@ use tell::{tell, tell_build, tell_level, tell_levels, tell_refusal};
 use within::{WithinAnswer, build_within, level_within};
 use words::sets::{Props, States};
 
-#[unsafe(no_mangle)]
-pub extern "C" fn mogzift_build(
-    file: &[u8],
-    depth: usize,
-    words: &mut [u64],
-    answer: &mut [u64; 3],
-) -> usize
+pub fn mogzift_build(file: &[u8], depth: usize, words: &mut [u64], answer: &mut [u64; 3]) -> usize
     ensures { (result ≡ code_of (count_rule file.now depth (length words.old)))
         × (answer.new ≡ answer_of build_says (count_rule file.now depth (length words.old)))
         × (words.new ≡ laid (build_rule file.now depth (length words.old)) words.old) }
@@ -46,8 +40,7 @@ pub extern "C" fn mogzift_build(
     tell_build(answer, built)
 }
 
-#[unsafe(no_mangle)]
-pub extern "C" fn mogzift_build_within(
+pub fn mogzift_build_within(
     file: &[u8],
     possible: &[u32],
     depth: usize,
@@ -62,13 +55,7 @@ pub extern "C" fn mogzift_build_within(
     tell_build(answer, built)
 }
 
-#[unsafe(no_mangle)]
-pub extern "C" fn mogzift_rest(
-    file: &[u8],
-    depth: usize,
-    words: &[u64],
-    answer: &mut [u64; 3],
-) -> usize
+pub fn mogzift_rest(file: &[u8], depth: usize, words: &[u64], answer: &mut [u64; 3]) -> usize
     ensures { (result ≡ code_of (rest_rule file.now depth words.now))
         × (answer.new ≡ answer_of rest_says (rest_rule file.now depth words.now)) }
 {
@@ -79,8 +66,7 @@ pub extern "C" fn mogzift_rest(
     }
 }
 
-#[unsafe(no_mangle)]
-pub extern "C" fn mogzift_level(
+pub fn mogzift_level(
     file: &[u8],
     depth: usize,
     set: u64,
@@ -95,8 +81,7 @@ pub extern "C" fn mogzift_level(
     tell_level(answer, answered)
 }
 
-#[unsafe(no_mangle)]
-pub extern "C" fn mogzift_level_within(
+pub fn mogzift_level_within(
     file: &[u8],
     depth: usize,
     set: u64,
@@ -114,8 +99,7 @@ pub extern "C" fn mogzift_level_within(
     }
 }
 
-#[unsafe(no_mangle)]
-pub extern "C" fn mogzift_level_share(
+pub fn mogzift_level_share(
     file: &[u8],
     depth: usize,
     goal: u32,
@@ -140,8 +124,7 @@ pub extern "C" fn mogzift_level_share(
     tell_level(answer, answered)
 }
 
-#[unsafe(no_mangle)]
-pub extern "C" fn mogzift_page(
+pub fn mogzift_page(
     file: &[u8],
     depth: usize,
     set: u64,
@@ -160,8 +143,7 @@ pub extern "C" fn mogzift_page(
     }
 }
 
-#[unsafe(no_mangle)]
-pub extern "C" fn mogzift_extract(
+pub fn mogzift_extract(
     file: &[u8],
     depth: usize,
     set: u64,
@@ -179,8 +161,7 @@ pub extern "C" fn mogzift_extract(
     }
 }
 
-#[unsafe(no_mangle)]
-pub extern "C" fn mogzift_run(
+pub fn mogzift_run(
     file: &[u8],
     set: u64,
     list: &[u8],
@@ -197,8 +178,7 @@ pub extern "C" fn mogzift_run(
     }
 }
 
-#[unsafe(no_mangle)]
-pub extern "C" fn mogzift_plan(
+pub fn mogzift_plan(
     file: &[u8],
     depth: usize,
     set: u64,
@@ -217,8 +197,7 @@ pub extern "C" fn mogzift_plan(
     }
 }
 
-#[unsafe(no_mangle)]
-pub extern "C" fn mogzift_depth(file: &[u8], room: usize, answer: &mut [u64; 3]) -> usize
+pub fn mogzift_depth(file: &[u8], room: usize, answer: &mut [u64; 3]) -> usize
     ensures { (result ≡ code_of (fitting_rule file.now room))
         × (answer.new ≡ answer_of depth_says (fitting_rule file.now room)) }
 {
@@ -228,8 +207,7 @@ pub extern "C" fn mogzift_depth(file: &[u8], room: usize, answer: &mut [u64; 3])
     }
 }
 
-#[unsafe(no_mangle)]
-pub extern "C" fn mogzift_levels_text(file: &[u8], out: &mut [u8], answer: &mut [u64; 3]) -> usize
+pub fn mogzift_levels_text(file: &[u8], out: &mut [u8], answer: &mut [u64; 3]) -> usize
     ensures { (result ≡ code_of (written (text_rule file.now (length out.old))))
         × (answer.new ≡ answer_of count_says (written (text_rule file.now (length out.old))))
         × (out.new ≡ laid (text_rule file.now (length out.old)) out.old) }

@@ -2,6 +2,8 @@
 use crate::data::entry;
 use crate::show::say_came;
 use graph::refusal::{Refusal, number, place};
+use std::io;
+use std::io::Write;
 
 pub const REFUSED: u64 = 0;
 
@@ -53,12 +55,12 @@ pub fn refused(why: Refusal) -> Outcome {
 }
 
 // Whether the answer and the digest are those that the case wants; what came is printed where they are not.
-pub fn agrees(row: &[u8], came: Outcome, digest: u64) -> bool {
+pub fn agrees(out: &mut impl Write, row: &[u8], came: Outcome, digest: u64) -> io::Result<bool> {
     let said = (came.answer ^ entry(row, ANSWER)) | (came.first as u64 ^ entry(row, FIRST));
     let left = (came.second as u64 ^ entry(row, SECOND)) | (digest ^ entry(row, DIGEST));
     if said | left == 0 {
-        return true;
+        return Ok(true);
     }
-    say_came(came, digest);
-    false
+    say_came(out, came, digest)?;
+    Ok(false)
 }

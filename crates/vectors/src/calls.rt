@@ -17,6 +17,8 @@ use level::{LevelAnswer, RestAnswer};
 use page::PageAnswer;
 use plan::PlanAnswer;
 use run::RunAnswer;
+use std::io;
+use std::io::Write;
 use within::WithinAnswer;
 use words::sets::{Props, States};
 
@@ -332,6 +334,7 @@ fn call_to_write(
 
 // Of what is lent only that has elements which the call writes.
 fn filled_agrees(
+    lines: &mut impl Write,
     kind: usize,
     store: &[u8],
     row: &[u8],
@@ -339,7 +342,7 @@ fn filled_agrees(
     words: &mut [u64],
     sets: &mut [u32],
     entries: &mut [u16],
-) -> bool {
+) -> io::Result<bool> {
     fill(&mut *words, &mut *sets, &mut *entries, entry(row, FILL));
     let came = call_to_write(
         kind,
@@ -350,16 +353,29 @@ fn filled_agrees(
         &mut *sets,
         &mut *entries,
     );
-    agrees(row, came, digest(&words[..], &sets[..], &entries[..]))
+    agrees(
+        lines,
+        row,
+        came,
+        digest(&words[..], &sets[..], &entries[..]),
+    )
 }
 
 // Lends sets and entries beside the words.
-fn written_agrees(kind: usize, store: &[u8], row: &[u8], graph: &[u64], words: &mut [u64]) -> bool {
+fn written_agrees(
+    lines: &mut impl Write,
+    kind: usize,
+    store: &[u8],
+    row: &[u8],
+    graph: &[u64],
+    words: &mut [u64],
+) -> io::Result<bool> {
     let mut sets = [0u32; SETS];
     let mut entries = [0u16; ENTRIES];
     let n = lent(row, kind == PLAN || kind == RUN, SETS);
     let m = lent(row, kind == PAGE, ENTRIES);
     filled_agrees(
+        lines,
         kind,
         store,
         row,
@@ -371,67 +387,106 @@ fn written_agrees(kind: usize, store: &[u8], row: &[u8], graph: &[u64], words: &
 }
 
 // Lends the words of a graph.
-fn build_agrees(kind: usize, store: &[u8], row: &[u8], memory: &mut [u64]) -> bool {
+fn build_agrees(
+    lines: &mut impl Write,
+    kind: usize,
+    store: &[u8],
+    row: &[u8],
+    memory: &mut [u64],
+) -> io::Result<bool> {
     let n = fitting(index(from(row, GRAPH), LENT), memory.len());
-    written_agrees(kind, store, row, &[0; 0], &mut memory[0..n])
+    written_agrees(lines, kind, store, row, &[0; 0], &mut memory[0..n])
 }
 
 // Lends the words of an extract.
-fn output_agrees(kind: usize, store: &[u8], row: &[u8], graph: &[u64]) -> bool {
+fn output_agrees(
+    lines: &mut impl Write,
+    kind: usize,
+    store: &[u8],
+    row: &[u8],
+    graph: &[u64],
+) -> io::Result<bool> {
     let mut words = word_room();
     let n = lent(row, kind == EXTRACT, WORDS);
-    written_agrees(kind, store, row, graph, &mut words[0..n])
+    written_agrees(lines, kind, store, row, graph, &mut words[0..n])
 }
 
 // Lends the graph of the possible sets, too.
-fn levels_agree(store: &[u8], row: &[u8], within: &[u64], sure: &[u64]) -> bool {
+fn levels_agree(
+    lines: &mut impl Write,
+    store: &[u8],
+    row: &[u8],
+    within: &[u64],
+    sure: &[u64],
+) -> io::Result<bool> {
     let mut room = word_room();
     let graph = from(row, POSSIBLE);
     let n = fitting(index(graph, LENT), WORDS);
     let words = &mut room[0..n];
     lay_graph(graph, stored(store, graph, EDITS), within, &mut *words);
     let file = stored(store, row, FILE);
-    agrees(row, call_level_within(file, row, &words[..], sure), 0)
+    agrees(
+        lines,
+        row,
+        call_level_within(file, row, &words[..], sure),
+        0,
+    )
 }
 
 // A call on a graph; that of a run has no words.
-fn graph_agrees(kind: usize, store: &[u8], row: &[u8], within: &[u64], graph: &[u64]) -> bool {
+fn graph_agrees(
+    lines: &mut impl Write,
+    kind: usize,
+    store: &[u8],
+    row: &[u8],
+    within: &[u64],
+    graph: &[u64],
+) -> io::Result<bool> {
     let file = stored(store, row, FILE);
     match kind {
-        REST => agrees(row, call_rest(file, row, graph), 0),
-        LEVEL => agrees(row, call_level(file, row, graph), 0),
-        LEVEL_WITHIN => levels_agree(store, row, within, graph),
+        REST => agrees(lines, row, call_rest(file, row, graph), 0),
+        LEVEL => agrees(lines, row, call_level(file, row, graph), 0),
+        LEVEL_WITHIN => levels_agree(lines, store, row, within, graph),
         WEIGHTED => agrees(
+            lines,
             row,
             call_weighted(file, row, stored(store, row, LIST), graph),
             0,
         ),
-        _ => output_agrees(kind, store, row, graph),
+        _ => output_agrees(lines, kind, store, row, graph),
     }
 }
 
-fn laid_agrees(kind: usize, store: &[u8], row: &[u8], built: &[u64], within: &[u64]) -> bool {
+fn laid_agrees(
+    lines: &mut impl Write,
+    kind: usize,
+    store: &[u8],
+    row: &[u8],
+    built: &[u64],
+    within: &[u64],
+) -> io::Result<bool> {
     let mut room = word_room();
     let graph = from(row, GRAPH);
     let n = fitting(index(graph, LENT), WORDS);
     let words = &mut room[0..n];
     lay_graph(graph, stored(store, graph, EDITS), built, &mut *words);
-    graph_agrees(kind, store, row, within, &words[..])
+    graph_agrees(lines, kind, store, row, within, &words[..])
 }
 
 // Whether the case agrees. `built` is the graph memory of the last build and `within` that of the last one for possible sets, each as that left it,
 // for the calls behind it.
 pub fn case_agrees(
+    lines: &mut impl Write,
     kind: usize,
     store: &[u8],
     row: &[u8],
     built: &mut [u64],
     within: &mut [u64],
-) -> bool {
+) -> io::Result<bool> {
     match kind {
-        BUILD => build_agrees(kind, store, row, built),
-        BUILD_WITHIN => build_agrees(kind, store, row, within),
-        LEVELS => levels::agrees(store, row),
-        _ => laid_agrees(kind, store, row, &built[..], &within[..]),
+        BUILD => build_agrees(lines, kind, store, row, built),
+        BUILD_WITHIN => build_agrees(lines, kind, store, row, within),
+        LEVELS => Ok(levels::agrees(store, row)),
+        _ => laid_agrees(lines, kind, store, row, &built[..], &within[..]),
     }
 }

@@ -15,7 +15,7 @@ pub fn agrees(store: &[u8], row: &[u8]) -> bool {
     let mut out = [0u8; TEXT_ROOM];
     let answer = levels_text(stored(store, row, FILE), &mut out);
     match answer {
-        TextAnswer::Written(n) => check::same(stored(store, row, TEXT), between(&out, 0, n)),
+        TextAnswer::Written(n) => *stored(store, row, TEXT) == *between(&out, 0, n),
         TextAnswer::Refused(_why) => false,
     }
 }

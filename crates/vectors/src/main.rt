@@ -4,6 +4,9 @@
 
 ghost use Rattle.std.specs.Prelude.{◌≡◌, length};
 
+use std::{fs, io};
+use streams::read_full;
+
 mod answers;
 mod calls;
 mod data;
@@ -22,16 +25,15 @@ fn file_room() -> [u8; BYTES]
     [0; BYTES]
 }
 
-// Reads a data file and judges its cases; of one that cannot be opened there are none.
-fn judge(name: &[u8], first: usize, kinds: usize, width: usize) {
+// Reads a data file and judges its cases; one that cannot be read ends the program with the error.
+fn judge(rt: &HostRuntime, name: &str, first: usize, kinds: usize, width: usize) -> io::Result<()> {
     let mut room = file_room();
-    let fd = os::open_read(name);
-    let n = io::read_full(fd, &mut room);
-    libc::close(fd);
-    rows::judge_file(name, &room[..n], first, kinds, width);
+    let mut file = fs::open(rt, name)?;
+    let n = read_full(&mut file, &mut room)?;
+    rows::judge_file(&mut rt.stdout(), name, &room[..n], first, kinds, width)
 }
 
-fn main() {
-    judge(b"calls.bin", calls::BUILD, 10, calls::NUMBERS);
-    judge(b"levels.bin", calls::LEVELS, 1, levels::NUMBERS);
+fn main(rt: HostRuntime) -> io::Result<()> {
+    judge(&rt, "calls.bin", calls::BUILD, 10, calls::NUMBERS)?;
+    judge(&rt, "levels.bin", calls::LEVELS, 1, levels::NUMBERS)
 }
