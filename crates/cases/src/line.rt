@@ -1,5 +1,5 @@
 // A line of the script: what stands in its columns.
-ghost use Rattle.std.specs.Prelude.{◌≤◌, ◌<◌, length};
+ghost use Rattle.std.specs.Prelude.{◌≤◌, length};
 
 // Where the numbers of a line begin, six columns each: bytes of the file, depth, set of states, goal, words of graph memory, elements of output, which
 // of two graphs are the words of the possible sets. Where a share is asked for, its numerator stands for the set, its denominator for the output.
@@ -78,13 +78,13 @@ pub fn letter(line: &[u8]) -> u8 {
     line[0]
 }
 
-// Where the line that begins at `at` ends: at the end of the script, where no newline follows.
-pub fn line_end(script: &[u8], at: usize) -> usize
-    requires { at < length script.now }
-    ensures { (at ≤ result) × (result ≤ length script.now) }
+// Where the byte first stands from `at` on: at the end, where it does not.
+pub fn find(text: &[u8], at: usize, byte: u8) -> usize
+    requires { at ≤ length text.now }
+    ensures { (at ≤ result) × (result ≤ length text.now) }
 {
-    match script[at..].iter().position(|b| *b == b'\n') {
+    match text[at..].iter().position(|b| *b == byte) {
         Some(n) => at + n,
-        None => script.len(),
+        None => text.len(),
     }
 }

@@ -13,7 +13,7 @@ mod calls;
 mod line;
 mod show;
 
-use line::{cut, letter, line_end, number, size};
+use line::{cut, find, letter, number, size};
 use std::io;
 use std::io::Write;
 use streams::read_full;
@@ -150,7 +150,7 @@ fn steps(
 ) -> io::Result<()> {
     let mut at = 0;
     while at < script.len() {
-        let end = line_end(script, at);
+        let end = find(script, at, b'\n');
         let line = &script[at..end];
         say_text(&mut *to, line)?;
         step(

@@ -41,6 +41,14 @@ use Rattle.run.specs.declared.fire.Stepped.TheVariants as did
 use Rattle.run.proofs.Idles.{had_word, rows_same, same_row}
 use Rattle.run.proofs.Runs.{Narrow, narrow_of, run_turn, run_end, idle_turn, idle_end}
 
+-- ---- a step's answer
+
+-- an answer that is neither of the other two
+pub missing : (r : Stepped) → (r ≡ did.Unchanged → ⊥) → ((next : ℕ) → r ≡ did.Changed next → ⊥) → r ≡ did.Missing
+missing did.Missing p q = refl
+missing (did.Changed next) p q = absurd (q next refl)
+missing did.Unchanged p q = absurd (p refl)
+
 -- ---- one step: n states, whose sets are xs
 
 module _ (n : ℕ) (xs : List ℕ) where

@@ -1,28 +1,14 @@
 // Version 2: what the steps go by, read from the file once.
 ghost use Rattle.std.specs.Prelude.{◌≡◌, length};
 ghost use Rattle.rules.specs.Lists.{list_over};
-ghost use Rattle.words.specs.Rows.{row_length};
 ghost use Rattle.graph.specs.Format.{actions_of};
 ghost use Rattle.graph.specs.File.{Taken};
-ghost use Rattle.run.specs.Fire.{Empty, effects_of};
 ghost use Rattle.run.specs.Even.{goes_of};
 
 use crate::step::pack;
 use graph::format::Counts;
-use graph::read::{added, antecedent, deleted, owner, precondition};
-use words::members::single;
+use graph::read::{added, antecedent, deleted, precondition};
 use words::sets::{Props, wide};
-
-// The effects of each action, in a row of empty words.
-pub fn read_owned(file: &[u8], c: Counts, owned: &mut [u64])
-    requires { Taken file.now c × Empty owned.old }
-    ensures { owned.new ≡ list_over row_length (effects_of (actions_of file.now c)) }
-{
-    for e in 0..c.effects {
-        let a = owner(file, c, e);
-        owned[a] = owned[a] | single(e);
-    }
-}
 
 // The precondition of each action.
 pub fn read_needs(file: &[u8], c: Counts, needs: &mut [u64])

@@ -14,7 +14,8 @@ ghost use Rattle.graph.specs.Limits.{max_effects};
 ghost use Rattle.graph.specs.Format.{actions_of};
 ghost use Rattle.graph.specs.File.{Taken};
 ghost use Rattle.run.specs.Fire as F;
-ghost use Rattle.run.specs.Fire.{Rooms, set_in, fired_by, of_effect, join_fired, of_effects, removed_by, joined_by, applied_in, stepped_in};
+ghost use Rattle.run.specs.Course.{Known};
+ghost use Rattle.run.specs.Fire.{Empty, effects_of, Rooms, set_in, fired_by, of_effect, join_fired, of_effects, removed_by, joined_by, applied_in, stepped_in};
 ghost use Rattle.run.specs.Fire.{settled_label, settled, even_answer, next_of, same_rows, told, answer_in, ready_in, labels_at, idle_at, first_lack, Stepping};
 ghost use Rattle.run.specs.Even.{Listed, Tells};
 
@@ -22,11 +23,22 @@ use crate::even::walk_evenly;
 use crate::step::{Walked, brings, leaves};
 use graph::file::byte;
 use graph::format::Counts;
-use graph::read::{added, antecedent, deleted, precondition};
+use graph::read::{added, antecedent, deleted, owner, precondition};
 use words::columns::spread;
 use words::members::{lowest, meet_at, others, single};
 use words::sets::{PROP_WIDTH, Props, States, wide};
 use words::tables::ROW;
+
+// The effects of each action, in a row of empty words.
+pub fn read_owned(file: &[u8], c: Counts, owned: &mut [u64])
+    requires { Taken file.now c × Empty owned.old }
+    ensures { owned.new ≡ list_over row_length (effects_of (actions_of file.now c)) }
+{
+    for e in 0..c.effects {
+        let a = owner(file, c, e);
+        owned[a] = owned[a] | single(e);
+    }
+}
 
 // The states of the set that have all of these propositions.
 fn having(labels: &[u64], set: States, props: Props) -> u64
@@ -322,9 +334,62 @@ pub struct Gone {
     pub idle: usize,
 }
 
+// The steps of a list, up to the first that lacks its precondition, or through all of them.
+pub fn walk_effects(
+    file: &[u8],
+    c: Counts,
+    set: States,
+    list: &[u8],
+    owned: &[u64],
+    labels: &mut [u64],
+    before: &mut [u64],
+    fired: &mut [u64],
+) -> Gone
+    requires { Rooms file.now c owned.now labels.old before.old fired.old × Known c.actions list.now }
+    ensures { (result.made ≡ first_lack (actions_of file.now c) set.0 list.now labels.old)
+        × (result.idle ≡ idle_at (actions_of file.now c) set.0 list.now labels.old result.made)
+        × (labels.new ≡ labels_at (actions_of file.now c) set.0 list.now labels.old result.made) }
+{
+    let mut course = course_of(&*labels, set);
+    let mut idle = 0;
+    let mut i = 0;
+    while i < list.len() {
+        let a = byte(list, i);
+        let did = step_effects(
+            file,
+            c,
+            a,
+            set,
+            course,
+            owned,
+            &mut *labels,
+            &mut *before,
+            &mut *fired,
+        );
+        i += 1;
+        if let Stepped::Unchanged = did {
+            idle += 1;
+            continue;
+        }
+        let Stepped::Changed(next) = did else {
+            settle(&mut *labels, set, course);
+            return Gone {
+                made: i - 1,
+                idle: idle,
+            };
+        };
+        course = next;
+    }
+    settle(&mut *labels, set, course);
+    Gone {
+        made: i,
+        idle: idle,
+    }
+}
+
 // The steps of a list, on from where the word alone led: up to the first that lacks its precondition, or through all of them. Behind a step that changed
 // something the word leads on, as far as it does.
-pub fn walk_effects(
+pub fn walk_effects_on(
     file: &[u8],
     c: Counts,
     set: States,

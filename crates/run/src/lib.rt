@@ -25,9 +25,9 @@ ghost use Rattle.run.specs.Even.{Led};
 ghost use Rattle.run.specs.Course.{Some, Checked, PerAction, course, leaves_of, brings_of, sets_of};
 ghost use Rattle.run.specs.Run.{numbers_rule, sequence_rule, end_rule, run_taken, run_rule, idle_steps, reported, report_rule, run_verdict};
 
-use crate::effects::{read_effects, read_needs, read_owned};
+use crate::effects::{read_effects, read_needs};
 use crate::even::{lacking, walk_evenly};
-use crate::fire::{lay_labels, walk_effects};
+use crate::fire::{lay_labels, read_owned, walk_effects, walk_effects_on};
 use crate::step::{Walked, brings, came, leaves, pack, walk};
 use graph::checks::{check_output, check_set};
 use graph::file::{FileAnswer, byte, check_file};
@@ -291,7 +291,7 @@ fn run_rows_in(
         × (out.new ≡ laid (end_rule file.now c set.0 list.now) out.old) }
 {
     start_labels(file, c, &mut *labels);
-    let went = walk_effects(
+    let went = walk_effects_on(
         file,
         c,
         set,
@@ -350,9 +350,47 @@ fn run_rows(
     )
 }
 
+// Version 2: the run, through memory for the effects of each action, for the states that have each proposition, now and before a step, and for those in
+// which each effect fires.
+// The output is written once the list has ended.
+fn run_effects_in(
+    file: &[u8],
+    c: Counts,
+    set: States,
+    list: &[u8],
+    owned: &mut [u64],
+    labels: &mut [u64],
+    before: &mut [u64],
+    fired: &mut [u64],
+    out: &mut [u32],
+) -> RunAnswer
+    requires { Checked file.now c set.0 list.now out.old × Empty owned.old × Empty labels.old × (length before.old ≡ row_length)
+        × (length fired.old ≡ max_effects) }
+    ensures { (run_verdict result ≡ reported (idle_steps file.now c set.0 list.now) (end_rule file.now c set.0 list.now))
+        × (out.new ≡ laid (end_rule file.now c set.0 list.now) out.old) }
+{
+    read_owned(file, c, &mut *owned);
+    start_labels(file, c, &mut *labels);
+    let did = walk_effects(
+        file,
+        c,
+        set,
+        list,
+        &*owned,
+        &mut *labels,
+        &mut *before,
+        &mut *fired,
+    );
+    if did.made < list.len() {
+        return RunAnswer::Refused(Refusal::Precondition(did.made));
+    }
+    lay_labels(&*labels, c.states, &mut *out);
+    RunAnswer::Ran(c.states, did.idle)
+}
+
 // Version 2: the run, through memory for what the steps go by. The word alone leads as far as effects fire in every state of the set or in none, mostly to the
 // end; else the states are turned round there.
-fn run_effects_in(
+fn run_evenly_in(
     file: &[u8],
     c: Counts,
     set: States,
@@ -407,7 +445,7 @@ fn run_effects(file: &[u8], c: Counts, set: States, list: &[u8], out: &mut [u32]
     let mut owned = [0u64; ROW];
     let mut when = [0u64; MAX_EFFECTS];
     let mut goes = [0u64; MAX_EFFECTS];
-    run_effects_in(
+    run_evenly_in(
         file,
         c,
         set,

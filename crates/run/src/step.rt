@@ -67,11 +67,18 @@ pub enum Change {
     None,
 }
 
-// Of a word, and of what a step left of it. That is never more, and so compared it costs least.
+// 1 for a step that leaves all of the word. What is left is never more, and so compared costs least.
+fn still(course: u64, left: u64) -> usize
+    ensures { result ≡ C.still course left }
+{
+    if course <= left { 1 } else { 0 }
+}
+
+// Of a word, and of what a step left of it.
 pub fn change_of(course: u64, left: u64) -> Change
     ensures { C.idle_by result ≡ C.still course left }
 {
-    if course <= left {
+    if still(course, left) == 1 {
         return Change::None;
     }
     Change::Some

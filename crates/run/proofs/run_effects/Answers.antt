@@ -5,18 +5,18 @@ use lib.Seq.{length-take-le}
 use Rattle.rules.specs.Lists.{list_over}
 use Rattle.run.proofs.run_effects.Goals as goal
 
-pub slice_bounds-run_effects_in-end : goal.slice_bounds-run_effects_in-end
-slice_bounds-run_effects_in-end c = sym (length-take-le _ _ (omega (arith, c.requires.taken.ranged.actions)))
+pub slice_bounds-run_evenly_in-end : goal.slice_bounds-run_evenly_in-end
+slice_bounds-run_evenly_in-end c = sym (length-take-le _ _ (omega (arith, c.requires.taken.ranged.actions)))
 
-pub slice_bounds-run_effects_in-end-3 : goal.slice_bounds-run_effects_in-end-3
-slice_bounds-run_effects_in-end-3 c = sym (length-take-le _ _ (omega (arith, c.requires.taken.ranged.effects)))
+pub slice_bounds-run_evenly_in-end-3 : goal.slice_bounds-run_evenly_in-end-3
+slice_bounds-run_evenly_in-end-3 c = sym (length-take-le _ _ (omega (arith, c.requires.taken.ranged.effects)))
 
-pub slice_bounds-run_effects_in-end-4 : goal.slice_bounds-run_effects_in-end-4
-slice_bounds-run_effects_in-end-4 c = sym (length-take-le _ _ (omega (arith, c.requires.taken.ranged.effects)))
+pub slice_bounds-run_evenly_in-end-4 : goal.slice_bounds-run_evenly_in-end-4
+slice_bounds-run_evenly_in-end-4 c = sym (length-take-le _ _ (omega (arith, c.requires.taken.ranged.effects)))
 
-pub run_effects_in-requires : goal.run_effects_in-requires
+pub run_evenly_in-requires : goal.run_evenly_in-requires
 unfolding list_over
-run_effects_in-requires c =
+run_evenly_in-requires c =
     let p = c.requires in
     let few = p.taken.ranged.actions in
     let less = p.taken.ranged.effects in

@@ -1,58 +1,39 @@
--- Where the word led tells whether the list has ended; nothing is written before.
-use mathlib.Core.Path.{sym, ◌∙◌}
-use native.Mathlib.Omega.{arith}
-use Rattle.graph.specs.Format.{actions_of}
-use Rattle.run.specs.Even.{Tells, Led}
-use Rattle.run.proofs.Courses.{sets_length}
-use Rattle.run.proofs.Runs.{narrow_of}
+-- The steps go by the words of the start states, and nothing is written before the list has ended.
+use mathlib.Core.Path.{◌≡◌, sym, ap, ◌∙◌}
+use lib.ListN.{length}
+use Rattle.rules.proofs.Layers.{length_list_over}
+use Rattle.words.specs.Rows.{row_length}
+use Rattle.rules.specs.Shared.{start_label}
+use Rattle.graph.specs.Format.{start_of}
 use Rattle.run.proofs.Reports.{reported_refused, reported_accepted}
-use Rattle.run.proofs.Evens.{tells_of, listed_of, led_of, led_lacks, led_ends, led_counts}
+use Rattle.run.proofs.Fires.{effects_off, effects_done, effects_idle}
 use Rattle.run.proofs.run_effects_in.Goals as goal
-use Rattle.run.proofs.run_effects_in.Goals.{After-read_effects, After-walk_evenly-led}
+use Rattle.run.proofs.run_effects_in.Goals.{After-start_labels}
 
--- what was read tells the file's actions
-tells : (c : After-read_effects) →
+-- how many words there are once the labels of the start states are read
+labels_long : (c : After-start_labels) → length c.start_labels.new.labels ≡ row_length
+labels_long c =
     let a = c.args in
-    Tells (actions_of a.file.now a.c) c.read_needs.new.needs c.read_owned.new.owned
-    c.read_effects.new.when c.read_effects.new.goes
-tells c =
-    tells_of c.requires.0.taken c.read_needs.ensures c.read_owned.ensures c.read_effects.ensures.0 c.read_effects.ensures.1
+    ap length c.start_labels.ensures ∙ length_list_over row_length (start_label a.c.states (start_of a.file.now a.c))
 
--- and where it led
-led : (c : After-walk_evenly-led) →
-    let a = c.args in
-    Led a.file.now a.c a.set.0 a.list.now c.read_needs.new.needs c.read_owned.new.owned
-    c.read_effects.new.when c.read_effects.new.goes c.walk_evenly-led.result
-led c = led_of c.requires.0 ((tells_of c.requires.0.taken c.read_needs.ensures c.read_owned.ensures c.read_effects.ensures.0 c.read_effects.ensures.1)) c.start_course.ensures c.walk_evenly-led.ensures
+pub walk_effects-did-requires : goal.walk_effects-did-requires
+walk_effects-did-requires c =
+    let p = c.requires in
+    let owned = c.read_owned.ensures in
+    (record { taken = p.0.taken; owned_are = owned; labels_long = labels_long (goal.at.walk_effects-did-requires c).After-start_labels; before_long = p.3; fired_long = p.4 }, p.0.known)
 
-pub walk_evenly-led-requires : goal.walk_evenly-led-requires
-unfolding actions_of
-walk_evenly-led-requires c =
-    (listed_of (tells (goal.at.walk_evenly-led-requires c).After-read_effects) c.requires.0.known, omega arith, omega arith)
+pub returns-then-did-list : goal.returns-then-did-list
+returns-then-did-list c =
+    reported_refused _ _ _ _ _ (effects_off c.requires.0 c.start_labels.ensures c.walk_effects-did.ensures c.if-did-list.true)
 
-pub lacking-requires : goal.lacking-requires
-lacking-requires c = ((led (goal.at.lacking-requires c).After-walk_evenly-led).listed.known, c.if-led-list.true)
-
-pub returns-then-lacking : goal.returns-then-lacking
-returns-then-lacking c =
-    reported_refused _ _ _ _ _ (led_lacks c.requires.0 (led (goal.at.returns-then-lacking c).After-walk_evenly-led) c.if-led-list.true
-    (sym c.lacking.ensures ∙ c.if-lacking.true))
-
-pub run_rows-requires : goal.run_rows-requires
-run_rows-requires c = (c.requires.0, led (goal.at.run_rows-requires c).After-walk_evenly-led)
-
-pub lay-requires : goal.lay-requires
-lay-requires c = let p = c.requires.0 in (p.taken, p.some, p.fits)
+pub lay_labels-requires : goal.lay_labels-requires
+lay_labels-requires c =
+    let p = c.requires.0 in
+    (c.walk_effects-did.auto.labels ∙ labels_long (goal.at.lay_labels-requires c).After-start_labels, p.taken.ranged.states, p.fits)
 
 pub returns : goal.returns
 returns c =
     let p = c.requires.0 in
-    reported_accepted _ _ _ _ _ _ _ (led_ends p (led (goal.at.returns c).After-walk_evenly-led) c.if-led-list.false)
-    (sym (sets_length _ _ _ (λ s h. (narrow_of _ _ p.taken).starts s h) _)) (led_counts p (led (goal.at.returns c).After-walk_evenly-led) c.if-led-list.false)
-    c.lay.ensures
-
-pub shape_of-needs-then-led-list : goal.shape_of-needs-then-led-list
-shape_of-needs-then-led-list c = c.read_needs.auto.needs
-
-pub shape_of-owned-then-led-list : goal.shape_of-owned-then-led-list
-shape_of-owned-then-led-list c = c.read_owned.auto.owned
+    reported_accepted _ _ _ _ _ _ _ (effects_done p c.start_labels.ensures c.walk_effects-did.ensures c.if-did-list.false)
+    (sym (length_list_over _ _)) (effects_idle p c.start_labels.ensures c.walk_effects-did.ensures c.if-did-list.false)
+    c.lay_labels.ensures

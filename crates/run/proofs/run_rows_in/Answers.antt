@@ -16,10 +16,10 @@ labels_long c =
     let a = c.args in
     ap length c.start_labels.ensures ∙ length_list_over row_length (start_label a.c.states (start_of a.file.now a.c))
 
-pub walk_effects-went-requires : goal.walk_effects-went-requires
-walk_effects-went-requires c =
+pub walk_effects_on-went-requires : goal.walk_effects_on-went-requires
+walk_effects_on-went-requires c =
     let p = c.requires in (
-      record { taken = p.0.taken; owned_are = p.4.tells.own; labels_long = labels_long (goal.at.walk_effects-went-requires c).After-start_labels; before_long = p.2; fired_long = p.3 },
+      record { taken = p.0.taken; owned_are = p.4.tells.own; labels_long = labels_long (goal.at.walk_effects_on-went-requires c).After-start_labels; before_long = p.2; fired_long = p.3 },
       p.0.some.some,
       p.4.listed,
       p.4.tells,
@@ -28,16 +28,16 @@ walk_effects-went-requires c =
 
 pub returns-then-went-list : goal.returns-then-went-list
 returns-then-went-list c =
-    reported_refused _ _ _ _ _ (effects_off c.requires.0 c.start_labels.ensures c.walk_effects-went.ensures c.if-went-list.true)
+    reported_refused _ _ _ _ _ (effects_off c.requires.0 c.start_labels.ensures c.walk_effects_on-went.ensures c.if-went-list.true)
 
 pub lay_labels-requires : goal.lay_labels-requires
 lay_labels-requires c =
     let p = c.requires.0 in
-    (c.walk_effects-went.auto.labels ∙ labels_long (goal.at.lay_labels-requires c).After-start_labels, p.taken.ranged.states, p.fits)
+    (c.walk_effects_on-went.auto.labels ∙ labels_long (goal.at.lay_labels-requires c).After-start_labels, p.taken.ranged.states, p.fits)
 
 pub returns : goal.returns
 returns c =
     let p = c.requires.0 in
     let began = c.start_labels.ensures in
-    reported_accepted _ _ _ _ _ _ _ (effects_done p began c.walk_effects-went.ensures c.if-went-list.false)
-    (sym (length_list_over _ _)) (effects_idle p began c.walk_effects-went.ensures c.if-went-list.false) c.lay_labels.ensures
+    reported_accepted _ _ _ _ _ _ _ (effects_done p began c.walk_effects_on-went.ensures c.if-went-list.false)
+    (sym (length_list_over _ _)) (effects_idle p began c.walk_effects_on-went.ensures c.if-went-list.false) c.lay_labels.ensures

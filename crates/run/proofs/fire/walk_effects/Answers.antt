@@ -2,31 +2,40 @@ use Prim.Native.Nat.{ℕ, ◌+◌, ◌-◌, ◌<◌}
 use mathlib.Core.Path.{◌≡◌, refl, sym, subst, ◌∙◌}
 use mathlib.Core.List.{List, [], ◌∷◌}
 use native.Mathlib.Omega.{arith}
-use types.Run.{OneOf, miss}
-use denote.Enum.Declared.{tag_of}
 use lib.ListN.{length}
 use Rattle.words.specs.Rows.{row_length}
 use Rattle.graph.specs.Limits.{max_effects}
 use Rattle.graph.specs.Format.{actions_of}
-use Rattle.run.specs.Fire.{settled, next_of, Stepping}
+use Rattle.run.specs.Fire.{settled, next_of}
 use Rattle.run.specs.declared.fire.Stepped.{Stepped}
-use Rattle.run.specs.declared.fire.Stepped.TheVariants.{Missing, Changed, Unchanged}
-use Rattle.run.specs.contracts.fire.Stepped.{the_type}
-use Rattle.run.proofs.Evens.{listed_known}
-use Rattle.run.proofs.Fires.{Stopped, step_idle, step_changed, step_off, step_done}
+use Rattle.run.specs.declared.fire.Stepped.TheVariants.{Changed}
+use Rattle.run.proofs.Fires.{missing, Stopped, step_none, step_idle, step_changed, step_off, step_done}
+use Rattle.run.proofs.Settles.{settled_same}
+use Rattle.run.specs.Fire.{Stepping}
 use Rattle.run.proofs.fire.walk_effects.Goals as goal
-use Rattle.run.proofs.fire.walk_effects.Goals.{After-step_effects-did, In-Changed}
+use Rattle.run.proofs.fire.walk_effects.Goals.{After-step_effects-did}
+
+pub course_of-course-requires : goal.course_of-course-requires
+course_of-course-requires c = c.requires.0.labels_long
 
 pub loop-i-init : goal.loop-i-init
-loop-i-init c = let p = c.requires in (p.4, p.0.labels_long, p.0.before_long, p.0.fired_long)
+loop-i-init c =
+    let a = c.args in
+    let r = c.requires.0 in
+    let e = c.course_of-course.ensures in (
+      subst (λ (l : List ℕ). Stepping (actions_of a.file.now a.c) a.set.0 a.list.now a.labels.now l 0 c.course_of-course.result 0)
+          (sym (settled_same a.set.0 a.labels.now r.labels_long e)) (step_none r.labels_long e),
+      r.labels_long,
+      r.before_long,
+      r.fired_long,
+    )
 
 pub step_effects-did-requires : goal.step_effects-did-requires
-unfolding actions_of
 step_effects-did-requires c =
     let l = c.loop-i in
     let r = c.requires.0 in (
       record { taken = r.taken; owned_are = r.owned_are; labels_long = l.invariant.1; before_long = l.invariant.2; fired_long = l.invariant.3 },
-      subst (λ (x : ℕ). x < c.args.c.actions) (sym c.byte-a.ensures.0) (listed_known c.requires.2 c.requires.3 l.i c.loop-i-test.true),
+      subst (λ (x : ℕ). x < c.args.c.actions) (sym c.byte-a.ensures.0) (c.requires.1 l.i c.loop-i-test.true),
       l.invariant.0.course_is,
     )
 
@@ -61,40 +70,20 @@ loop-i-preserved-in-Unchanged c =
       fired_long (goal.at.loop-i-preserved-in-Unchanged c).After-step_effects-did,
     )
 
--- what holds behind a step that changed something
-changed : (c : In-Changed) →
-    let l = c.loop-i in
-    let a = c.args in
-    let next = c.in-Changed.next in
-    Stepping (actions_of a.file.now a.c) a.set.0 a.list.now a.labels.now (settled c.args.set.0 (next_of c.loop-i.course (Changed next)) c.step_effects-did.new.labels) (l.i + 1) next l.idle
-changed c =
-    let l = c.loop-i in
-    let a = c.args in
-    let A = actions_of a.file.now a.c in
-    let e = c.in-Changed.is in
-    subst (λ (x : Stepped). Stepping A a.set.0 a.list.now a.labels.now (settled c.args.set.0 (next_of c.loop-i.course x) c.step_effects-did.new.labels) (l.i + 1) c.in-Changed.next l.idle) e
-    (step_changed l.invariant.0 {labels' = settled c.args.set.0 (next_of c.loop-i.course c.step_effects-did.result) c.step_effects-did.new.labels} c.loop-i-test.true c.byte-a.ensures.0
-    c.step_effects-did.ensures e)
-
-pub walk_evenly-ahead-requires : goal.walk_evenly-ahead-requires
-walk_evenly-ahead-requires c = (c.requires.2, (changed (goal.at.walk_evenly-ahead-requires c).In-Changed).few, (changed (goal.at.walk_evenly-ahead-requires c).In-Changed).inside)
-
 pub loop-i-preserved : goal.loop-i-preserved
 unfolding next_of
 loop-i-preserved c =
-    let a = c.args in (
-      c.walk_evenly-ahead.ensures.on (actions_of a.file.now a.c) a.set.0 a.labels.now c.step_effects-did.new.labels
-          c.requires.3 c.requires.1 (changed (goal.at.loop-i-preserved c).In-Changed),
+    let l = c.loop-i in
+    let a = c.args in
+    let A = actions_of a.file.now a.c in
+    let e = c.in-Changed.is in (
+      subst (λ (x : Stepped). Stepping A a.set.0 a.list.now a.labels.now (stood (goal.at.loop-i-preserved c).After-step_effects-did x) (l.i + 1) c.in-Changed.next l.idle) e
+          (step_changed l.invariant.0 {labels' = stood (goal.at.loop-i-preserved c).After-step_effects-did c.step_effects-did.result} c.loop-i-test.true c.byte-a.ensures.0
+          c.step_effects-did.ensures e),
       labels_long (goal.at.loop-i-preserved c).After-step_effects-did,
       before_long (goal.at.loop-i-preserved c).After-step_effects-did,
       fired_long (goal.at.loop-i-preserved c).After-step_effects-did,
     )
-
--- an answer that is neither of the other two
-missing : (r : Stepped) → (r ≡ Unchanged → ⊥) → ((next : ℕ) → r ≡ Changed next → ⊥) → r ≡ Missing
-missing Missing p q = refl
-missing (Changed next) p q = absurd (q next refl)
-missing Unchanged p q = absurd (p refl)
 
 pub returns-in_default-did : goal.returns-in_default-did
 unfolding next_of
@@ -134,7 +123,7 @@ loop-i-smaller-in-Unchanged c =
 
 pub loop-i-smaller : goal.loop-i-smaller
 loop-i-smaller c =
-    omega (arith, c.loop-i-test.true, c.walk_evenly-ahead.ensures.forth, c.walk_evenly-ahead.ensures.inside)
+    omega (arith, c.loop-i-test.true)
 
 pub shape_of-labels-in_default-did : goal.shape_of-labels-in_default-did
 shape_of-labels-in_default-did c =

@@ -1,12 +1,12 @@
--- The steps so far had their preconditions; the loop is left at the first that has not. Behind a step that changed something the word leads on. The labels are
--- settled on both ways out.
+-- The steps so far had their preconditions; the loop is left at the first that has not. The labels are settled on both ways out.
 use Prim.Native.Nat.{◌-◌}
 use mathlib.Core.Path.{◌≡◌}
 use lib.ListN.{length}
 use Rattle.words.specs.Rows.{row_length}
 use Rattle.graph.specs.Limits.{max_effects}
 use Rattle.graph.specs.Format.{actions_of}
-use Rattle.run.specs.Fire.{settled, Stepping}
+use Rattle.run.specs.Fire.{settled}
+use Rattle.run.specs.Fire.{Stepping}
 use Rattle.run.proofs.fire.walk_effects.Given as goal
 
 abbrev pub invariant-loop-i : goal.invariant-loop-i

@@ -1,15 +1,13 @@
--- Not less is all.
-use mathlib.Core.Path.{sym}
-use native.Mathlib.Omega.{arith}
-use Rattle.rules.specs.Over.{keep}
-use Rattle.rules.proofs.Tests.{choose_held, choose_failed, is_fails, below_not, below_of, fails_of, fails_at}
+-- A step that leaves all of the word is the one that changes none; of the number there are only 0 and 1.
+use Rattle.std.proofs.Common.{sym, ◌∙◌, arith}
 use Rattle.run.specs.Course as C
+use Rattle.run.proofs.Walks.{still_le}
 use Rattle.run.proofs.step.change_of.Goals as goal
 
-pub returns-then-course-left : goal.returns-then-course-left
-unfolding C.idle_by C.still keep
-returns-then-course-left c = sym (choose_held _ (is_fails (below_not c.if-course-left.true)))
+pub returns-then-still-eq1 : goal.returns-then-still-eq1
+unfolding C.idle_by
+returns-then-still-eq1 c = sym c.if-still-eq1.true ∙ c.still.ensures
 
 pub returns : goal.returns
-unfolding C.idle_by C.still keep
-returns c = sym (choose_failed _ _ (fails_of (λ t. fails_at t (below_of (omega (arith, c.if-course-left.false))))))
+unfolding C.idle_by
+returns c = omega (arith, c.if-still-eq1.false, c.still.ensures, still_le c.args.course c.args.left)

@@ -10,7 +10,7 @@ use Rattle.words.specs.Rows.{row_length}
 use Rattle.words.proofs.Spreads.{columns_none, columns_more}
 use Rattle.graph.specs.Format.{actions_of}
 use Rattle.run.proofs.Touches.{owned_one, owned_all}
-use Rattle.run.proofs.effects.read_owned.Goals as goal
+use Rattle.run.proofs.fire.read_owned.Goals as goal
 
 pub loop-e-init : goal.loop-e-init
 loop-e-init c = (omega arith, refl, columns_none _ _ _ c.requires.1)

@@ -7,7 +7,7 @@ use Rattle.rules.specs.Lists.{list_over}
 use Rattle.rules.specs.Shared.{start_label}
 use Rattle.words.specs.Rows.{row_length}
 use Rattle.graph.specs.Format.{actions_of}
-use Rattle.run.proofs.effects.read_owned.Given as goal
+use Rattle.run.proofs.fire.read_owned.Given as goal
 
 abbrev pub invariant-loop-e : goal.invariant-loop-e
 invariant-loop-e l =
