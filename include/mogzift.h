@@ -1,7 +1,7 @@
 /*
  * Mogzift: one planning graph for up to 64 start states.
  *
- * Link with target/staticlib/libmogzift.a (x86-64 Linux), which `rt staticlib mogzift` writes. The crate `mogzift` proves
+ * Link with target/staticlib/libmogzift.a (x86-64 Linux), which `sh tools/archive.sh` writes. The crate `mogzift_c` proves
  * of each call below that what it returns, what it tells and all memory lent to it are as its rule says, for every
  * argument.
  *

@@ -1,6 +1,6 @@
 #!/bin/sh
 # Compiles test.c as C99 and as C++11, each without a warning, and runs both. It needs the archive:
-# `rt staticlib mogzift` writes it, or MOGZIFT_LIB names the folder that holds it.
+# `sh tools/archive.sh` writes it, or MOGZIFT_LIB names the folder that holds it.
 set -e
 here=$(cd "$(dirname "$0")" && pwd)
 archive=${MOGZIFT_LIB:-$here/../target/staticlib}/libmogzift.a

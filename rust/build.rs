@@ -1,4 +1,4 @@
-// Finds libmogzift.a, the proved library: in the folder that MOGZIFT_LIB names, or where `rt staticlib mogzift` writes it.
+// Finds libmogzift.a, the proved library: in the folder that MOGZIFT_LIB names, or where `sh tools/archive.sh` writes it.
 use std::env;
 use std::path::PathBuf;
 
@@ -13,7 +13,7 @@ fn main() {
     if !archive.is_file() {
         eprintln!("There is no {}.", archive.display());
         eprintln!(
-            "Run `rt staticlib mogzift` in the repository's root, or set MOGZIFT_LIB to the folder that holds libmogzift.a."
+            "Run `sh tools/archive.sh` in the repository's root, or set MOGZIFT_LIB to the folder that holds libmogzift.a."
         );
         std::process::exit(1);
     }
