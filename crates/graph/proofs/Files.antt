@@ -9,12 +9,12 @@ use native.Mathlib.Nat.{zero-add, not-suc-le-zero, le_of_eq, le_trans, le_refl, 
 use native.Mathlib.Omega.{arith}
 use lib.Bits.{bit_or, or_add_and, and_le_r, or_comm}
 use lib.Pow.{pow_pos}
-use Rattle.rules.specs.Test.{fails, choose}
+use Rattle.rules.specs.Test.{fails}
 use Rattle.rules.specs.Word.{union}
 use Rattle.rules.specs.Over.{join_over}
 use Rattle.rules.proofs.Overs.{below_suc}
 use Rattle.rules.proofs.Tests.{choose_held, choose_failed, fails_of, fails_at, holds_or, below_of, below_at}
-use Rattle.graph.specs.Verdict.{Verdict, accepted, refused, and_then}
+use Rattle.graph.specs.Verdict.{Verdict, accepted, refused}
 use Rattle.graph.specs.Format.{head_bytes, long_head, set_bytes, set_at, plain, when_at, sets_at, states_at, actions_of, start_of}
 use Rattle.graph.specs.File.{Ranged, sets_from, effect_sets, action_sets, sets_rule}
 use Rattle.graph.specs.declared.format.Counts.{Counts}

@@ -7,11 +7,11 @@ use mathlib.Core.List.{List}
 use Prim.Native.Nat.{ℕ, ◌^◌, ◌≤◌, ◌<◌}
 use native.Mathlib.Omega.{arith}
 use lib.ListN.{length, get_or}
-use Rattle.rules.specs.Test.{◌or◌, fails, same, choose}
+use Rattle.rules.specs.Test.{◌or◌, fails, same}
 use Rattle.rules.specs.Layer.{word_count}
 use Rattle.rules.proofs.Tests.{choose_held, choose_failed, fails_of, fails_at, or_left, or_right, or_at, holds_or, same_of, same_at, below_at, below_fails}
 use Rattle.graph.specs.Limits.{max_depth}
-use Rattle.graph.specs.Verdict.{Verdict, accepted, refused, and_then}
+use Rattle.graph.specs.Verdict.{Verdict, accepted, refused}
 use Rattle.graph.specs.Format.{head_bytes, long_head, plain_version, effects_version, actions_offset, effects_offset, effects_place, letters, version, counts_in, right_length}
 use Rattle.graph.specs.Format.{actions_of, shape_in}
 use Rattle.graph.specs.File.{Ranged, Taken, head_of, head_rule, version_rule, counts_rule, length_rule, sets_rule, owners_rule, equal_rule, actions_rule, file_rule}

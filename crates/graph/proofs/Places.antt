@@ -7,7 +7,7 @@ use mathlib.Core.List.{List}
 use Prim.Native.Nat.{ℕ, ◌+◌, ◌*◌, ◌≤◌, ◌<◌}
 use native.Mathlib.Omega.{arith}
 use lib.ListN.{get_or}
-use Rattle.rules.specs.Test.{fails, same, choose}
+use Rattle.rules.specs.Test.{fails, same}
 use Rattle.rules.specs.Domain.{Plain}
 use Rattle.rules.proofs.Tests.{choose_held, choose_failed, is_fails, holds_or, same_not}
 use Rattle.graph.specs.Format.{set_bytes, long_head, plain_version, plain, action_at, effect_at, when_at, pre_at, sets_at, states_at, actions_of}

@@ -24,7 +24,7 @@ use Rattle.words.specs.Width.{prop_width, state_width}
 use Rattle.words.specs.Rows.{Inside}
 use Rattle.graph.specs.Limits.{max_depth}
 use Rattle.graph.specs.Verdict.{Verdict, accepted, refused, and_then}
-use Rattle.graph.specs.Format.{head_bytes, long_head, plain_version, effects_version, set_bytes, actions_offset, effects_offset, effects_place, states_offset, set_at, bytes_of}
+use Rattle.graph.specs.Format.{head_bytes, long_head, plain_version, effects_version, set_bytes, effects_place, states_offset, set_at, bytes_of}
 use Rattle.graph.specs.Format.{letters, version, counts_in, plain, effect_at, when_at, pre_at, sets_at, add_at, del_at, states_at, state_at, right_length}
 use Rattle.graph.specs.Format.{actions_of, start_of, domain_of, shape_in, with_count, before_states, with_states}
 use Rattle.graph.specs.File.{Ranged, Taken, head_of, version_rule, counts_rule, length_rule, sets_rule, actions_rule, file_rule}

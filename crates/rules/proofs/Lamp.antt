@@ -12,7 +12,7 @@ use Rattle.rules.specs.Lists.{list_over, run_over}
 use Rattle.rules.specs.Domain.{Actions, shape_of, condition, persistence, needs_of, adds_of, deletes_of, siblings, clobbers, interfere_of, domain}
 use Rattle.rules.specs.Layer.{pairs, size, pair_at, row_of, layer_of, paired, label_in, mutex_in, stride, word_count, props_in, actions_in}
 use Rattle.rules.specs.Shared.{start_label, start_layer, needs_label, needs_apart, vertex_label, needs_mutex, vertex_mutex, action_layer, next_label, one_adds}
-use Rattle.rules.specs.Shared.{two_add, next_mutex, next_layer, prop_from, prop_layer, vertex_layer, graph_words}
+use Rattle.rules.specs.Shared.{two_add, next_mutex, next_layer, prop_from, vertex_layer, graph_words}
 use Rattle.rules.specs.Level.{goal_met, first_met, layer_rests, first_rest, Rest, rests_at, none, rest_of, Level, level, never, not_by_depth, level_by, level_of}
 use Rattle.rules.specs.Share.{share_of, weight_of, total, enough, first_enough, share_level}
 use Rattle.rules.specs.Extract.{rank, close_up, extract_of}

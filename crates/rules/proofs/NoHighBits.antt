@@ -4,7 +4,7 @@ use mathlib.Core.List.{List}
 use Prim.Native.Nat.{ℕ, zero, suc, ◌^◌, ◌<◌}
 use lib.Pow.{pow_pos}
 use lib.ListN.{get_or}
-use Rattle.rules.specs.Word.{bit, single, first}
+use Rattle.rules.specs.Word.{first}
 use Rattle.rules.specs.Domain.{Domain}
 use Rattle.rules.specs.Layer.{label_in}
 use Rattle.rules.specs.Shared.{start_label, start_layer, needs_label, needs_apart, vertex_label, vertex_mutex, action_layer, next_label, next_mutex, next_layer}

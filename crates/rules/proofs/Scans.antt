@@ -12,7 +12,7 @@ use native.Mathlib.Omega.{arith}
 use lib.Count.{ones, ones_step}
 use lib.Pow.{shr-shr}
 use Rattle.rules.specs.Test.{◌and◌, ◌or◌, fails, same, below, choose}
-use Rattle.rules.specs.Word.{bit, union, without, single, first, within, meets}
+use Rattle.rules.specs.Word.{bit, union, without, single, within, meets}
 use Rattle.rules.specs.Over.{keep, join_over, meet_over, remove_over, count_below, sum_over}
 use Rattle.rules.specs.Lists.{list_over, run_over}
 use Rattle.rules.specs.Domain.{Domain, condition, persistence, needs_of, adds_of, deletes_of, siblings, clobbers, interfere_of, domain}

@@ -1,25 +1,23 @@
 -- Layers by what is together in them: what a layer says of two elements, an action layer over a proposition layer, and the next proposition layer.
 -- Assumes nothing.
-use Prim.Native.Nat.{ℕ, ◌+◌, ◌≤◌, ◌<◌, ◌^◌}
-use mathlib.Core.Path.{◌≡◌, refl, sym, ap, ap₂, subst, ◌∙◌}
+use Prim.Native.Nat.{ℕ, ◌<◌}
+use mathlib.Core.Path.{◌≡◌, refl, sym, ap, ap₂, ◌∙◌}
 use mathlib.Core.Bool.{Bool, true, false, So}
-use mathlib.Core.Logic.{◌⊎◌, inl, inr, ⊎_elim, by_cases}
-use native.Mathlib.Decide.{dec_le}
+use mathlib.Core.Logic.{⊎_elim}
 use native.Mathlib.Omega.{arith}
 use mathlib.Core.List.{List}
-use lib.ListN.{get_or}
-use Rattle.rules.specs.Test.{◌and◌, ◌or◌, fails, same, choose}
-use Rattle.rules.specs.Word.{bit, common, union, without, single}
-use Rattle.rules.specs.Over.{keep, join_over, join_of, meet_of, any_below}
+use Rattle.rules.specs.Test.{◌and◌, fails, same, choose}
+use Rattle.rules.specs.Word.{bit, common, without}
+use Rattle.rules.specs.Over.{join_of, meet_of, any_below}
 use Rattle.rules.specs.Domain.{Domain}
-use Rattle.rules.specs.Layer.{layer_of, paired, label_in, mutex_in, free_in, pair_at}
+use Rattle.rules.specs.Layer.{layer_of, paired, label_in, mutex_in, free_in}
 use Rattle.rules.specs.Shared.{start_label, needs_label, needs_apart, vertex_label, needs_mutex, vertex_mutex, action_layer, next_label, next_mutex, next_layer}
 use Rattle.rules.specs.Together.{layer_by, Consistent, beside, next_together}
-use Rattle.rules.proofs.Tests.{choose_held, choose_failed, and_of, and_left, and_right, or_left, or_right, or_at, fails_of, fails_at, holds_or, test_eq, same_of, same_at}
+use Rattle.rules.proofs.Tests.{choose_held, choose_failed, and_of, and_left, and_right, fails_of, fails_at, holds_or, test_eq, same_of, same_at}
 use Rattle.rules.proofs.Overs.{any_of, any_at, bit_keep, bit_join_over}
-use Rattle.rules.proofs.Words.{bit_common, bit_union, bit_without, no_bit_zero, ext_all}
-use Rattle.rules.proofs.Layers.{label_back, mutex_back, layer_eq, paired_same, paired_rising, paired_turn, which}
-use Rattle.rules.proofs.Members.{Both, rows_at, rows_of, meet_of_at, meet_of_of, mutex_turn, mutex_self, bit_free, needs_own, needs_rows}
+use Rattle.rules.proofs.Words.{bit_common, bit_without, ext_all}
+use Rattle.rules.proofs.Layers.{label_back, mutex_back, layer_eq, paired_rising, paired_turn, which}
+use Rattle.rules.proofs.Members.{rows_at, rows_of, meet_of_at, meet_of_of, mutex_turn, mutex_self, bit_free, needs_own, needs_rows}
 use Rattle.rules.proofs.Members.{bit_start_label, next_free}
 
 -- ---- words

@@ -8,7 +8,7 @@ use native.Mathlib.Omega.{arith}
 use lib.Bits.{or_zero_l}
 use lib.Count.{count_trailing_zeros}
 use lib.ListN.{length, get_or, set, take, drop}
-use Rattle.rules.specs.Test.{same, choose}
+use Rattle.rules.specs.Test.{choose}
 use Rattle.rules.specs.Word.{bit, common, union, without, single, first}
 use Rattle.rules.specs.Over.{join_over, meet_over, join_of, meet_of}
 use Rattle.rules.specs.Lists.{list_over}

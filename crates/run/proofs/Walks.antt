@@ -1,15 +1,13 @@
 -- Version 1: loops over the steps of a list, and over the actions whose words they go by.
 -- Assumes nothing.
 use Prim.Native.Nat.{ℕ, zero, suc, ◌+◌, ◌≤◌, ◌<◌}
-use mathlib.Core.Path.{◌≡◌, refl, sym, ap, ap₂, subst, ◌∙◌}
+use mathlib.Core.Path.{◌≡◌, refl, sym, ap, ap₂, ◌∙◌}
 use mathlib.Core.Bool.{Bool, true, false, So}
 use mathlib.Core.Logic.{⊎_elim}
-use mathlib.Core.List.{List, [], ◌∷◌}
+use mathlib.Core.List.{List}
 use native.Mathlib.Nat.{zero-add}
 use native.Mathlib.Numerals.{add-one}
 use native.Mathlib.Omega.{arith}
-use types.Run.{OneOf, miss}
-use denote.Enum.Declared.{tag_of}
 use lib.Bits.{and_le_l}
 use lib.ListN.{length, get_or, set}
 use Rattle.rules.specs.Test.{fails, same, below, choose}
@@ -24,7 +22,6 @@ use Rattle.graph.specs.declared.format.Counts.{Counts}
 use Rattle.run.specs.Course.{leaves_of, brings_of, further, tried_on, course_at, lack_at, still, still_at, Tables, Walks}
 use Rattle.run.specs.declared.step.Tried.{Tried}
 use Rattle.run.specs.declared.step.Tried.TheVariants as tried
-use Rattle.run.specs.contracts.step.Tried.{the_type}
 
 -- ---- one step
 

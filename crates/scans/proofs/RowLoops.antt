@@ -7,7 +7,6 @@ use mathlib.Core.List.{List}
 use Prim.Native.Nat.{ℕ, ◌+◌, ◌*◌, ◌^◌, ◌≤◌, ◌<◌}
 use native.Mathlib.Omega.{arith}
 use lib.Count.{ones, ones-le, count_trailing_zeros}
-use Rattle.rules.specs.Test.{same}
 use Rattle.rules.specs.Word.{bit, common, union, without, single}
 use Rattle.rules.specs.Over.{join_of}
 use Rattle.rules.specs.Scan.{Scan, scan_at, look, scan_of}

@@ -7,7 +7,6 @@ use mathlib.Core.Logic.{inl, inr, ⊎_elim}
 use Prim.Native.Nat.{ℕ, zero, suc, ◌^◌, ◌<◌}
 use native.Mathlib.Omega.{arith}
 use lib.ListN.{length, get_or}
-use Rattle.rules.specs.Test.{◌and◌}
 use Rattle.rules.specs.Word.{bit, within}
 use Rattle.rules.specs.Domain.{Actions}
 use Rattle.rules.specs.Run.{ready, fires, fired, after, stepped, ended, run_from, run_of}

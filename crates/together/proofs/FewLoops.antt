@@ -27,7 +27,7 @@ use Rattle.words.proofs.Cells.{Rows, rows_none}
 use Rattle.words.proofs.MemberLoops.{Members, members_none, members_more, members_done, Lanes, lanes_more, lanes_done, lowest_in, lowest_lt}
 use Rattle.words.proofs.Spreads.{bit_left, stays}
 use Rattle.together.specs.Cells.{RowPut, EmptyRows, Independent, independent_of, with_independent, with_prop, mates_of, beside_of, mate_of, beside_for}
-use Rattle.together.proofs.Rows.{parts_le, row_again, rows_row, row_long, row_word, lent, lent_row, lent_long}
+use Rattle.together.proofs.Rows.{parts_le, row_again, rows_row, row_word, lent, lent_row, lent_long}
 
 -- both ways the same
 either : (b : Bool) (x : ℕ) → choose b x x ≡ x

@@ -1,5 +1,5 @@
 -- A square of bits, turned round by ever smaller squares: in each square of 2w by 2w bits, the upper right quarter and the lower left one change places.
-use Rattle.std.specs.Prelude.{ℕ, zero, suc, ◌+◌, ◌-◌, ◌*◌, ◌/◌, ◌%◌, ◌^◌, Bool, List, get_or, set}
+use Rattle.std.specs.Prelude.{ℕ, zero, suc, ◌+◌, ◌*◌, ◌/◌, ◌%◌, ◌^◌, Bool, List, get_or, set}
 use Rattle.std.specs.Int.Bits.{bit_and, bit_xor}
 use Rattle.rules.specs.Test.{◌and◌, fails, same, below, choose}
 use Rattle.rules.specs.Word.{bit}

@@ -1,6 +1,5 @@
 use mathlib.Core.Path.{refl}
 use mathlib.Core.Logic.{inl}
-use Prim.Native.Nat.{◌-◌}
 use native.Mathlib.Omega.{arith}
 use Rattle.words.proofs.Writes.{list_none, list_more, list_done}
 use Rattle.page.proofs.Entries.{layer_small, entry_in_lem}

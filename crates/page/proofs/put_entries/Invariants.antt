@@ -1,5 +1,4 @@
 -- One goal after the other: the entries that are written, what is remembered, and what is known of the rest.
-use Prim.Native.Nat.{◌-◌}
 use lib.ListN.{length, get_or}
 use Rattle.words.proofs.Writes.{Lists}
 use Rattle.page.specs.Memo.{Remembers, Known, entry_in}

@@ -1,5 +1,4 @@
 -- The loop reads one effect after the other: what it needs and its action are stored, and it is joined to the adders of what it adds.
-use Prim.Native.Nat.{◌-◌}
 use mathlib.Core.Path.{◌≡◌}
 use lib.ListN.{length}
 use Rattle.plan.proofs.Readings.{Reading}

@@ -1,5 +1,4 @@
 -- The loop writes each effect into the three lists.
-use Prim.Native.Nat.{◌-◌}
 use Rattle.rules.specs.Domain.{condition}
 use Rattle.words.proofs.Writes.{Lists}
 use Rattle.graph.specs.Format.{actions_of}

@@ -1,7 +1,6 @@
 use Rattle.run.proofs.Sequences.{hold_none, hold_more, unknown_found, none_unknown}
 use Rattle.rules.proofs.Tests.{below_of}
 use native.Mathlib.Omega.{arith}
-use Prim.Native.Nat.{◌-◌}
 use Rattle.run.proofs.find_unknown.Goals as goal
 
 pub loop-i-init : goal.loop-i-init

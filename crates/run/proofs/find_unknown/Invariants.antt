@@ -2,7 +2,6 @@
 use Rattle.run.proofs.Sequences.{Holds}
 use Rattle.rules.specs.Test.{below}
 use lib.ListN.{length, get_or}
-use Prim.Native.Nat.{◌-◌}
 use Rattle.run.proofs.find_unknown.Given as goal
 
 abbrev pub invariant-loop-i : goal.invariant-loop-i

@@ -1,6 +1,5 @@
 use Rattle.run.proofs.Sequences.{most_none, most_more, most_done}
 use native.Mathlib.Omega.{arith}
-use Prim.Native.Nat.{◌-◌}
 use Rattle.run.proofs.greatest.Goals as goal
 
 pub loop-i-init : goal.loop-i-init

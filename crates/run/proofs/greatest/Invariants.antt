@@ -1,6 +1,5 @@
 -- `greatest` meets its contract: the loop has the greatest of the numbers so far.
 use Rattle.run.proofs.Sequences.{Most}
-use Prim.Native.Nat.{◌-◌}
 use Rattle.run.proofs.greatest.Given as goal
 
 abbrev pub invariant-loop-i : goal.invariant-loop-i

@@ -1,5 +1,4 @@
 -- The loop moves one set after the other.
-use Prim.Native.Nat.{◌-◌}
 use lib.ListN.{length, get_or}
 use Rattle.rules.specs.Test.{choose}
 use Rattle.rules.specs.Word.{bit, first}

@@ -3,7 +3,7 @@ use Prim.Native.Nat.{◌<◌}
 use native.Mathlib.Omega.{arith}
 use lib.ListN.{length}
 use Rattle.words.proofs.MemberLoops.{lowest_lt}
-use Rattle.run.specs.Course.{came, sets_of}
+use Rattle.run.specs.Course.{sets_of}
 use Rattle.run.proofs.Touches.{changes_none, changes_more, changes_done}
 use Rattle.run.proofs.move_members.Goals as goal
 use Rattle.run.proofs.move_members.Goals.{After-lowest-s}

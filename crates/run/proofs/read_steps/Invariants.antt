@@ -1,5 +1,4 @@
 -- The loop stores the three words of one action after the other.
-use Prim.Native.Nat.{◌-◌}
 use Rattle.run.proofs.Walks.{Told}
 use Rattle.run.proofs.read_steps.Given as goal
 

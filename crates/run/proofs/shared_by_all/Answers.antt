@@ -1,4 +1,3 @@
-use Prim.Native.Nat.{◌-◌}
 use native.Mathlib.Omega.{arith}
 use Rattle.run.proofs.Starts.{passing_none, passing_more, passing_done}
 use Rattle.run.proofs.shared_by_all.Goals as goal

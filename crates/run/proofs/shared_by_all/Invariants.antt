@@ -1,5 +1,4 @@
 -- The loop takes one state after the other.
-use Prim.Native.Nat.{◌-◌}
 use Rattle.graph.specs.Format.{start_of}
 use Rattle.run.proofs.Starts.{Passing}
 use Rattle.run.proofs.shared_by_all.Given as goal

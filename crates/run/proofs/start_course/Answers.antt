@@ -1,7 +1,6 @@
 -- In either case what all states of the set have and what some of them have.
 use Prim.Native.Nat.{ℕ}
 use mathlib.Core.Path.{◌≡◌, sym, ap, ap₂, ◌∙◌}
-use mathlib.Core.Logic.{⊎_elim}
 use Rattle.rules.specs.Word.{without, first}
 use Rattle.rules.specs.Over.{join_of, meet_of}
 use Rattle.words.specs.Width.{prop_width}

@@ -1,5 +1,4 @@
 -- Word after word.
-use Prim.Native.Nat.{◌-◌}
 use lib.ListN.{length}
 use Rattle.scans.proofs.Looks.{Sized}
 use Rattle.scans.proofs.count_adders.Given as goal

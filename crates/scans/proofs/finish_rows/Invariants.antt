@@ -1,5 +1,5 @@
 -- Each turn does one row.
-use Prim.Native.Nat.{◌-◌, ◌*◌}
+use Prim.Native.Nat.{◌*◌}
 use lib.ListN.{length}
 use Rattle.rules.specs.Layer.{row_of}
 use Rattle.words.specs.Rows.{row_length}

@@ -1,5 +1,4 @@
 -- The loop writes one label after the other.
-use Prim.Native.Nat.{◌-◌}
 use Rattle.words.proofs.Writes.{Lists}
 use Rattle.scans.specs.Ends.{own, Owned}
 use Rattle.scans.proofs.new_labels.Given as goal

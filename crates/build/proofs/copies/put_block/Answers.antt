@@ -1,5 +1,4 @@
 use mathlib.Core.Path.{refl}
-use Prim.Native.Nat.{◌-◌}
 use native.Mathlib.Omega.{arith}
 use Rattle.words.proofs.Writes.{list_none, list_more, list_done}
 use Rattle.build.proofs.copies.put_block.Goals as goal

@@ -1,5 +1,5 @@
 -- A word has at most as many members as it has bits.
-use Prim.Native.Nat.{◌-◌, ◌*◌, ◌≤◌}
+use Prim.Native.Nat.{◌*◌, ◌≤◌}
 use lib.ListN.{length}
 use Rattle.build.proofs.problem.count_interferers.Given as goal
 

@@ -1,9 +1,7 @@
 use mathlib.Core.Path.{sym}
-use Prim.Native.Nat.{◌-◌}
 use native.Mathlib.Omega.{arith}
 use native.Mathlib.Nat.{zero-add}
 use borrow.Author.Rules.{rules as simple}
-use Rattle.rules.specs.Domain.{condition}
 use Rattle.words.proofs.Writes.{list_none, list_more, list_whole}
 use Rattle.build.proofs.problem.read_effects.Goals as goal
 

@@ -1,5 +1,4 @@
 -- The loop writes each effect into the four lists.
-use Prim.Native.Nat.{◌-◌}
 use Rattle.rules.specs.Domain.{condition}
 use Rattle.graph.specs.Format.{actions_of}
 use Rattle.words.proofs.Writes.{Lists}

@@ -1,5 +1,4 @@
 -- The loop writes one step after the other and adds up the looks, until nothing changes or the depth is reached.
-use Prim.Native.Nat.{◌-◌}
 use Rattle.build.proofs.Builds.{Stepping}
 use Rattle.build.proofs.steps.steps_until.Given as goal
 

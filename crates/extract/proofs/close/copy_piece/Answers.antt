@@ -1,5 +1,5 @@
 use mathlib.Core.Path.{refl}
-use Prim.Native.Nat.{◌+◌, ◌-◌}
+use Prim.Native.Nat.{◌+◌}
 use native.Mathlib.Omega.{arith}
 use Rattle.words.proofs.Writes.{list_none, list_more, list_done, list_front, same_word}
 use Rattle.extract.proofs.close.copy_piece.Goals as goal

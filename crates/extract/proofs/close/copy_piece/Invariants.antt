@@ -1,5 +1,5 @@
 -- The loop writes one word after the other; what it reads lies before all that it writes.
-use Prim.Native.Nat.{◌+◌, ◌-◌}
+use Prim.Native.Nat.{◌+◌}
 use lib.ListN.{get_or}
 use Rattle.words.proofs.Writes.{Lists}
 use Rattle.extract.specs.Moves.{piece_words}

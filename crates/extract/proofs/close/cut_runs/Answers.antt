@@ -5,7 +5,7 @@ use Rattle.rules.specs.Extract.{close_up}
 use lib.ListN.{get_or}
 use native.Mathlib.Omega.{arith}
 use native.Mathlib.Nat.{zero-add}
-use Prim.Native.Nat.{ℕ, ◌-◌}
+use Prim.Native.Nat.{ℕ}
 use mathlib.Core.Path.{sym, ap, ◌∙◌}
 use Rattle.extract.proofs.close.cut_runs.Goals as goal
 

@@ -3,7 +3,7 @@ use Rattle.words.proofs.Writes.{Lists}
 use Rattle.words.specs.Width.{state_width}
 use Rattle.rules.specs.Extract.{close_up}
 use lib.ListN.{get_or}
-use Prim.Native.Nat.{◌+◌, ◌-◌}
+use Prim.Native.Nat.{◌+◌}
 use Rattle.extract.proofs.close.cut_runs.Given as goal
 
 abbrev pub invariant-loop-j : goal.invariant-loop-j

@@ -1,8 +1,6 @@
 use Rattle.words.proofs.Writes.{list_none, list_more, list_done}
 use Rattle.extract.specs.Moves.{cut_words}
-use Rattle.rules.specs.Extract.{close_up}
 use native.Mathlib.Omega.{arith}
-use Prim.Native.Nat.{◌-◌}
 use mathlib.Core.Path.{refl}
 use Rattle.extract.proofs.close.cut_words.Goals as goal
 

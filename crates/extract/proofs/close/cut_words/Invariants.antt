@@ -3,7 +3,7 @@ use Rattle.words.proofs.Writes.{Lists}
 use Rattle.words.specs.Width.{state_width}
 use Rattle.rules.specs.Extract.{close_up}
 use lib.ListN.{get_or}
-use Prim.Native.Nat.{◌+◌, ◌-◌}
+use Prim.Native.Nat.{◌+◌}
 use Rattle.extract.proofs.close.cut_words.Given as goal
 
 abbrev pub invariant-loop-i : goal.invariant-loop-i

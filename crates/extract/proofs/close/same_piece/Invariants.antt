@@ -1,5 +1,5 @@
 -- The loop joins what differs; where nothing does, the words are the same.
-use Prim.Native.Nat.{◌+◌, ◌-◌}
+use Prim.Native.Nat.{◌+◌}
 use lib.ListN.{get_or}
 use Rattle.extract.proofs.MoveLoops.{Matched}
 use Rattle.extract.proofs.close.same_piece.Given as goal

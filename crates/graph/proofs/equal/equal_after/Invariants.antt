@@ -1,5 +1,4 @@
 -- `equal::equal_after` meets its contract: the loop is left at the first action that is equal; at its end none is.
-use Prim.Native.Nat.{◌-◌}
 use Rattle.graph.specs.Format.{actions_of}
 use Rattle.graph.proofs.Equals.{Looked}
 use Rattle.graph.proofs.equal.equal_after.Given as goal

@@ -1,5 +1,4 @@
 -- `equal::equals_earlier` meets its contract: each of the earlier actions with its mark is compared, the last one first.
-use Prim.Native.Nat.{◌-◌}
 use Rattle.graph.specs.Format.{actions_of}
 use Rattle.graph.proofs.Equals.{Walked}
 use Rattle.graph.proofs.equal.equals_earlier.Given as goal

@@ -1,5 +1,4 @@
 -- `equal::first_marked` meets its contract: the loop compares one action after the other with those marked before it, and marks it.
-use Prim.Native.Nat.{◌-◌}
 use Rattle.graph.specs.Format.{actions_of}
 use Rattle.graph.proofs.Equals.{Marking}
 use Rattle.graph.proofs.equal.first_marked.Given as goal

@@ -1,4 +1,3 @@
-use Prim.Native.Nat.{◌-◌}
 use native.Mathlib.Omega.{arith}
 use Rattle.graph.proofs.Equals.{firsts_none, firsts_more, firsts_done}
 use Rattle.graph.proofs.equal.first_of_few.Goals as goal

@@ -1,5 +1,4 @@
 -- `equal::first_of_few` meets its contract: the loop goes over the earlier action of a pair, and keeps the first later one.
-use Prim.Native.Nat.{◌-◌}
 use Rattle.graph.specs.Format.{actions_of}
 use Rattle.graph.proofs.Equals.{Firsts}
 use Rattle.graph.proofs.equal.first_of_few.Given as goal

@@ -1,5 +1,4 @@
 -- `file::find_effect_set` meets its contract: the loop keeps what is left of the rule.
-use Prim.Native.Nat.{◌-◌}
 use Rattle.graph.proofs.Files.{EffectsLeft}
 use Rattle.graph.proofs.file.find_effect_set.Given as goal
 

@@ -1,5 +1,4 @@
 -- `file::find_set` meets its contract: the loop keeps what is left of the rule.
-use Prim.Native.Nat.{◌-◌}
 use Rattle.graph.specs.File.{sets_from}
 use Rattle.graph.proofs.Files.{Left}
 use Rattle.graph.proofs.file.find_set.Given as goal

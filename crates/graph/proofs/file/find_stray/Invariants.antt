@@ -1,5 +1,5 @@
 -- `file::find_stray` meets its contract: the effects before the first without an action have one.
-use Prim.Native.Nat.{◌-◌, ◌≤◌}
+use Prim.Native.Nat.{◌≤◌}
 use Rattle.graph.proofs.Owners.{Owned}
 use Rattle.graph.proofs.file.find_stray.Given as goal
 

@@ -1,8 +1,8 @@
 use mathlib.Core.Path.{refl, ap, ◌∙◌}
-use Prim.Native.Nat.{ℕ, ◌+◌, ◌-◌, ◌*◌}
+use Prim.Native.Nat.{ℕ, ◌+◌, ◌*◌}
 use native.Mathlib.Omega.{arith}
 use Rattle.rules.specs.Over.{join_over}
-use Rattle.graph.specs.Format.{set_bytes, set_at, when_at}
+use Rattle.graph.specs.Format.{set_bytes, set_at}
 use Rattle.words.proofs.Folds.{join_none, join_more, join_done}
 use Rattle.graph.proofs.file.joined_effects.Goals as goal
 

@@ -1,5 +1,5 @@
 -- `file::joined_effects` meets its contract: the loop joins the sets of one effect after the other.
-use Prim.Native.Nat.{◌+◌, ◌-◌, ◌*◌}
+use Prim.Native.Nat.{◌+◌, ◌*◌}
 use Rattle.rules.specs.Over.{join_over}
 use Rattle.graph.specs.Format.{set_bytes, set_at, when_at}
 use Rattle.words.proofs.Folds.{Joins}

@@ -1,5 +1,4 @@
 use mathlib.Core.Path.{refl}
-use Prim.Native.Nat.{◌-◌}
 use native.Mathlib.Omega.{arith}
 use Rattle.words.proofs.Folds.{join_none, join_more, join_done}
 use Rattle.graph.proofs.file.joined_sets.Goals as goal

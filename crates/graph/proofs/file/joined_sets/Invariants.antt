@@ -1,5 +1,5 @@
 -- `file::joined_sets` meets its contract: the loop joins one set after the other.
-use Prim.Native.Nat.{◌+◌, ◌-◌, ◌*◌}
+use Prim.Native.Nat.{◌+◌, ◌*◌}
 use Rattle.graph.specs.Format.{set_bytes, set_at}
 use Rattle.words.proofs.Folds.{Joins}
 use Rattle.graph.proofs.file.joined_sets.Given as goal

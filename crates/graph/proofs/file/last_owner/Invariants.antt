@@ -1,5 +1,5 @@
 -- `file::last_owner` meets its contract: no number that was read is larger.
-use Prim.Native.Nat.{ℕ, ◌-◌, ◌≤◌, ◌<◌}
+use Prim.Native.Nat.{ℕ, ◌≤◌, ◌<◌}
 use Rattle.graph.specs.Format.{actions_of}
 use Rattle.graph.proofs.file.last_owner.Given as goal
 

@@ -1,7 +1,6 @@
 use Rattle.words.proofs.Writes.{list_none, list_more, list_done}
 use native.Mathlib.Omega.{arith}
 use native.Mathlib.Nat.{zero-add}
-use Prim.Native.Nat.{◌-◌}
 use mathlib.Core.Path.{sym}
 use Rattle.graph.proofs.read.lay_starts.Goals as goal
 

@@ -1,7 +1,6 @@
 -- `read::lay_starts` meets its contract: the loop writes one set after the other.
 use Rattle.words.proofs.Writes.{Lists}
 use Rattle.graph.specs.Format.{start_of}
-use Prim.Native.Nat.{◌-◌}
 use Rattle.graph.proofs.read.lay_starts.Given as goal
 
 abbrev pub invariant-loop-s : goal.invariant-loop-s

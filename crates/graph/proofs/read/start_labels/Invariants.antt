@@ -1,6 +1,6 @@
 -- `read::start_labels` meets its contract: the loop joins each start state to the labels of what it contains.
 use mathlib.Core.Path.{◌≡◌}
-use Prim.Native.Nat.{◌-◌, ◌≤◌}
+use Prim.Native.Nat.{◌≤◌}
 use lib.ListN.{length}
 use Rattle.rules.specs.Lists.{list_over}
 use Rattle.rules.specs.Shared.{start_label}

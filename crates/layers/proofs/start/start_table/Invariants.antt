@@ -1,5 +1,4 @@
 -- The loop makes one row after the other.
-use Prim.Native.Nat.{◌-◌}
 use lib.ListN.{get_or}
 use Rattle.rules.specs.Word.{common}
 use Rattle.rules.specs.Over.{meet_of}

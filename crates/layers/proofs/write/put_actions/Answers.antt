@@ -1,6 +1,5 @@
 -- The labels of the actions and of the persistences, then the pairs of both.
 use mathlib.Core.Path.{sym}
-use Prim.Native.Nat.{◌-◌}
 use native.Mathlib.Omega.{arith}
 use lib.Seq.{length-take-le}
 use Rattle.layers.proofs.Puts.{size_sum, actions_put}

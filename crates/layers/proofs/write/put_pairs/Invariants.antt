@@ -1,5 +1,4 @@
 -- The loop writes one row after the other.
-use Prim.Native.Nat.{◌-◌}
 use Rattle.rules.specs.Layer.{row_of}
 use Rattle.words.proofs.Writes.{Runs}
 use Rattle.layers.specs.Write.{apart}

@@ -1,6 +1,5 @@
 -- The labels, and the pairs behind them.
 use mathlib.Core.Path.{sym}
-use Prim.Native.Nat.{◌-◌}
 use native.Mathlib.Omega.{arith}
 use lib.Seq.{length-take-le}
 use Rattle.rules.proofs.Layers.{size_pairs, labels_in}

@@ -1,5 +1,4 @@
 -- The loop writes one row after the other, in two parts.
-use Prim.Native.Nat.{◌-◌}
 use Rattle.words.proofs.Writes.{Runs}
 use Rattle.layers.specs.Write.{effect_row}
 use Rattle.layers.proofs.write.put_rows.Given as goal

@@ -1,6 +1,6 @@
 -- The loop is left at the topmost layer that equals the next one; at its end none does.
 use mathlib.Core.Path.{◌≡◌}
-use Prim.Native.Nat.{◌-◌, ◌*◌}
+use Prim.Native.Nat.{◌*◌}
 use Rattle.level.proofs.Parts.{rests_by}
 use Rattle.level.proofs.Searches.{Cleared}
 use Rattle.level.proofs.layers.rests.Given as goal

@@ -1,4 +1,3 @@
-use Prim.Native.Nat.{◌-◌}
 use borrow.Author.Rules.{rules}
 use Rattle.rules.specs.Test.{same}
 use Rattle.level.proofs.Searches.{compared_none, compared_more, compared_done}

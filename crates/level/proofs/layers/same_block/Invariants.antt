@@ -1,5 +1,5 @@
 -- The loop joins what differs; at its end nothing does exactly when all words were equal.
-use Prim.Native.Nat.{◌+◌, ◌-◌}
+use Prim.Native.Nat.{◌+◌}
 use lib.ListN.{get_or}
 use Rattle.level.proofs.Searches.{Compared}
 use Rattle.level.proofs.layers.same_block.Given as goal

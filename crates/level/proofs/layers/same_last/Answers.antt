@@ -1,4 +1,3 @@
-use Prim.Native.Nat.{◌-◌}
 use borrow.Author.Rules.{rules as simple}
 use Rattle.rules.proofs.Tests.{same_of, same_not}
 use Rattle.level.specs.Meets.{same_at}

@@ -1,5 +1,4 @@
 -- The loop is left at the first two words that differ; at its end all were equal.
-use Prim.Native.Nat.{◌-◌}
 use Rattle.level.specs.Meets.{same_at}
 use Rattle.level.proofs.Searches.{Held}
 use Rattle.level.proofs.layers.same_last.Given as goal

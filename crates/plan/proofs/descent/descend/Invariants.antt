@@ -1,5 +1,4 @@
 -- What is left of the descent, with the words now, is the whole descent, at each head of the loop.
-use Prim.Native.Nat.{◌-◌}
 use Rattle.plan.proofs.Descents.{Falling}
 use Rattle.plan.proofs.descent.descend.Given as goal
 

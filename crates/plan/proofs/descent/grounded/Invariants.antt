@@ -1,5 +1,5 @@
 -- The loop joins what lies outside of the labels; at its end there is nothing of it just when each need lies within its label.
-use Prim.Native.Nat.{◌-◌, ◌≤◌}
+use Prim.Native.Nat.{◌≤◌}
 use lib.ListN.{length, get_or}
 use Rattle.rules.specs.Word.{without}
 use Rattle.words.proofs.Folds.{Joins}

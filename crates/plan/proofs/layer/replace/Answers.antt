@@ -1,7 +1,6 @@
 use Rattle.rules.proofs.Layers.{list_over_self}
 use Rattle.words.proofs.Writes.{list_none, list_more, list_whole}
 use borrow.Author.Rules.{rules}
-use Prim.Native.Nat.{◌-◌}
 use mathlib.Core.Path.{refl, sym, ◌∙◌}
 use native.Mathlib.Nat.{zero-add}
 use native.Mathlib.Omega.{arith}

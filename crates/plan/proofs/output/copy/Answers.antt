@@ -1,7 +1,7 @@
 use Rattle.rules.proofs.Layers.{list_over_self}
 use Rattle.words.proofs.Writes.{list_none, list_more, list_done}
 use Rattle.words.specs.Memory.{put_at}
-use Prim.Native.Nat.{ℕ, ◌-◌}
+use Prim.Native.Nat.{ℕ}
 use mathlib.Core.List.{List}
 use mathlib.Core.Path.{refl, sym, ap, ◌∙◌}
 use native.Mathlib.Nat.{zero-add}

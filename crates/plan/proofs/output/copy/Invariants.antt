@@ -1,7 +1,6 @@
 -- The loop writes one word after the other.
 use Rattle.words.proofs.Writes.{Lists}
 use lib.ListN.{length, get_or}
-use Prim.Native.Nat.{◌-◌}
 use Rattle.plan.proofs.output.copy.Given as goal
 
 abbrev pub invariant-loop-i : goal.invariant-loop-i

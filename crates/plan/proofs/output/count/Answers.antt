@@ -2,7 +2,7 @@ use Rattle.plan.proofs.Counts.{count_more, count_done}
 use Rattle.words.specs.Width.{prop_width}
 use lib.Count.{ones, ones-le}
 use lib.ListN.{get_or}
-use Prim.Native.Nat.{◌-◌, ◌≤◌}
+use Prim.Native.Nat.{◌≤◌}
 use mathlib.Core.Path.{sym}
 use native.Mathlib.Nat.{zero-add}
 use native.Mathlib.Omega.{arith}

@@ -1,5 +1,4 @@
 -- The loop writes one level behind the other.
-use Prim.Native.Nat.{◌-◌}
 use Rattle.rules.specs.Word.{single}
 use Rattle.rules.specs.Level.{level_of}
 use Rattle.words.proofs.Writes.{Runs}

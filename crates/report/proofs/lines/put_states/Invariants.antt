@@ -1,5 +1,4 @@
 -- The loop writes one line behind the other.
-use Prim.Native.Nat.{◌-◌}
 use Rattle.words.proofs.Writes.{Runs}
 use Rattle.report.specs.Text.{state_text}
 use Rattle.report.proofs.lines.put_states.Given as goal

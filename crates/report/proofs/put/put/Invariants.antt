@@ -1,5 +1,4 @@
 -- The loop copies one byte after the other.
-use Prim.Native.Nat.{◌-◌}
 use lib.ListN.{length, get_or}
 use Rattle.words.proofs.Writes.{Lists}
 use Rattle.report.proofs.put.put.Given as goal

@@ -1,5 +1,4 @@
 -- The loop stores the two words of one effect after the other.
-use Prim.Native.Nat.{◌-◌}
 use Rattle.words.proofs.Writes.{Lists}
 use Rattle.graph.specs.Format.{actions_of}
 use Rattle.run.specs.Even.{goes_of}

@@ -1,5 +1,4 @@
 -- The loop stores the precondition of one action after the other.
-use Prim.Native.Nat.{◌-◌}
 use Rattle.words.proofs.Writes.{Lists}
 use Rattle.graph.specs.Format.{actions_of}
 use Rattle.run.proofs.effects.read_needs.Given as goal

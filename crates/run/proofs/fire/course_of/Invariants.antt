@@ -1,6 +1,6 @@
 -- The loop joins the bits of one proposition after the other.
 use mathlib.Core.Path.{◌≡◌}
-use Prim.Native.Nat.{◌-◌, ◌≤◌}
+use Prim.Native.Nat.{◌≤◌}
 use lib.ListN.{get_or}
 use Rattle.rules.specs.Over.{join_over}
 use Rattle.words.specs.Rows.{row_length}

@@ -1,5 +1,4 @@
 -- The loop joins in what the words of one place after the other differ.
-use Prim.Native.Nat.{◌-◌}
 use Rattle.run.proofs.Idles.{Alike}
 use Rattle.run.proofs.fire.differ.Given as goal
 

@@ -1,9 +1,7 @@
 use mathlib.Core.Path.{sym}
-use Prim.Native.Nat.{◌-◌}
 use native.Mathlib.Omega.{arith}
 use native.Mathlib.Nat.{zero-add}
 use Rattle.words.proofs.Writes.{list_none, list_more, list_done}
-use Rattle.run.specs.Fire.{set_in}
 use Rattle.run.proofs.fire.lay_labels.Goals as goal
 
 pub loop-s-init : goal.loop-s-init

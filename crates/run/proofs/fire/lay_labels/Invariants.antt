@@ -1,5 +1,4 @@
 -- The loop writes the set of one state after the other.
-use Prim.Native.Nat.{◌-◌}
 use Rattle.words.proofs.Writes.{Lists}
 use Rattle.run.specs.Fire.{set_in}
 use Rattle.run.proofs.fire.lay_labels.Given as goal

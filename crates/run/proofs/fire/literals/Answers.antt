@@ -1,6 +1,5 @@
 -- Each of the two words is empty or a single one.
 use mathlib.Core.Path.{ap₂, ◌∙◌}
-use mathlib.Core.Logic.{⊎_elim}
 use Rattle.rules.specs.Word.{union, single}
 use Rattle.words.specs.Width.{prop_width}
 use Rattle.run.specs.Fire.{literals_in}

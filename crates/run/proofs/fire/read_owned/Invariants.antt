@@ -1,6 +1,6 @@
 -- The loop joins each effect to the word of its action.
 use mathlib.Core.Path.{◌≡◌}
-use Prim.Native.Nat.{◌-◌, ◌≤◌}
+use Prim.Native.Nat.{◌≤◌}
 use lib.ListN.{length}
 use Rattle.rules.specs.Word.{single}
 use Rattle.rules.specs.Lists.{list_over}

@@ -1,5 +1,4 @@
 -- The loop writes one word after the other.
-use Prim.Native.Nat.{◌-◌}
 use lib.ListN.{get_or}
 use Rattle.words.specs.Rows.{row_length}
 use Rattle.words.proofs.Writes.{Lists}

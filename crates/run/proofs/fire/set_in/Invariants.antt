@@ -1,6 +1,6 @@
 -- The loop joins the bit of one proposition after the other.
 use mathlib.Core.Path.{◌≡◌}
-use Prim.Native.Nat.{◌-◌, ◌≤◌}
+use Prim.Native.Nat.{◌≤◌}
 use lib.ListN.{get_or}
 use Rattle.rules.specs.Word.{bit, single}
 use Rattle.rules.specs.Over.{keep, join_over}

@@ -1,6 +1,6 @@
 use Prim.Native.Nat.{ℕ, ◌+◌, ◌-◌, ◌<◌}
-use mathlib.Core.Path.{◌≡◌, refl, sym, subst, ◌∙◌}
-use mathlib.Core.List.{List, [], ◌∷◌}
+use mathlib.Core.Path.{◌≡◌, sym, subst, ◌∙◌}
+use mathlib.Core.List.{List}
 use native.Mathlib.Omega.{arith}
 use lib.ListN.{length}
 use Rattle.words.specs.Rows.{row_length}
@@ -8,7 +8,6 @@ use Rattle.graph.specs.Limits.{max_effects}
 use Rattle.graph.specs.Format.{actions_of}
 use Rattle.run.specs.Fire.{settled, next_of}
 use Rattle.run.specs.declared.fire.Stepped.{Stepped}
-use Rattle.run.specs.declared.fire.Stepped.TheVariants.{Changed}
 use Rattle.run.proofs.Fires.{missing, Stopped, step_none, step_idle, step_changed, step_off, step_done}
 use Rattle.run.proofs.Settles.{settled_same}
 use Rattle.run.specs.Fire.{Stepping}

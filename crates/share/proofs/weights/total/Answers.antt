@@ -1,4 +1,3 @@
-use Prim.Native.Nat.{◌-◌}
 use native.Mathlib.Omega.{arith}
 use Rattle.share.proofs.Totals.{added_none, added_more, added_all}
 use Rattle.share.proofs.weights.total.Goals as goal

@@ -1,5 +1,4 @@
 -- The loop adds one weight after the other.
-use Prim.Native.Nat.{◌-◌}
 use Rattle.share.proofs.Totals.{Added}
 use Rattle.share.proofs.weights.total.Given as goal
 

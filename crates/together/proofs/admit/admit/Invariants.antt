@@ -1,5 +1,4 @@
 -- The loop admits one effect after the other.
-use Prim.Native.Nat.{◌-◌}
 use lib.ListN.{length, get_or}
 use Rattle.words.proofs.Cells.{Rows}
 use Rattle.words.proofs.Writes.{Lists}

@@ -1,4 +1,3 @@
-use Prim.Native.Nat.{◌-◌}
 use native.Mathlib.Omega.{arith}
 use Rattle.together.proofs.Cuts.{cut_columns_none, cut_columns_more}
 use Rattle.together.proofs.cut.cut_columns.Goals as goal

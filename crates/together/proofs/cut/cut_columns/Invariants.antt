@@ -1,5 +1,4 @@
 -- The loop cuts one effect's deletes out after the other.
-use Prim.Native.Nat.{◌-◌}
 use Rattle.together.proofs.Cuts.{CutColumns}
 use Rattle.together.proofs.cut.cut_columns.Given as goal
 

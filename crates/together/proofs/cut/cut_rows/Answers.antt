@@ -1,4 +1,3 @@
-use Prim.Native.Nat.{◌-◌}
 use native.Mathlib.Omega.{arith}
 use Rattle.together.proofs.Cuts.{cut_rows_none, cut_rows_more}
 use Rattle.together.proofs.cut.cut_rows.Goals as goal

@@ -1,5 +1,4 @@
 -- The loop writes one empty word after the other.
-use Prim.Native.Nat.{◌-◌}
 use Rattle.words.proofs.Writes.{Lists}
 use Rattle.together.proofs.few.clear.Given as goal
 

@@ -1,5 +1,4 @@
 -- The loop takes one effect after the other.
-use Prim.Native.Nat.{◌-◌}
 use Rattle.together.proofs.FewLoops.{Effects}
 use Rattle.together.proofs.few.few_effects.Given as goal
 

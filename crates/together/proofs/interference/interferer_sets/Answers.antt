@@ -1,9 +1,7 @@
 use mathlib.Core.Path.{sym}
-use Prim.Native.Nat.{◌-◌}
 use native.Mathlib.Omega.{arith}
 use native.Mathlib.Nat.{zero-add}
 use borrow.Author.Rules.{rules as simple}
-use Rattle.together.specs.Interference.{interferers_of}
 use Rattle.words.proofs.Writes.{list_none, list_more, list_whole}
 use Rattle.together.proofs.interference.interferer_sets.Goals as goal
 

@@ -1,5 +1,4 @@
 -- The loop writes one set after the other, and they fill the memory.
-use Prim.Native.Nat.{◌-◌}
 use lib.ListN.{length}
 use Rattle.together.specs.Interference.{interferers_of}
 use Rattle.words.proofs.Writes.{Lists}

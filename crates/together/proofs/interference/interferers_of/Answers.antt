@@ -1,5 +1,4 @@
 use mathlib.Core.Path.{refl}
-use Prim.Native.Nat.{◌-◌}
 use borrow.Author.Rules.{rules as simple}
 use Rattle.together.specs.Interference.{interferers_of}
 use Rattle.words.proofs.Folds.{join_none, join_more, join_done}

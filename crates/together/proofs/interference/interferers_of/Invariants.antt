@@ -1,5 +1,4 @@
 -- The loop is the union of the definition.
-use Prim.Native.Nat.{◌-◌}
 use lib.ListN.{length}
 use Rattle.rules.specs.Over.{keep}
 use Rattle.rules.specs.Word.{single}

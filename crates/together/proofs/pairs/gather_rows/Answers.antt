@@ -1,4 +1,3 @@
-use Prim.Native.Nat.{◌-◌}
 use native.Mathlib.Omega.{arith}
 use Rattle.words.proofs.Cells.{rows_none, rows_put}
 use Rattle.together.proofs.Rows.{parts_le}

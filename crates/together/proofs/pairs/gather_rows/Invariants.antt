@@ -1,5 +1,4 @@
 -- The loop makes one row after the other.
-use Prim.Native.Nat.{◌-◌}
 use lib.ListN.{get_or}
 use Rattle.rules.specs.Over.{join_of}
 use Rattle.words.specs.Rows.{row_length, cell}

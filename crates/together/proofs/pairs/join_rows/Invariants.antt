@@ -1,5 +1,4 @@
 -- The loop joins one row after the other.
-use Prim.Native.Nat.{◌-◌}
 use lib.ListN.{get_or}
 use Rattle.rules.specs.Word.{union}
 use Rattle.rules.specs.Over.{join_of}

@@ -1,5 +1,5 @@
 -- The loop makes one row after the other.
-use Prim.Native.Nat.{◌-◌, ◌≤◌}
+use Prim.Native.Nat.{◌≤◌}
 use Rattle.words.specs.Rows.{row_length}
 use Rattle.words.proofs.Cells.{Rows}
 use Rattle.together.specs.Cells.{with_effect}

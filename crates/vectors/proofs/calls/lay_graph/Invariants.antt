@@ -1,5 +1,5 @@
 -- `calls::lay_graph` ends: the index stays within the words, which keep their length.
-use Rattle.std.proofs.Common.{◌≡◌, ◌-◌, ◌≤◌, length}
+use Rattle.std.proofs.Common.{◌≡◌, ◌≤◌, length}
 use Rattle.vectors.proofs.calls.lay_graph.Given as goal
 
 abbrev pub invariant-loop-i : goal.invariant-loop-i

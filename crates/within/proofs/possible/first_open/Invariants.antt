@@ -1,5 +1,5 @@
 -- `possible::first_open` meets its contract: the sets before the first wrong one are right.
-use Prim.Native.Nat.{◌-◌, ◌≤◌}
+use Prim.Native.Nat.{◌≤◌}
 use lib.ListN.{length}
 use Rattle.within.specs.Rule.{set_of}
 use Rattle.within.proofs.Possibles.{Enclosed}

@@ -4,7 +4,7 @@ use Rattle.rules.specs.Lists.{list_over}
 use Rattle.rules.specs.Shared.{start_label}
 use lib.ListN.{length, get_or}
 use native.Mathlib.Omega.{arith}
-use Prim.Native.Nat.{ℕ, ◌-◌}
+use Prim.Native.Nat.{ℕ}
 use mathlib.Core.Path.{◌≡◌, refl, ap, ◌∙◌}
 use Rattle.words.proofs.columns.columns.Goals as goal
 

@@ -3,7 +3,7 @@ use Rattle.words.specs.Width.{prop_width, word_width}
 use Rattle.rules.specs.Lists.{list_over}
 use Rattle.rules.specs.Shared.{start_label}
 use lib.ListN.{length, get_or}
-use Prim.Native.Nat.{◌-◌, ◌≤◌}
+use Prim.Native.Nat.{◌≤◌}
 use mathlib.Core.Path.{◌≡◌}
 use Rattle.words.proofs.columns.columns.Given as goal
 

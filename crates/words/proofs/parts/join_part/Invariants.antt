@@ -1,5 +1,5 @@
 -- The loop writes one word after the other; what lies ahead is not changed yet.
-use Prim.Native.Nat.{◌+◌, ◌-◌}
+use Prim.Native.Nat.{◌+◌}
 use lib.ListN.{get_or}
 use Rattle.rules.specs.Word.{union}
 use Rattle.words.specs.Rows.{part_length}

@@ -1,5 +1,5 @@
 -- The loop writes one word after the other.
-use Prim.Native.Nat.{◌+◌, ◌-◌}
+use Prim.Native.Nat.{◌+◌}
 use lib.ListN.{get_or}
 use Rattle.rules.specs.Word.{common, without}
 use Rattle.words.proofs.Writes.{Lists}

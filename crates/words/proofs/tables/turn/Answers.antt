@@ -1,5 +1,4 @@
 use native.Mathlib.Omega.{arith}
-use Prim.Native.Nat.{◌-◌}
 use Rattle.words.proofs.Cells.{rows_none, rows_put}
 use Rattle.words.proofs.tables.turn.Goals as goal
 

@@ -1,5 +1,4 @@
 -- The loop turns one column after the other.
-use Prim.Native.Nat.{◌-◌}
 use Rattle.words.specs.Rows.{cell}
 use Rattle.words.proofs.Cells.{Rows}
 use Rattle.words.proofs.tables.turn.Given as goal

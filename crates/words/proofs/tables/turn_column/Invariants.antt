@@ -1,5 +1,5 @@
 -- The loop writes one word after the other.
-use Prim.Native.Nat.{◌*◌, ◌-◌}
+use Prim.Native.Nat.{◌*◌}
 use Rattle.words.specs.Rows.{row_length, cell}
 use Rattle.words.proofs.Writes.{Lists}
 use Rattle.words.proofs.tables.turn_column.Given as goal

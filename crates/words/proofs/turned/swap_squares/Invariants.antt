@@ -1,7 +1,7 @@
 -- The loop swaps one pair after the other.
 use mathlib.Core.Bool.{So}
 use mathlib.Core.Path.{◌≡◌}
-use Prim.Native.Nat.{◌-◌, ◌≤◌}
+use Prim.Native.Nat.{◌≤◌}
 use lib.ListN.{length}
 use Rattle.words.specs.Squares.{pair_count, swap_pairs, make_squares}
 use Rattle.words.specs.Width.{prop_width}

@@ -1,5 +1,4 @@
 -- The loop writes one word after the other.
-use Prim.Native.Nat.{◌-◌}
 use lib.ListN.{length, get_or}
 use Rattle.words.proofs.Writes.{Lists}
 use Rattle.words.proofs.turned.widen.Given as goal
