@@ -1,20 +1,23 @@
 // What the programs read.
 #![tactic(auto)]
 
-ghost use Rattle.std.specs.Prelude.{◌≤◌, length, IfOk};
+ghost use Rattle.std.specs.Prelude.{◌≤◌, ◌<◌, length, take, IfOk};
+ghost use Rattle.std.specs.Io.KnownBytes.{Consumes, IsAtEnd};
 
 use std::io;
 use std::io::Read;
 
-// Reads until the room is full or the input ends, and answers how many bytes there are.
-pub fn read_full(input: &mut (impl Read + Drop), room: &mut [u8]) -> io::Result<usize>
-    ensures { IfOk result (λ n. n ≤ length room.old) }
+// Reads until the room is full or the input ends, and answers how many bytes there are: those at the room's front.
+pub fn read_full<R: Read + Drop>(input: &mut R, room: &mut [u8]) -> io::Result<usize>
+    ensures within { IfOk result (λ n. n ≤ length room.old) }
+    ensures bytes { IfOk result (λ n. Consumes (R.remaining input.old) (R.remaining input.new) (take n room.new)) }
+    ensures end { IfOk result (λ n. n < length room.old → IsAtEnd (R.remaining input.new)) }
 {
     let mut have = 0;
     while have < room.len() {
         let n = input.read(&mut room[have..])?;
         if n == 0 {
-            break;
+            return Ok(have);
         }
         have += n;
     }
