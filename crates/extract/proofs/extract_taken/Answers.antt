@@ -7,7 +7,7 @@ use Rattle.rules.specs.Layer.{word_count}
 use Rattle.rules.specs.declared.Shape.{Shape}
 use Rattle.graph.specs.Verdict.{Verdict, accepted}
 use Rattle.graph.specs.Format.{shape_in}
-use Rattle.graph.specs.Checks.{check_verdict, set_rule, output_rule, graph_rule, Small, Passed}
+use Rattle.graph.specs.Checks.{check_verdict, set_rule, output_rule, graph_rule, Small}
 use Rattle.graph.proofs.Ladder.{set_means, output_means, graph_means, small_of}
 use Rattle.graph.proofs.Verdicts.{told, then_refused, then_accepted, laid_refused}
 use Rattle.extract.specs.Rule.{extract_taken}
@@ -26,22 +26,16 @@ graph_says c =
 counted : (c : After-word_count-wanted) → c.word_count-wanted.result ≡ word_count (shape_in c.args.c) c.args.depth
 counted c = c.word_count-wanted.ensures ∙ ap (λ (s : Shape). word_count s c.args.depth) c.shape-s.ensures
 
-output_says : (c : After-check_output-room) → check_verdict c.check_output-room.result
-    ≡ output_rule (word_count (shape_in c.args.c) c.args.depth) (length c.args.out.now)
-output_says c = c.check_output-room.ensures ∙ ap (λ (x : ℕ). output_rule x (length c.args.out.now)) ((c.word_count-wanted.ensures ∙ ap (λ (s : Shape). word_count s c.args.depth) c.shape-s.ensures))
+output_says : (c : After-check_output-room) → c.word_count-wanted.result ≡ word_count (shape_in c.args.c) c.args.depth
+    → check_verdict c.check_output-room.result ≡ output_rule (word_count (shape_in c.args.c) c.args.depth) (length c.args.out.now)
+output_says c is = c.check_output-room.ensures ∙ ap (λ (x : ℕ). output_rule x (length c.args.out.now)) is
 
 -- what has passed
-found : (c : In_default)
-    → graph_rule c.args.c c.args.depth (set_rule c.args.c.states c.args.set.0) (length c.args.words.now) ≡ accepted tt
-found c = told check_verdict ((c.check_graph-found.ensures ∙ ap (λ (v : Verdict (Unit {0})). graph_rule c.args.c c.args.depth v (length c.args.words.now)) c.check_set-asked.ensures)) c.in_default.is
+found : (c : In_default) {v : Verdict (Unit {0})} → check_verdict c.check_graph-found.result ≡ v → v ≡ accepted tt
+found c says = told check_verdict says c.in_default.is
 
-passed : (c : In_default)
-    → Passed c.args.c c.args.depth (set_rule c.args.c.states c.args.set.0) (length c.args.words.now)
-passed c = graph_means _ _ _ _ (found c)
-
-roomy : (c : In_default-room)
-    → output_rule (word_count (shape_in c.args.c) c.args.depth) (length c.args.out.now) ≡ accepted tt
-roomy c = told check_verdict ((c.check_output-room.ensures ∙ ap (λ (x : ℕ). output_rule x (length c.args.out.now)) ((c.word_count-wanted.ensures ∙ ap (λ (s : Shape). word_count s c.args.depth) c.shape-s.ensures)))) c.in_default-room.is
+roomy : (c : In_default-room) {v : Verdict (Unit {0})} → check_verdict c.check_output-room.result ≡ v → v ≡ accepted tt
+roomy c says = told check_verdict says c.in_default-room.is
 
 pub returns-in-Refused : goal.returns-in-Refused
 unfolding extract_taken
@@ -50,14 +44,14 @@ returns-in-Refused c = laid_refused _ _ _ _ (then_refused _ _ _ _ (told check_ve
 pub word_count-wanted-requires : goal.word_count-wanted-requires
 word_count-wanted-requires c = (
   subst Small (sym c.shape-s.ensures) (small_of _ c.requires),
-  (passed (goal.at.word_count-wanted-requires c).In_default).deep,
+  (graph_means _ _ _ _ (found (goal.at.word_count-wanted-requires c).In_default (graph_says (goal.at.word_count-wanted-requires c).After-check_graph-found))).deep,
 )
 
 pub returns-in-Refused-room : goal.returns-in-Refused-room
 unfolding extract_taken
 returns-in-Refused-room c =
-    laid_refused _ _ _ _ (then_accepted _ _ _ (found (goal.at.returns-in-Refused-room c).In_default)
-    ∙ then_refused _ _ _ _ (told check_verdict (output_says (goal.at.returns-in-Refused-room c).After-check_output-room) c.in-Refused-room.is))
+    laid_refused _ _ _ _ (then_accepted _ _ _ (found (goal.at.returns-in-Refused-room c).In_default (graph_says (goal.at.returns-in-Refused-room c).After-check_graph-found))
+    ∙ then_refused _ _ _ _ (told check_verdict (output_says (goal.at.returns-in-Refused-room c).After-check_output-room (counted (goal.at.returns-in-Refused-room c).After-word_count-wanted)) c.in-Refused-room.is))
 
 pub stride-back-requires : goal.stride-back-requires
 stride-back-requires c =
@@ -65,12 +59,18 @@ stride-back-requires c =
 
 pub cut-requires : goal.cut-requires
 cut-requires c =
-    (omega (arith, counted (goal.at.cut-requires c).After-word_count-wanted, (passed (goal.at.cut-requires c).In_default).fits), omega (arith, counted (goal.at.cut-requires c).After-word_count-wanted, output_means _ _ (roomy (goal.at.cut-requires c).In_default-room)))
+    let is = counted (goal.at.cut-requires c).After-word_count-wanted in
+    let p = graph_means _ _ _ _ (found (goal.at.cut-requires c).In_default (graph_says (goal.at.cut-requires c).After-check_graph-found)) in
+    let room = roomy (goal.at.cut-requires c).In_default-room (output_says (goal.at.cut-requires c).After-check_output-room is) in
+    (omega (arith, is, p.fits), omega (arith, is, output_means _ _ room))
 
 pub returns : goal.returns
 unfolding extract_taken
 returns c =
-    let p = passed (goal.at.returns c).In_default in
+    let is = counted (goal.at.returns c).After-word_count-wanted in
+    let g = found (goal.at.returns c).In_default (graph_says (goal.at.returns c).After-check_graph-found) in
+    let p = graph_means _ _ _ _ g in
+    let room = roomy (goal.at.returns c).In_default-room (output_says (goal.at.returns c).After-check_output-room is) in
     cut_laid (shape_in c.args.c) c.args.c.states c.args.depth c.args.set.0 _ c.args.words.now
-    (set_means _ _ p.fine).1 c.requires.states (counted (goal.at.returns c).After-word_count-wanted) (omega (arith, counted (goal.at.returns c).After-word_count-wanted, p.fits)) _ _ _
-    (then_accepted _ _ _ (found (goal.at.returns c).In_default) ∙ then_accepted _ _ _ (roomy (goal.at.returns c).In_default-room)) c.cut.ensures
+    (set_means _ _ p.fine).1 c.requires.states is (omega (arith, is, p.fits)) _ _ _
+    (then_accepted _ _ _ g ∙ then_accepted _ _ _ room) c.cut.ensures

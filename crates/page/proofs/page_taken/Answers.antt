@@ -6,29 +6,21 @@ use lib.ListN.{length, get_or}
 use Rattle.rules.specs.Lists.{list_over}
 use Rattle.rules.specs.declared.Shape.{Shape}
 use Rattle.words.specs.Memory.{put_at}
-use Rattle.graph.specs.Verdict.{Verdict, accepted}
+use Rattle.graph.specs.Verdict.{accepted}
 use Rattle.graph.specs.Checks.{check_verdict, set_rule, output_rule, graph_rule}
 use Rattle.graph.proofs.Ladder.{output_means, graph_means}
 use Rattle.graph.proofs.Verdicts.{told, then_refused, then_accepted, laid_refused, laid_accepted}
-use Rattle.level.proofs.Answers.{room_of}
+use Rattle.level.proofs.Answers.{room_of, graph_asked}
 use Rattle.page.specs.Rule.{page_taken}
 use Rattle.page.specs.Memo.{entry_in}
 use Rattle.page.proofs.Singles.{entries_long, entries_single}
 use Rattle.page.proofs.page_taken.Goals as goal
-use Rattle.page.proofs.page_taken.Goals.{After-check_graph-found, In_default, In_default-room}
-
--- what the check of the graph says, in the rule's own words
-graph_says : (c : After-check_graph-found) → check_verdict c.check_graph-found.result
-    ≡ graph_rule c.args.c c.args.depth (set_rule c.args.c.states c.args.set.0) (length c.args.words.now)
-graph_says c =
-    c.check_graph-found.ensures
-    ∙ ap (λ (v : Verdict (Unit {0})). graph_rule c.args.c c.args.depth v (length c.args.words.now))
-    c.check_set-asked.ensures
+use Rattle.page.proofs.page_taken.Goals.{In_default, In_default-room}
 
 -- what has passed
 found : (c : In_default)
     → graph_rule c.args.c c.args.depth (set_rule c.args.c.states c.args.set.0) (length c.args.words.now) ≡ accepted tt
-found c = told check_verdict ((c.check_graph-found.ensures ∙ ap (λ (v : Verdict (Unit {0})). graph_rule c.args.c c.args.depth v (length c.args.words.now)) c.check_set-asked.ensures)) c.in_default.is
+found c = graph_asked _ _ _ c.check_set-asked.ensures (told check_verdict c.check_graph-found.ensures c.in_default.is)
 
 roomy : (c : In_default-room)
     → output_rule (length c.args.goals.now) (length c.args.out.now) ≡ accepted tt
@@ -36,7 +28,7 @@ roomy c = told check_verdict c.check_output-room.ensures c.in_default-room.is
 
 pub returns-in-Refused : goal.returns-in-Refused
 unfolding page_taken
-returns-in-Refused c = laid_refused _ _ _ _ (then_refused _ _ _ _ (told check_verdict (graph_says (goal.at.returns-in-Refused c).After-check_graph-found) c.in-Refused.is))
+returns-in-Refused c = laid_refused _ _ _ _ (then_refused _ _ _ _ (graph_asked _ _ _ c.check_set-asked.ensures (told check_verdict c.check_graph-found.ensures c.in-Refused.is)))
 
 pub returns-in-Refused-room : goal.returns-in-Refused-room
 unfolding page_taken

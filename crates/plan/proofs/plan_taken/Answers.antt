@@ -1,32 +1,25 @@
 -- Each check answers as the rule of its causes, in order; past them the plan is made.
-use mathlib.Core.Path.{◌≡◌, sym, ap, ◌∙◌}
+use mathlib.Core.Path.{◌≡◌, sym, ◌∙◌}
 use lib.ListN.{length}
-use Rattle.graph.specs.Verdict.{Verdict, accepted}
+use Rattle.graph.specs.Verdict.{accepted}
 use Rattle.graph.specs.Checks.{check_verdict, asked_rule, graph_rule, output_rule}
 use Rattle.graph.proofs.Ladder.{graph_means, asked_means, goal_means, output_means, small_of}
 use Rattle.graph.proofs.Verdicts.{told, then_refused, then_accepted}
 use Rattle.plan.specs.Plan.{plan_taken}
 use Rattle.plan.proofs.Answers.{plan_refused, equal_rule_lem}
+use Rattle.level.proofs.Answers.{graph_asked}
 use Rattle.plan.proofs.plan_taken.Goals as goal
-use Rattle.plan.proofs.plan_taken.Goals.{After-check_graph-check, In_default, In_default-room}
-
--- causes 6 to 9, by what was found of the set and the goal
-by_graph : (c : After-check_graph-check)
-    → let a = c.args in
-    check_verdict c.check_graph-check.result ≡ graph_rule a.c a.depth (asked_rule a.c a.set.0 a.goal.0) (length a.words.now)
-by_graph c =
-    let a = c.args in
-    c.check_graph-check.ensures ∙ ap (λ (v : Verdict Unit). graph_rule a.c a.depth v (length a.words.now)) c.check_asked-asked.ensures
+use Rattle.plan.proofs.plan_taken.Goals.{In_default, In_default-room}
 
 pub returns-in-Refused : goal.returns-in-Refused
 unfolding plan_taken
-returns-in-Refused c = plan_refused _ _ _ _ (then_refused _ _ _ _ (told check_verdict (by_graph (goal.at.returns-in-Refused c).After-check_graph-check) c.in-Refused.is))
+returns-in-Refused c = plan_refused _ _ _ _ (then_refused _ _ _ _ (graph_asked _ _ _ c.check_asked-asked.ensures (told check_verdict c.check_graph-check.ensures c.in-Refused.is)))
 
--- they have passed
+-- causes 6 to 9 are passed
 graph_passed : (c : In_default)
     → let a = c.args in
     graph_rule a.c a.depth (asked_rule a.c a.set.0 a.goal.0) (length a.words.now) ≡ accepted tt
-graph_passed c = told check_verdict ((let a = c.args in c.check_graph-check.ensures ∙ ap (λ (v : Verdict Unit). graph_rule a.c a.depth v (length a.words.now)) c.check_asked-asked.ensures)) c.in_default.is
+graph_passed c = graph_asked _ _ _ c.check_asked-asked.ensures (told check_verdict c.check_graph-check.ensures c.in_default.is)
 
 pub returns-in-Refused-room : goal.returns-in-Refused-room
 unfolding plan_taken

@@ -12,20 +12,16 @@ use Rattle.level.proofs.Answers.{room_of, graph_asked}
 use Rattle.share.specs.Rule.{wanted_rule, share_taken}
 use Rattle.share.proofs.Totals.{wanted_is, goal_passed, weighed_of}
 use Rattle.share.proofs.share_taken.Goals as goal
-use Rattle.share.proofs.share_taken.Goals.{After-check_graph-check, After-check_wanted-wanted}
+use Rattle.share.proofs.share_taken.Goals.{After-check_graph-check}
 
--- what was found of the goal and the weights is their rule
-wanted : (c : After-check_wanted-wanted) → let a = c.args in
-    check_verdict c.check_wanted-wanted.result ≡ wanted_rule a.c a.goal.0 (share_of a.weights.now a.numerator a.denominator)
-wanted c =
-    let a = c.args in
-    c.check_wanted-wanted.ensures ∙ wanted_is a.c a.goal.0 a.weights.now a.numerator a.denominator c.total_for-total.ensures.0
-
--- and so is what was found of all causes
+-- what was found of the goal and the weights is their rule, and so is what was found of all causes
 found : (c : After-check_graph-check) → let a = c.args in
     (v : Verdict (Unit {0})) → check_verdict c.check_graph-check.result ≡ v
     → graph_rule a.c a.depth (wanted_rule a.c a.goal.0 (share_of a.weights.now a.numerator a.denominator)) (length a.words.now) ≡ v
-found c v e = graph_asked _ _ _ ((let a = c.args in c.check_wanted-wanted.ensures ∙ wanted_is a.c a.goal.0 a.weights.now a.numerator a.denominator c.total_for-total.ensures.0)) (sym c.check_graph-check.ensures ∙ e)
+found c v e =
+    let a = c.args in
+    graph_asked _ _ _ (c.check_wanted-wanted.ensures ∙ wanted_is a.c a.goal.0 a.weights.now a.numerator a.denominator c.total_for-total.ensures.0)
+    (sym c.check_graph-check.ensures ∙ e)
 
 pub returns-in-Refused : goal.returns-in-Refused
 unfolding share_taken

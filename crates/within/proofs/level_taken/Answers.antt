@@ -23,11 +23,12 @@ passed c = graph_asked _ _ _ c.check_asked.ensures (told check_verdict c.check_g
 -- so of those of the sure sets it is what was found of their memory
 again : (c : After-check_memory-memory)
     → let a = c.args in
-    (v : Verdict (Unit {0})) → check_verdict c.check_memory-memory.result ≡ v
+    graph_rule a.c a.depth (asked_rule a.c a.set.0 a.goal.0) (length a.possible.now) ≡ accepted tt
+    → (v : Verdict (Unit {0})) → check_verdict c.check_memory-memory.result ≡ v
     → graph_rule a.c a.depth (asked_rule a.c a.set.0 a.goal.0) (length a.sure.now) ≡ v
-again c v e =
+again c first v e =
     let a = c.args in
-    graph_again _ _ _ _ _ ((graph_asked _ _ _ c.check_asked.ensures (told check_verdict c.check_graph-check.ensures c.in_default.is)))
+    graph_again _ _ _ _ _ first
     ∙ sym (c.check_memory-memory.ensures
     ∙ ap (λ (n : ℕ). memory_rule n (length a.sure.now))
     (c.word_count.ensures ∙ ap (λ (S : Shape). word_count S a.depth) c.shape-s.ensures))
@@ -49,7 +50,7 @@ pub returns-in-Refused-memory : goal.returns-in-Refused-memory
 unfolding levels_taken
 returns-in-Refused-memory c =
     sym (second_refused _ _ _ _ _ (level_accepted _ _ _ _ _ _ refl _ refl (passed (goal.at.returns-in-Refused-memory c).In_default))
-    (level_refused _ _ _ _ _ _ _ (again (goal.at.returns-in-Refused-memory c).After-check_memory-memory _ (ap check_verdict c.in-Refused-memory.is))))
+    (level_refused _ _ _ _ _ _ _ (again (goal.at.returns-in-Refused-memory c).After-check_memory-memory (passed (goal.at.returns-in-Refused-memory c).In_default) _ (ap check_verdict c.in-Refused-memory.is))))
 
 pub level_over-first-requires : goal.level_over-first-requires
 level_over-first-requires c =
@@ -58,7 +59,7 @@ level_over-first-requires c =
 pub level_over-second-requires : goal.level_over-second-requires
 level_over-second-requires c =
     room_of _ _ _ _ _ c.requires c.shape-s.ensures
-    (again (goal.at.level_over-second-requires c).After-check_memory-memory _ (ap check_verdict c.in_default-memory.is))
+    (again (goal.at.level_over-second-requires c).After-check_memory-memory (passed (goal.at.level_over-second-requires c).In_default) _ (ap check_verdict c.in_default-memory.is))
 
 pub returns : goal.returns
 unfolding levels_taken
@@ -66,4 +67,4 @@ returns c =
     let shape = c.shape-s.ensures in
     sym (both_accepted _ _ _ _
     (level_accepted _ _ _ _ _ _ shape _ c.level_over-first.ensures (passed (goal.at.returns c).In_default))
-    (level_accepted _ _ _ _ _ _ shape _ c.level_over-second.ensures (again (goal.at.returns c).After-check_memory-memory _ (ap check_verdict c.in_default-memory.is))))
+    (level_accepted _ _ _ _ _ _ shape _ c.level_over-second.ensures (again (goal.at.returns c).After-check_memory-memory (passed (goal.at.returns c).In_default) _ (ap check_verdict c.in_default-memory.is))))

@@ -1,25 +1,32 @@
 use mathlib.Core.Path.{sym, ap₂, ◌∙◌}
+use Prim.Native.Nat.{◌<◌}
 use native.Mathlib.Nat.{zero-add}
 use native.Mathlib.Omega.{arith}
 use Rattle.words.proofs.Writes.{list_none, list_more, list_whole}
 use Rattle.run.specs.Course.{pack}
 use Rattle.run.specs.Even.{goes_of}
+use Rattle.graph.specs.File.{Taken}
 use Rattle.run.proofs.effects.read_effects.Goals as goal
+use Rattle.run.proofs.effects.read_effects.Goals.{In-loop-e}
 
 pub loop-e-init : goal.loop-e-init
 loop-e-init c = let p = c.requires in (list_none (omega (arith, p.1)), list_none (omega (arith, p.2)))
 
+-- the file was taken, and has this effect
+read : (c : In-loop-e) → Taken c.args.file.now c.args.c × (c.loop-e.e < c.args.c.effects)
+read c = let p = c.requires in (p.0, omega (arith, c.loop-e-test.true, p.1))
+
 pub antecedent-requires : goal.antecedent-requires
-antecedent-requires c = let p = c.requires in (p.0, omega (arith, c.loop-e-test.true, p.1))
+antecedent-requires c = read (goal.at.antecedent-requires c).In-loop-e
 
 pub bounds-when-e : goal.bounds-when-e
 bounds-when-e c = omega (arith, c.loop-e.invariant.0.long)
 
 pub added-requires : goal.added-requires
-added-requires c = let p = c.requires in (p.0, omega (arith, c.loop-e-test.true, p.1))
+added-requires c = read (goal.at.added-requires c).In-loop-e
 
 pub deleted-requires : goal.deleted-requires
-deleted-requires c = let p = c.requires in (p.0, omega (arith, c.loop-e-test.true, p.1))
+deleted-requires c = read (goal.at.deleted-requires c).In-loop-e
 
 pub bounds-goes-e : goal.bounds-goes-e
 bounds-goes-e c =

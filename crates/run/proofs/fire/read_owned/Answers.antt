@@ -1,5 +1,5 @@
 use mathlib.Core.Path.{◌≡◌, refl, ap, ◌∙◌}
-use Prim.Native.Nat.{ℕ}
+use Prim.Native.Nat.{ℕ, ◌<◌}
 use native.Mathlib.Omega.{arith}
 use lib.ListN.{length, length-set}
 use Rattle.rules.specs.Word.{single}
@@ -11,6 +11,7 @@ use Rattle.words.proofs.Spreads.{columns_none, columns_more}
 use Rattle.graph.specs.Format.{actions_of}
 use Rattle.run.proofs.Touches.{owned_one, owned_all}
 use Rattle.run.proofs.fire.read_owned.Goals as goal
+use Rattle.run.proofs.fire.read_owned.Goals.{After-owner-a}
 
 pub loop-e-init : goal.loop-e-init
 loop-e-init c = (omega arith, refl, columns_none _ _ _ c.requires.1)
@@ -18,13 +19,17 @@ loop-e-init c = (omega arith, refl, columns_none _ _ _ c.requires.1)
 pub owner-a-requires : goal.owner-a-requires
 owner-a-requires c = (c.requires.0, c.loop-e-test.true)
 
+-- the row has a word for the owner
+owner_in : (c : After-owner-a) → c.owner-a.result < length c.loop-e.owned
+owner_in c =
+    let p = c.requires in
+    omega (arith, c.owner-a.ensures.1, p.0.ranged.actions, c.loop-e.invariant.1, ap length p.1, length_list_over row_length (λ i. 0))
+
 pub offset_bounds-owned-a : goal.offset_bounds-owned-a
 offset_bounds-owned-a c = omega (arith, c.owner-a.ensures.1, c.requires.0.ranged.actions)
 
 pub bounds-owned-a : goal.bounds-owned-a
-bounds-owned-a c =
-    let p = c.requires in
-    omega (arith, c.owner-a.ensures.1, p.0.ranged.actions, c.loop-e.invariant.1, ap length p.1, length_list_over row_length (λ i. 0))
+bounds-owned-a c = owner_in (goal.at.bounds-owned-a c).After-owner-a
 
 pub single-requires : goal.single-requires
 single-requires c = omega (arith, c.loop-e-test.true, c.requires.0.ranged.effects)
@@ -33,19 +38,16 @@ pub offset_bounds-owned-a-in-loop-e : goal.offset_bounds-owned-a-in-loop-e
 offset_bounds-owned-a-in-loop-e c = omega (arith, c.owner-a.ensures.1, c.requires.0.ranged.actions)
 
 pub bounds-owned-a-in-loop-e : goal.bounds-owned-a-in-loop-e
-bounds-owned-a-in-loop-e c =
-    let p = c.requires in
-    omega (arith, c.owner-a.ensures.1, p.0.ranged.actions, c.loop-e.invariant.1, ap length p.1, length_list_over row_length (λ i. 0))
+bounds-owned-a-in-loop-e c = owner_in (goal.at.bounds-owned-a-in-loop-e c).After-owner-a
 
 pub loop-e-preserved : goal.loop-e-preserved
 loop-e-preserved c =
     let a = c.owner-a in
-    let l = c.loop-e in
-    let p = c.requires in (
+    let l = c.loop-e in (
       omega arith,
       length-set l.owned a.result _ ∙ l.invariant.1,
       columns_more _ l.e _ l.owned _ _ _ l.invariant.2 (ap (λ (x : ℕ). single x) a.ensures.0) c.single.ensures
-          (owned_one l.owned a.result c.single.result (omega (arith, a.ensures.1, p.0.ranged.actions, l.invariant.1, ap length p.1, length_list_over row_length (λ i. 0)))),
+          (owned_one l.owned a.result c.single.result (owner_in (goal.at.loop-e-preserved c).After-owner-a)),
     )
 
 pub shape_of-owned : goal.shape_of-owned
