@@ -8,7 +8,10 @@ use native.Mathlib.Nat.{zero-add}
 use native.Mathlib.Omega.{arith}
 use lib.ListN.{length, drop}
 use Rattle.rules.specs.Test.{fails, choose}
-use Rattle.graph.specs.Verdict.{Verdict, accepted, refused, and_then, laid, written}
+use Rattle.std.specs.Prelude.{Result, IsErrAnd}
+use Rattle.std.proofs.lemmas.Result.{err_from_is_err_and}
+use Rattle.graph.specs.Verdict.{Verdict, accepted, refused, turned_away, verdict, and_then, laid, written}
+use Rattle.graph.specs.declared.refusal.Refusal.{Refusal}
 use Rattle.words.specs.Memory.{put_at}
 
 -- an answer in hand, which is known to be j, says what j says
@@ -23,6 +26,18 @@ then_refused v next number place e = ap (λ (x : Verdict _). and_then x next) e
 pub then_accepted : {X Y : Type 0} (v : Verdict X) (next : X → Verdict Y) (x : X) → v ≡ accepted x → and_then v next ≡ next x
 unfolding and_then
 then_accepted v next x e = ap (λ (y : Verdict _). and_then y next) e
+
+-- what `?` hands on where a check is refused is that refusal
+pub handed_on : {X : Type 0} (r : Result X Refusal) (why : Refusal) → IsErrAnd r (λ w. w ≡ why) → verdict r ≡ turned_away why
+handed_on r why h = let e = err_from_is_err_and r h in ap verdict e.1 ∙ ap turned_away e.2
+
+-- so a chain of checks ends at a `?` that is refused, and goes on behind one that is passed
+pub ends_at : {X Y : Type 0} (r : Result X Refusal) (why : Refusal) (v : Verdict Y) (next : Y → Verdict X) → IsErrAnd r (λ w. w ≡ why) → turned_away why ≡ v
+    → verdict r ≡ and_then v next
+ends_at r why v next h e = handed_on r why h ∙ sym (then_refused v next _ _ (sym e))
+
+pub goes_on : {X Y : Type 0} {w : Verdict X} (v : Verdict Y) (next : Y → Verdict X) (y : Y) → accepted y ≡ v → w ≡ next y → w ≡ and_then v next
+goes_on v next y e q = q ∙ sym (then_accepted v next y (sym e))
 
 -- a check that was passed
 module _ {X : Type 0} (b : Bool) (n p : ℕ) (v : Verdict X) (x : X) where

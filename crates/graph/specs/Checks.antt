@@ -5,15 +5,9 @@ use Rattle.rules.specs.Layer.{word_count}
 use Rattle.rules.specs.declared.Shape.{Shape}
 use Rattle.words.specs.Width.{prop_width}
 use Rattle.graph.specs.Limits.{max_depth, max_vertices}
-use Rattle.graph.specs.Verdict.{Verdict, accepted, refused, turned_away, and_then}
+use Rattle.graph.specs.Verdict.{Verdict, accepted, refused, and_then}
 use Rattle.graph.specs.Format.{shape_in}
 use Rattle.graph.specs.declared.format.Counts.{Counts}
-use Rattle.graph.specs.declared.refusal.Check.{Check}
-use Rattle.graph.specs.declared.refusal.Check.TheVariants as check
-
-abbrev pub check_verdict : Check → Verdict (Unit {0})
-check_verdict check.Passed = accepted tt
-check_verdict (check.Refused why) = turned_away why
 
 -- 6: 'depth above 255 (place 255)'
 unfoldable pub depth_rule : ℕ → Verdict (Unit {0})

@@ -6,11 +6,9 @@ use Rattle.rules.specs.Over.{any_below, first_below}
 use Rattle.rules.specs.Domain.{Actions, Sound}
 use Rattle.words.specs.Width.{prop_width, state_width}
 use Rattle.graph.specs.Limits.{max_actions, max_effects}
-use Rattle.graph.specs.Verdict.{Verdict, accepted, refused, turned_away, and_then}
+use Rattle.graph.specs.Verdict.{Verdict, accepted, refused, and_then}
 use Rattle.graph.specs.Format as F
 use Rattle.graph.specs.declared.format.Counts.{Counts}
-use Rattle.graph.specs.declared.file.FileAnswer.{FileAnswer}
-use Rattle.graph.specs.declared.file.FileAnswer.TheVariants as answer
 
 -- how many bytes the head of a version has
 unfoldable pub head_of : ℕ → ℕ
@@ -100,11 +98,6 @@ file_rule file =
     and_then (sets_rule file (F.counts_in file)) (λ _.
     and_then (actions_rule file (F.counts_in file)) (λ _.
     accepted (F.counts_in file)))))))
-
--- what a file's answer says
-abbrev pub file_verdict : FileAnswer → Verdict Counts
-file_verdict (answer.Taken c) = accepted c
-file_verdict (answer.Refused why) = turned_away why
 
 -- counts that are in their ranges
 pub record Ranged (c : Counts) : Type 0 where

@@ -1,5 +1,5 @@
 -- What a call answers: it is accepted, with what it gives, or turned away ('Turned away, by cause').
-use Rattle.std.specs.Prelude.{ℕ, List, ◌++◌, length, drop}
+use Rattle.std.specs.Prelude.{ℕ, List, Result, Ok, Err, ◌++◌, length, drop}
 use Rattle.graph.specs.Limits.{max_depth}
 use Rattle.graph.specs.declared.refusal.Refusal.{Refusal}
 use Rattle.graph.specs.declared.refusal.Refusal.TheVariants as cause
@@ -54,6 +54,11 @@ place_of cause.Share = 0
 -- a call turned away for this cause
 abbrev pub turned_away : {X : Type 0} → Refusal → Verdict X
 turned_away why = refused (number_of why) (place_of why)
+
+-- what a function's answer says: 'each answer holds the number and a place', or what the call gives
+abbrev pub verdict : {X : Type 0} → Result X Refusal → Verdict X
+verdict (Ok x) = accepted x
+verdict (Err why) = turned_away why
 
 -- 'Checks go in rising number .. the first cause that holds is answered': the next check, once this one is passed
 unfoldable pub and_then : {X Y : Type 0} → Verdict X → (X → Verdict Y) → Verdict Y

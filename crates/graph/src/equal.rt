@@ -1,6 +1,6 @@
 // Two actions of a file of version 1 with the same three sets. Such actions have the same mark, so that only those with one mark are compared set by set.
 ghost use Rattle.std.specs.Prelude.{◌≡◌, ◌≤◌, ◌<◌};
-ghost use Rattle.graph.specs.Checks.{check_verdict};
+ghost use Rattle.graph.specs.Verdict.{verdict};
 ghost use Rattle.graph.specs.File.{equal_actions, equals_earlier, first_equal, equal_rule};
 ghost use Rattle.graph.specs.Format.{actions_of};
 ghost use Rattle.graph.specs.Marks.{PlainFile, marks, mark_of, Last, Chained, Marked, After};
@@ -8,7 +8,7 @@ ghost use Rattle.graph.specs.Marks.{PlainFile, marks, mark_of, Last, Chained, Ma
 use crate::file::set_at;
 use crate::format::{Counts, SET_BYTES, action_at};
 use crate::limits::MAX_ACTIONS;
-use crate::refusal::{Check, Refusal};
+use crate::refusal::Refusal;
 
 // So many actions are compared without marks.
 const FEW: usize = 4;
@@ -162,13 +162,13 @@ fn first_equal(file: &[u8], c: Counts) -> usize
 }
 
 // Cause 15, of a file of version 1.
-pub(crate) fn check_equal(file: &[u8], c: Counts) -> Check
+pub(crate) fn check_equal(file: &[u8], c: Counts) -> Result<(), Refusal>
     requires { PlainFile file.now c }
-    ensures { check_verdict result ≡ equal_rule file.now c }
+    ensures { verdict result ≡ equal_rule file.now c }
 {
     let a = first_equal(file, c);
     if a < c.actions {
-        return Check::Refused(Refusal::EqualAction(action_at(a)));
+        return Err(Refusal::EqualAction(action_at(a)));
     }
-    Check::Passed
+    Ok(())
 }

@@ -4,8 +4,7 @@ ghost use Rattle.std.proofs.Math.Bool.{So};
 ghost use Rattle.rules.specs.Test.{fails};
 ghost use Rattle.rules.specs.Over.{join_over};
 ghost use Rattle.words.specs.Width.{prop_width};
-ghost use Rattle.graph.specs.Verdict.{accepted};
-ghost use Rattle.graph.specs.Checks.{check_verdict};
+ghost use Rattle.graph.specs.Verdict.{accepted, verdict};
 ghost use Rattle.graph.specs.File.{Ranged};
 ghost use Rattle.graph.specs.File as R;
 ghost use Rattle.graph.specs.Format as F;
@@ -16,14 +15,8 @@ use crate::format::{
     PROPS_OFFSET, SET_BYTES, SETS_EACH, STATES_OFFSET,
 };
 use crate::limits::{MAX_ACTIONS, MAX_EFFECTS};
-use crate::refusal::{Check, Refusal};
+use crate::refusal::Refusal;
 use words::sets::{PROP_WIDTH, Props, STATE_WIDTH};
-
-#[derive(Clone, Copy)]
-pub enum FileAnswer {
-    Taken(Counts),
-    Refused(Refusal),
-}
 
 pub fn byte(file: &[u8], at: usize) -> usize
     requires { at < length file.now }
@@ -104,71 +97,71 @@ fn head_of(version: usize) -> usize
 }
 
 // Cause 1.
-fn check_head(file: &[u8]) -> Check
-    ensures { check_verdict result ≡ R.head_rule file.now }
+fn check_head(file: &[u8]) -> Result<(), Refusal>
+    ensures { verdict result ≡ R.head_rule file.now }
 {
     if file.len() < HEAD_BYTES {
-        return Check::Refused(Refusal::Head);
+        return Err(Refusal::Head);
     }
     if !letters(file) {
-        return Check::Refused(Refusal::Head);
+        return Err(Refusal::Head);
     }
     if file.len() < head_of(version(file)) {
-        return Check::Refused(Refusal::Head);
+        return Err(Refusal::Head);
     }
-    Check::Passed
+    Ok(())
 }
 
 // Cause 2.
-fn check_version(file: &[u8]) -> Check
+fn check_version(file: &[u8]) -> Result<(), Refusal>
     requires { F.head_bytes ≤ length file.now }
-    ensures { check_verdict result ≡ R.version_rule file.now }
+    ensures { verdict result ≡ R.version_rule file.now }
 {
     let version = version(file);
     if version == PLAIN_VERSION {
-        return Check::Passed;
+        return Ok(());
     }
     if version == EFFECTS_VERSION {
-        return Check::Passed;
+        return Ok(());
     }
-    Check::Refused(Refusal::Version)
+    Err(Refusal::Version)
 }
 
 // Cause 3.
-fn check_counts(c: Counts) -> Check
-    ensures { check_verdict result ≡ R.counts_rule c }
+fn check_counts(c: Counts) -> Result<(), Refusal>
+    ensures { verdict result ≡ R.counts_rule c }
 {
     if c.props < 1 {
-        return Check::Refused(Refusal::Count(PROPS_OFFSET));
+        return Err(Refusal::Count(PROPS_OFFSET));
     }
     if PROP_WIDTH < c.props {
-        return Check::Refused(Refusal::Count(PROPS_OFFSET));
+        return Err(Refusal::Count(PROPS_OFFSET));
     }
     if MAX_ACTIONS < c.actions {
-        return Check::Refused(Refusal::Count(ACTIONS_OFFSET));
+        return Err(Refusal::Count(ACTIONS_OFFSET));
     }
     if c.states < 1 {
-        return Check::Refused(Refusal::Count(STATES_OFFSET));
+        return Err(Refusal::Count(STATES_OFFSET));
     }
     if STATE_WIDTH < c.states {
-        return Check::Refused(Refusal::Count(STATES_OFFSET));
+        return Err(Refusal::Count(STATES_OFFSET));
     }
     if MAX_EFFECTS < c.effects {
-        return Check::Refused(Refusal::Count(EFFECTS_OFFSET));
+        return Err(Refusal::Count(EFFECTS_OFFSET));
     }
-    Check::Passed
+    Ok(())
 }
 
 // Cause 4.
-fn check_length(file: &[u8], c: Counts) -> Check
+fn check_length(file: &[u8], c: Counts) -> Result<(), Refusal>
     requires { Ranged c }
-    ensures { check_verdict result ≡ R.length_rule file.now c }
+    ensures { verdict result ≡ R.length_rule file.now c }
 {
     let right = c.right_length();
     if file.len() != right {
-        return Check::Refused(Refusal::Length(right));
+        return Err(Refusal::Length(right));
     }
-    Check::Passed
+    Ok(())
 }
 
 // What is in some of so many sets that lie one behind the other. No way leads out of the loop, so that it takes many sets at a time.
@@ -209,70 +202,61 @@ fn joined_all(file: &[u8], c: Counts) -> u32
 }
 
 // Cause 5, of so many sets that lie one behind the other.
-fn find_set(file: &[u8], props: usize, at: usize, count: usize) -> Check
+fn find_set(file: &[u8], props: usize, at: usize, count: usize) -> Result<(), Refusal>
     requires { (props ≤ prop_width) × (at ≤ 1000) × (count ≤ 160) × (at + F.set_bytes * count ≤ length file.now) }
-    ensures { check_verdict result ≡ R.sets_from file.now props count at }
+    ensures { verdict result ≡ R.sets_from file.now props count at }
 {
     for i in 0..count {
         let here = at + SET_BYTES * i;
         if Props::first(props).0 < set_at(file, here) {
-            return Check::Refused(Refusal::PropSet(here));
+            return Err(Refusal::PropSet(here));
         }
     }
-    Check::Passed
+    Ok(())
 }
 
 // Version 2: cause 5, of the effects' sets.
-fn find_effect_set(file: &[u8], c: Counts) -> Check
+fn find_effect_set(file: &[u8], c: Counts) -> Result<(), Refusal>
     requires { Ranged c × (F.effect_at c c.effects ≤ length file.now) }
-    ensures { check_verdict result ≡ R.effect_sets file.now c c.effects 0 }
+    ensures { verdict result ≡ R.effect_sets file.now c c.effects 0 }
 {
     for e in 0..c.effects {
-        let sets = find_set(file, c.props, c.when_at(e), SETS_EACH);
-        if let Check::Refused(why) = sets {
-            return Check::Refused(why);
-        }
+        find_set(file, c.props, c.when_at(e), SETS_EACH)?;
     }
-    Check::Passed
+    Ok(())
 }
 
 // Cause 5, of the sets before the start states.
-fn find_action_set(file: &[u8], c: Counts) -> Check
+fn find_action_set(file: &[u8], c: Counts) -> Result<(), Refusal>
     requires { Ranged c × (length file.now ≡ F.right_length c) }
-    ensures { check_verdict result ≡ R.action_sets file.now c }
+    ensures { verdict result ≡ R.action_sets file.now c }
 {
     if c.version == PLAIN_VERSION {
         return find_set(file, c.props, HEAD_BYTES, SETS_EACH * c.actions);
     }
-    let pre = find_set(file, c.props, LONG_HEAD, c.actions);
-    if let Check::Refused(why) = pre {
-        return Check::Refused(why);
-    }
+    find_set(file, c.props, LONG_HEAD, c.actions)?;
     find_effect_set(file, c)
 }
 
 // Cause 5, of all sets of the file, one after the other.
-fn find_sets(file: &[u8], c: Counts) -> Check
+fn find_sets(file: &[u8], c: Counts) -> Result<(), Refusal>
     requires { Ranged c × (length file.now ≡ F.right_length c) }
-    ensures { check_verdict result ≡ R.sets_rule file.now c }
+    ensures { verdict result ≡ R.sets_rule file.now c }
 {
-    let actions = find_action_set(file, c);
-    if let Check::Refused(why) = actions {
-        return Check::Refused(why);
-    }
+    find_action_set(file, c)?;
     find_set(file, c.props, c.states_at(), c.states)
 }
 
 // Cause 5: with the most propositions no set has room for another; else, where no proposition of P or above is in all sets together, none has one.
-fn check_sets(file: &[u8], c: Counts) -> Check
+fn check_sets(file: &[u8], c: Counts) -> Result<(), Refusal>
     requires { Ranged c × (length file.now ≡ F.right_length c) }
-    ensures { check_verdict result ≡ R.sets_rule file.now c }
+    ensures { verdict result ≡ R.sets_rule file.now c }
 {
     if PROP_WIDTH <= c.props {
-        return Check::Passed;
+        return Ok(());
     }
     if joined_all(file, c) <= Props::first(c.props).0 {
-        return Check::Passed;
+        return Ok(());
     }
     find_sets(file, c)
 }
@@ -286,16 +270,16 @@ pub(crate) fn owner_at(file: &[u8], c: Counts, e: usize) -> usize
 }
 
 // The first effect whose number is that of no action.
-fn find_stray(file: &[u8], c: Counts) -> Check
+fn find_stray(file: &[u8], c: Counts) -> Result<(), Refusal>
     requires { Ranged c × So (fails (F.plain c)) × (length file.now ≡ F.right_length c) }
-    ensures { check_verdict result ≡ R.owners_rule file.now c }
+    ensures { verdict result ≡ R.owners_rule file.now c }
 {
     for e in 0..c.effects {
         if c.actions <= owner_at(file, c, e) {
-            return Check::Refused(Refusal::EffectAction(c.effect_at(e)));
+            return Err(Refusal::EffectAction(c.effect_at(e)));
         }
     }
-    Check::Passed
+    Ok(())
 }
 
 // The larger of two numbers.
@@ -321,20 +305,20 @@ fn last_owner(file: &[u8], c: Counts) -> usize
 }
 
 // Version 2: cause 16; where the largest number is that of an action, all are.
-fn check_owners(file: &[u8], c: Counts) -> Check
+fn check_owners(file: &[u8], c: Counts) -> Result<(), Refusal>
     requires { Ranged c × So (fails (F.plain c)) × (length file.now ≡ F.right_length c) }
-    ensures { check_verdict result ≡ R.owners_rule file.now c }
+    ensures { verdict result ≡ R.owners_rule file.now c }
 {
     if last_owner(file, c) < c.actions {
-        return Check::Passed;
+        return Ok(());
     }
     find_stray(file, c)
 }
 
 // Causes 16 and 15: in version 1 each effect has its action, and in version 2 equal actions are not looked for.
-fn check_actions(file: &[u8], c: Counts) -> Check
+fn check_actions(file: &[u8], c: Counts) -> Result<(), Refusal>
     requires { Ranged c × (length file.now ≡ F.right_length c) }
-    ensures { check_verdict result ≡ R.actions_rule file.now c }
+    ensures { verdict result ≡ R.actions_rule file.now c }
 {
     if c.version == PLAIN_VERSION {
         return check_equal(file, c);
@@ -343,33 +327,15 @@ fn check_actions(file: &[u8], c: Counts) -> Check
 }
 
 // Causes 1 to 5, 16 and 15, in order.
-pub fn check_file(file: &[u8]) -> FileAnswer
-    ensures { R.file_verdict result ≡ R.file_rule file.now }
+pub fn check_file(file: &[u8]) -> Result<Counts, Refusal>
+    ensures { verdict result ≡ R.file_rule file.now }
 {
-    let head = check_head(file);
-    if let Check::Refused(why) = head {
-        return FileAnswer::Refused(why);
-    }
-    let version = check_version(file);
-    if let Check::Refused(why) = version {
-        return FileAnswer::Refused(why);
-    }
+    check_head(file)?;
+    check_version(file)?;
     let c = counts(file);
-    let ranged = check_counts(c);
-    if let Check::Refused(why) = ranged {
-        return FileAnswer::Refused(why);
-    }
-    let long = check_length(file, c);
-    if let Check::Refused(why) = long {
-        return FileAnswer::Refused(why);
-    }
-    let sets = check_sets(file, c);
-    if let Check::Refused(why) = sets {
-        return FileAnswer::Refused(why);
-    }
-    let actions = check_actions(file, c);
-    if let Check::Refused(why) = actions {
-        return FileAnswer::Refused(why);
-    }
-    FileAnswer::Taken(c)
+    check_counts(c)?;
+    check_length(file, c)?;
+    check_sets(file, c)?;
+    check_actions(file, c)?;
+    Ok(c)
 }

@@ -1,111 +1,93 @@
 -- `file::check_file` meets its contract: each link turns the file away with its own cause, in order; when all are passed, it is taken.
-use mathlib.Core.Path.{◌≡◌, sym, ap, subst, ◌∙◌}
+use mathlib.Core.Path.{◌≡◌, refl, sym, ap, subst, ◌∙◌}
 use mathlib.Core.List.{List}
 use Prim.Native.Nat.{ℕ}
 use lib.ListN.{length}
 use Rattle.graph.specs.Format.{counts_in, right_length}
-use Rattle.graph.specs.File.{Ranged, head_rule, version_rule, counts_rule, length_rule, sets_rule, actions_rule}
-use Rattle.graph.specs.Checks.{check_verdict}
-use Rattle.graph.specs.Verdict.{accepted}
-use Rattle.graph.proofs.Verdicts.{told}
-use Rattle.graph.proofs.Ladder.{head_means, effects_inside, counts_mean, length_means, linked_taken, by_head, by_version, by_counts, by_length, by_sets, by_actions}
+use Rattle.graph.specs.File.{Ranged, head_rule, version_rule, counts_rule, length_rule, sets_rule, actions_rule, file_rule}
+use Rattle.graph.specs.Verdict.{Verdict, accepted, and_then}
+use Rattle.graph.specs.declared.format.Counts.{Counts}
+use Rattle.graph.proofs.Verdicts.{ends_at, goes_on}
+use Rattle.graph.proofs.Ladder.{head_means, effects_inside, counts_mean, length_means}
 use Rattle.graph.proofs.file.check_file.Goals as goal
-use Rattle.graph.proofs.file.check_file.Goals.{In_default, In_default-actions, In_default-long, In_default-ranged, In_default-sets, In_default-version}
+use Rattle.graph.proofs.file.check_file.Goals.{In_ok-check_counts, In_ok-check_length}
 
--- what each link that was passed says
-headed : (c : In_default) → head_rule c.args.file.now ≡ accepted tt
-headed c = told check_verdict c.check_head-head.ensures c.in_default.is
+-- the links behind the version, of these counts
+abbrev behind : List ℕ → Counts → Verdict Counts
+behind file c =
+    and_then (counts_rule c) (λ _.
+    and_then (length_rule file c) (λ _.
+    and_then (sets_rule file c) (λ _.
+    and_then (actions_rule file c) (λ _.
+    accepted c))))
 
-versioned : (c : In_default-version) → version_rule c.args.file.now ≡ accepted tt
-versioned c = told check_verdict c.check_version-version.ensures c.in_default-version.is
-
-abbrev file : In_default-ranged → List ℕ
-file c = c.args.file.now
-
-are : (c : In_default-ranged) → c.counts-c.result ≡ counts_in (file c)
-are c = c.counts-c.ensures
-
-ranged : (c : In_default-ranged) → counts_rule (counts_in (file c)) ≡ accepted tt
-ranged c =
-    ap counts_rule (sym (are c)) ∙ told check_verdict c.check_counts-ranged.ensures c.in_default-ranged.is
-
-long : (c : In_default-long) → length_rule (c.args.file.now) (counts_in (c.args.file.now)) ≡ accepted tt
-long c =
-    ap (length_rule (c.args.file.now)) (sym (c.counts-c.ensures))
-    ∙ told check_verdict c.check_length-long.ensures c.in_default-long.is
-
-inside : (c : In_default-sets) → sets_rule (c.args.file.now) (counts_in (c.args.file.now)) ≡ accepted tt
-inside c =
-    ap (sets_rule (c.args.file.now)) (sym (c.counts-c.ensures))
-    ∙ told check_verdict c.check_sets-sets.ensures c.in_default-sets.is
-
-passed : (c : In_default-actions) → actions_rule (c.args.file.now) (counts_in (c.args.file.now)) ≡ accepted tt
-passed c =
-    ap (actions_rule (c.args.file.now)) (sym (c.counts-c.ensures)) ∙ told check_verdict c.check_actions-actions.ensures c.in_default-actions.is
+whole : (file : List ℕ) (c : Counts) {v : Verdict Counts} → accepted tt ≡ head_rule file → accepted tt ≡ version_rule file → c ≡ counts_in file
+    → v ≡ behind file c → v ≡ file_rule file
+unfolding file_rule
+whole file c h w e q = goes_on _ _ _ h (goes_on _ _ _ w (q ∙ ap (behind file) e))
 
 -- the counts that were read are in their ranges, and the file is as long as they say
-in-range : (c : In_default-ranged) → Ranged c.counts-c.result
-in-range c = subst Ranged (sym (are c)) (counts_mean _ (ranged c))
+in-range : (c : In_ok-check_counts) → Ranged c.counts-c.result
+in-range c = subst Ranged (sym c.counts-c.ensures) (counts_mean _ (ap counts_rule (sym c.counts-c.ensures) ∙ sym c.in_ok-check_counts.ensures))
 
-fits : (c : In_default-long) → Ranged c.counts-c.result × (length (c.args.file.now) ≡ right_length c.counts-c.result)
-fits c =
-    ((subst Ranged (sym (c.counts-c.ensures)) (counts_mean _ ((ap counts_rule (sym (c.counts-c.ensures)) ∙ told check_verdict c.check_counts-ranged.ensures c.in_default-ranged.is)))), length_means _ _ (told check_verdict c.check_length-long.ensures c.in_default-long.is))
+fits : (c : In_ok-check_length) → Ranged c.counts-c.result × (length c.args.file.now ≡ right_length c.counts-c.result)
+fits c = (
+  subst Ranged (sym c.counts-c.ensures) (counts_mean _ (ap counts_rule (sym c.counts-c.ensures) ∙ sym c.in_ok-check_counts.ensures)),
+  length_means _ _ (sym c.in_ok-check_length.ensures),
+)
 
-pub returns-in-Refused : goal.returns-in-Refused
-returns-in-Refused c = sym (by_head _ _ _ (told check_verdict c.check_head-head.ensures c.in-Refused.is))
+pub returns-in_err-check_head : goal.returns-in_err-check_head
+unfolding file_rule
+returns-in_err-check_head c = ends_at _ _ _ _ c.from_residual.ensures.1 c.in_err-check_head.ensures
 
-pub check_version-version-requires : goal.check_version-version-requires
-check_version-version-requires c = (head_means _ (headed (goal.at.check_version-version-requires c).In_default)).bytes
+pub check_version-requires : goal.check_version-requires
+check_version-requires c = (head_means _ (sym c.in_ok-check_head.ensures)).bytes
 
-pub returns-in-Refused-version : goal.returns-in-Refused-version
-returns-in-Refused-version c =
-    sym (by_version _ _ _ (headed (goal.at.returns-in-Refused-version c).In_default)
-    (told check_verdict c.check_version-version.ensures c.in-Refused-version.is))
+pub returns-in_err-check_version : goal.returns-in_err-check_version
+unfolding file_rule
+returns-in_err-check_version c =
+    goes_on _ _ _ c.in_ok-check_head.ensures (ends_at _ _ _ _ c.from_residual-in_err-check_version.ensures.1 c.in_err-check_version.ensures)
 
 pub counts-c-requires : goal.counts-c-requires
-counts-c-requires c = ((head_means _ (headed (goal.at.counts-c-requires c).In_default)).bytes, effects_inside _ (headed (goal.at.counts-c-requires c).In_default) (versioned (goal.at.counts-c-requires c).In_default-version))
+counts-c-requires c = (
+  (head_means _ (sym c.in_ok-check_head.ensures)).bytes,
+  effects_inside _ (sym c.in_ok-check_head.ensures) (sym c.in_ok-check_version.ensures),
+)
 
-pub returns-in-Refused-ranged : goal.returns-in-Refused-ranged
-returns-in-Refused-ranged c =
-    sym (by_counts _ _ _ (headed (goal.at.returns-in-Refused-ranged c).In_default) (versioned (goal.at.returns-in-Refused-ranged c).In_default-version)
-    (ap counts_rule (sym c.counts-c.ensures)
-    ∙ told check_verdict c.check_counts-ranged.ensures c.in-Refused-ranged.is))
+pub returns-in_err-check_counts : goal.returns-in_err-check_counts
+returns-in_err-check_counts c = whole _ c.counts-c.result c.in_ok-check_head.ensures c.in_ok-check_version.ensures c.counts-c.ensures
+    (ends_at _ _ _ _ c.from_residual-in_err-check_counts.ensures.1 c.in_err-check_counts.ensures)
 
-pub check_length-long-requires : goal.check_length-long-requires
-check_length-long-requires c = in-range (goal.at.check_length-long-requires c).In_default-ranged
+pub check_length-requires : goal.check_length-requires
+check_length-requires c = in-range (goal.at.check_length-requires c).In_ok-check_counts
 
-pub returns-in-Refused-long : goal.returns-in-Refused-long
-returns-in-Refused-long c =
-    sym (by_length _ _ _ (headed (goal.at.returns-in-Refused-long c).In_default) (versioned (goal.at.returns-in-Refused-long c).In_default-version) (ranged (goal.at.returns-in-Refused-long c).In_default-ranged)
-    (ap (length_rule (file (goal.at.returns-in-Refused-long c).In_default-ranged)) (sym (are (goal.at.returns-in-Refused-long c).In_default-ranged))
-    ∙ told check_verdict c.check_length-long.ensures c.in-Refused-long.is))
+pub returns-in_err-check_length : goal.returns-in_err-check_length
+returns-in_err-check_length c = whole _ c.counts-c.result c.in_ok-check_head.ensures c.in_ok-check_version.ensures c.counts-c.ensures
+    (goes_on _ _ _ c.in_ok-check_counts.ensures
+    (ends_at _ _ _ _ c.from_residual-in_err-check_length.ensures.1 c.in_err-check_length.ensures))
 
-pub check_sets-sets-requires : goal.check_sets-sets-requires
-check_sets-sets-requires c = fits (goal.at.check_sets-sets-requires c).In_default-long
+pub check_sets-requires : goal.check_sets-requires
+check_sets-requires c = fits (goal.at.check_sets-requires c).In_ok-check_length
 
-pub returns-in-Refused-sets : goal.returns-in-Refused-sets
-returns-in-Refused-sets c =
-    sym (by_sets _ _ _ (headed (goal.at.returns-in-Refused-sets c).In_default) (versioned (goal.at.returns-in-Refused-sets c).In_default-version) (ranged (goal.at.returns-in-Refused-sets c).In_default-ranged) (long (goal.at.returns-in-Refused-sets c).In_default-long)
-    (ap (sets_rule (file (goal.at.returns-in-Refused-sets c).In_default-ranged)) (sym (are (goal.at.returns-in-Refused-sets c).In_default-ranged))
-    ∙ told check_verdict c.check_sets-sets.ensures c.in-Refused-sets.is))
+pub returns-in_err-check_sets : goal.returns-in_err-check_sets
+returns-in_err-check_sets c = whole _ c.counts-c.result c.in_ok-check_head.ensures c.in_ok-check_version.ensures c.counts-c.ensures
+    (goes_on _ _ _ c.in_ok-check_counts.ensures
+    (goes_on _ _ _ c.in_ok-check_length.ensures
+    (ends_at _ _ _ _ c.from_residual-in_err-check_sets.ensures.1 c.in_err-check_sets.ensures)))
 
-pub check_actions-actions-requires : goal.check_actions-actions-requires
-check_actions-actions-requires c = fits (goal.at.check_actions-actions-requires c).In_default-long
+pub check_actions-requires : goal.check_actions-requires
+check_actions-requires c = fits (goal.at.check_actions-requires c).In_ok-check_length
 
-pub returns-in-Refused-actions : goal.returns-in-Refused-actions
-returns-in-Refused-actions c =
-    sym (by_actions _ _ _ (headed (goal.at.returns-in-Refused-actions c).In_default) (versioned (goal.at.returns-in-Refused-actions c).In_default-version) (ranged (goal.at.returns-in-Refused-actions c).In_default-ranged) (long (goal.at.returns-in-Refused-actions c).In_default-long) (inside (goal.at.returns-in-Refused-actions c).In_default-sets)
-    (ap (actions_rule (file (goal.at.returns-in-Refused-actions c).In_default-ranged)) (sym (are (goal.at.returns-in-Refused-actions c).In_default-ranged))
-    ∙ told check_verdict c.check_actions-actions.ensures c.in-Refused-actions.is))
+pub returns-in_err-check_actions : goal.returns-in_err-check_actions
+returns-in_err-check_actions c = whole _ c.counts-c.result c.in_ok-check_head.ensures c.in_ok-check_version.ensures c.counts-c.ensures
+    (goes_on _ _ _ c.in_ok-check_counts.ensures
+    (goes_on _ _ _ c.in_ok-check_length.ensures
+    (goes_on _ _ _ c.in_ok-check_sets.ensures
+    (ends_at _ _ _ _ c.from_residual-in_err-check_actions.ensures.1 c.in_err-check_actions.ensures))))
 
 pub returns : goal.returns
-returns c =
-    sym (linked_taken _ _ (record {
-      head = headed (goal.at.returns c).In_default;
-      version = versioned (goal.at.returns c).In_default-version;
-      counts = ranged (goal.at.returns c).In_default-ranged;
-      length = long (goal.at.returns c).In_default-long;
-      sets = inside (goal.at.returns c).In_default-sets;
-      actions = passed (goal.at.returns c).In_default-actions;
-      are = are (goal.at.returns c).In_default-ranged;
-    }))
+returns c = whole _ c.counts-c.result c.in_ok-check_head.ensures c.in_ok-check_version.ensures c.counts-c.ensures
+    (goes_on _ _ _ c.in_ok-check_counts.ensures
+    (goes_on _ _ _ c.in_ok-check_length.ensures
+    (goes_on _ _ _ c.in_ok-check_sets.ensures
+    (goes_on _ _ _ c.in_ok-check_actions.ensures refl))))

@@ -1,15 +1,14 @@
 -- `file::find_sets` meets its contract: those before the start states, then these.
-use mathlib.Core.Path.{sym, ap, ◌∙◌}
+use mathlib.Core.Path.{ap, ◌∙◌}
 use Rattle.graph.specs.File.{sets_from, sets_rule}
-use Rattle.graph.specs.Checks.{check_verdict}
-use Rattle.graph.proofs.Verdicts.{told, then_refused, then_accepted}
+use Rattle.graph.proofs.Verdicts.{ends_at, goes_on}
 use Rattle.graph.proofs.file.find_sets.Goals as goal
 
-pub returns-in-Refused : goal.returns-in-Refused
+pub returns-in_err-find_action_set : goal.returns-in_err-find_action_set
 unfolding sets_rule
-returns-in-Refused c = sym (then_refused _ _ _ _ (told check_verdict c.find_action_set-actions.ensures c.in-Refused.is))
+returns-in_err-find_action_set c = ends_at _ _ _ _ c.from_residual.ensures.1 c.in_err-find_action_set.ensures
 
 pub returns : goal.returns
 unfolding sets_rule
-returns c = c.find_set.ensures ∙ ap (sets_from c.args.file.now c.args.c.props c.args.c.states) c.states_at.ensures.0
-    ∙ sym (then_accepted _ _ tt (told check_verdict c.find_action_set-actions.ensures c.in_default.is))
+returns c = goes_on _ _ tt c.in_ok-find_action_set.ensures
+    (c.find_set.ensures ∙ ap (sets_from c.args.file.now c.args.c.props c.args.c.states) c.states_at.ensures.0)
