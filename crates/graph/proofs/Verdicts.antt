@@ -10,7 +10,7 @@ use lib.ListN.{length, drop}
 use Rattle.rules.specs.Test.{fails, choose}
 use Rattle.std.specs.Prelude.{Result, IsErrAnd}
 use Rattle.std.proofs.lemmas.Result.{err_from_is_err_and}
-use Rattle.graph.specs.Verdict.{Verdict, accepted, refused, turned_away, verdict, and_then, laid, written}
+use Rattle.graph.specs.Verdict.{Verdict, accepted, refused, turned_away, verdict_by, and_then, laid, written}
 use Rattle.graph.specs.declared.refusal.Refusal.{Refusal}
 use Rattle.words.specs.Memory.{put_at}
 
@@ -28,13 +28,13 @@ unfolding and_then
 then_accepted v next x e = ap (λ (y : Verdict _). and_then y next) e
 
 -- what `?` hands on where a check is refused is that refusal
-pub handed_on : {X : Type 0} (r : Result X Refusal) (why : Refusal) → IsErrAnd r (λ w. w ≡ why) → verdict r ≡ turned_away why
-handed_on r why h = let e = err_from_is_err_and r h in ap verdict e.1 ∙ ap turned_away e.2
+pub handed_on : {X Y : Type 0} (says : X → Y) (r : Result X Refusal) (why : Refusal) → IsErrAnd r (λ w. w ≡ why) → verdict_by says r ≡ turned_away why
+handed_on says r why h = let e = err_from_is_err_and r h in ap (verdict_by says) e.1 ∙ ap turned_away e.2
 
 -- so a chain of checks ends at a `?` that is refused, and goes on behind one that is passed
-pub ends_at : {X Y : Type 0} (r : Result X Refusal) (why : Refusal) (v : Verdict Y) (next : Y → Verdict X) → IsErrAnd r (λ w. w ≡ why) → turned_away why ≡ v
-    → verdict r ≡ and_then v next
-ends_at r why v next h e = handed_on r why h ∙ sym (then_refused v next _ _ (sym e))
+pub ends_at : {X Y Z : Type 0} (says : X → Y) (r : Result X Refusal) (why : Refusal) (v : Verdict Z) (next : Z → Verdict Y) → IsErrAnd r (λ w. w ≡ why) → turned_away why ≡ v
+    → verdict_by says r ≡ and_then v next
+ends_at says r why v next h e = handed_on says r why h ∙ sym (then_refused v next _ _ (sym e))
 
 pub goes_on : {X Y : Type 0} {w : Verdict X} (v : Verdict Y) (next : Y → Verdict X) (y : Y) → accepted y ≡ v → w ≡ next y → w ≡ and_then v next
 goes_on v next y e q = q ∙ sym (then_accepted v next y (sym e))

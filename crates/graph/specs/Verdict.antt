@@ -56,9 +56,12 @@ abbrev pub turned_away : {X : Type 0} → Refusal → Verdict X
 turned_away why = refused (number_of why) (place_of why)
 
 -- what a function's answer says: 'each answer holds the number and a place', or what the call gives
+abbrev pub verdict_by : {X Y : Type 0} → (X → Y) → Result X Refusal → Verdict Y
+verdict_by says (Ok x) = accepted (says x)
+verdict_by says (Err why) = turned_away why
+
 abbrev pub verdict : {X : Type 0} → Result X Refusal → Verdict X
-verdict (Ok x) = accepted x
-verdict (Err why) = turned_away why
+verdict r = verdict_by (λ x. x) r
 
 -- 'Checks go in rising number .. the first cause that holds is answered': the next check, once this one is passed
 unfoldable pub and_then : {X Y : Type 0} → Verdict X → (X → Verdict Y) → Verdict Y

@@ -76,7 +76,12 @@ pub fn check_asked(c: Counts, set: States, goal: Props) -> Result<(), Refusal>
 }
 
 // Causes 6 to 9: `asked` is what was found of the set and the goal, `Ok` for a call that takes neither.
-pub fn check_graph(c: Counts, depth: usize, asked: Result<(), Refusal>, have: usize) -> Result<(), Refusal>
+pub fn check_graph(
+    c: Counts,
+    depth: usize,
+    asked: Result<(), Refusal>,
+    have: usize,
+) -> Result<(), Refusal>
     requires { Ranged c }
     ensures { verdict result ≡ C.graph_rule c depth (verdict asked) have }
 {

@@ -1,10 +1,10 @@
 // Any bytes of any length are taken as a problem file, with their counts, or turned away: a chain of causes, each a check of its own.
-ghost use Rattle.std.specs.Prelude.{◌≡◌, ◌+◌, ◌*◌, ◌^◌, ◌≤◌, ◌<◌, length, get_or};
+ghost use Rattle.std.specs.Prelude.{◌≡◌, ◌+◌, ◌*◌, ◌^◌, ◌≤◌, ◌<◌, length, get_or, IfOk};
 ghost use Rattle.std.proofs.Math.Bool.{So};
 ghost use Rattle.rules.specs.Test.{fails};
 ghost use Rattle.rules.specs.Over.{join_over};
 ghost use Rattle.words.specs.Width.{prop_width};
-ghost use Rattle.graph.specs.Verdict.{accepted, verdict};
+ghost use Rattle.graph.specs.Verdict.{accepted, verdict, verdict_by};
 ghost use Rattle.graph.specs.File.{Ranged};
 ghost use Rattle.graph.specs.File as R;
 ghost use Rattle.graph.specs.Format as F;
@@ -16,6 +16,7 @@ use crate::format::{
 };
 use crate::limits::{MAX_ACTIONS, MAX_EFFECTS};
 use crate::refusal::Refusal;
+use crate::view::View;
 use words::sets::{PROP_WIDTH, Props, STATE_WIDTH};
 
 pub fn byte(file: &[u8], at: usize) -> usize
@@ -327,8 +328,9 @@ fn check_actions(file: &[u8], c: Counts) -> Result<(), Refusal>
 }
 
 // Causes 1 to 5, 16 and 15, in order.
-pub fn check_file(file: &[u8]) -> Result<Counts, Refusal>
-    ensures { verdict result ≡ R.file_rule file.now }
+pub fn check_file<'a>(file: &'a [u8]) -> Result<View<'a>, Refusal>
+    ensures rule { verdict_by (λ v. v.counts) result ≡ R.file_rule file.now }
+    ensures bytes { IfOk result (λ v. v.bytes ≡ file.entry) }
 {
     check_head(file)?;
     check_version(file)?;
@@ -337,5 +339,6 @@ pub fn check_file(file: &[u8]) -> Result<Counts, Refusal>
     check_length(file, c)?;
     check_sets(file, c)?;
     check_actions(file, c)?;
-    Ok(c)
+    let view = View::new(file, c);
+    Ok(view)
 }

@@ -12,4 +12,4 @@ pub mod format;
 pub mod layout;
 pub mod limits;
 pub mod read;
-mod view;
+pub mod view;

@@ -5,7 +5,7 @@ use Rattle.graph.proofs.checks.check_asked.Goals as goal
 
 pub returns-in_err-check_set : goal.returns-in_err-check_set
 unfolding asked_rule
-returns-in_err-check_set c = ends_at _ _ _ _ c.from_residual.ensures.1 c.in_err-check_set.ensures
+returns-in_err-check_set c = ends_at _ _ _ _ _ c.from_residual.ensures.1 c.in_err-check_set.ensures
 
 pub returns : goal.returns
 unfolding asked_rule

@@ -11,12 +11,12 @@ use Rattle.graph.proofs.checks.check_graph.Goals as goal
 
 pub returns-in_err-check_depth : goal.returns-in_err-check_depth
 unfolding graph_rule
-returns-in_err-check_depth c = ends_at _ _ _ _ c.from_residual.ensures.1 c.in_err-check_depth.ensures
+returns-in_err-check_depth c = ends_at _ _ _ _ _ c.from_residual.ensures.1 c.in_err-check_depth.ensures
 
 pub returns-in_err-asked : goal.returns-in_err-asked
 unfolding graph_rule
 returns-in_err-asked c = goes_on _ _ _ c.in_ok-check_depth.ensures
-    (ends_at _ _ _ _ c.from_residual-in_err-asked.ensures.1 (sym (ap verdict c.in_err-asked.was)))
+    (ends_at _ _ _ _ _ c.from_residual-in_err-asked.ensures.1 (sym (ap verdict c.in_err-asked.was)))
 
 pub word_count-requires : goal.word_count-requires
 word_count-requires c = (

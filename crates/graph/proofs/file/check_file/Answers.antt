@@ -8,9 +8,9 @@ use Rattle.graph.specs.File.{Ranged, head_rule, version_rule, counts_rule, lengt
 use Rattle.graph.specs.Verdict.{Verdict, accepted, and_then}
 use Rattle.graph.specs.declared.format.Counts.{Counts}
 use Rattle.graph.proofs.Verdicts.{ends_at, goes_on}
-use Rattle.graph.proofs.Ladder.{head_means, effects_inside, counts_mean, length_means}
+use Rattle.graph.proofs.Ladder.{head_means, effects_inside, counts_mean, length_means, taken_means}
 use Rattle.graph.proofs.file.check_file.Goals as goal
-use Rattle.graph.proofs.file.check_file.Goals.{In_ok-check_counts, In_ok-check_length}
+use Rattle.graph.proofs.file.check_file.Goals.{In_ok-check_counts, In_ok-check_length, In_ok-check_actions}
 
 -- the links behind the version, of these counts
 abbrev behind : List ℕ → Counts → Verdict Counts
@@ -36,17 +36,17 @@ fits c = (
   length_means _ _ (sym c.in_ok-check_length.ensures),
 )
 
-pub returns-in_err-check_head : goal.returns-in_err-check_head
+pub returns-in_err-check_head-clause-rule : goal.returns-in_err-check_head-clause-rule
 unfolding file_rule
-returns-in_err-check_head c = ends_at _ _ _ _ c.from_residual.ensures.1 c.in_err-check_head.ensures
+returns-in_err-check_head-clause-rule c = ends_at _ _ _ _ _ c.from_residual.ensures.1 c.in_err-check_head.ensures
 
 pub check_version-requires : goal.check_version-requires
 check_version-requires c = (head_means _ (sym c.in_ok-check_head.ensures)).bytes
 
-pub returns-in_err-check_version : goal.returns-in_err-check_version
+pub returns-in_err-check_version-clause-rule : goal.returns-in_err-check_version-clause-rule
 unfolding file_rule
-returns-in_err-check_version c =
-    goes_on _ _ _ c.in_ok-check_head.ensures (ends_at _ _ _ _ c.from_residual-in_err-check_version.ensures.1 c.in_err-check_version.ensures)
+returns-in_err-check_version-clause-rule c =
+    goes_on _ _ _ c.in_ok-check_head.ensures (ends_at _ _ _ _ _ c.from_residual-in_err-check_version.ensures.1 c.in_err-check_version.ensures)
 
 pub counts-c-requires : goal.counts-c-requires
 counts-c-requires c = (
@@ -54,40 +54,47 @@ counts-c-requires c = (
   effects_inside _ (sym c.in_ok-check_head.ensures) (sym c.in_ok-check_version.ensures),
 )
 
-pub returns-in_err-check_counts : goal.returns-in_err-check_counts
-returns-in_err-check_counts c = whole _ c.counts-c.result c.in_ok-check_head.ensures c.in_ok-check_version.ensures c.counts-c.ensures
-    (ends_at _ _ _ _ c.from_residual-in_err-check_counts.ensures.1 c.in_err-check_counts.ensures)
+pub returns-in_err-check_counts-clause-rule : goal.returns-in_err-check_counts-clause-rule
+returns-in_err-check_counts-clause-rule c = whole _ c.counts-c.result c.in_ok-check_head.ensures c.in_ok-check_version.ensures c.counts-c.ensures
+    (ends_at _ _ _ _ _ c.from_residual-in_err-check_counts.ensures.1 c.in_err-check_counts.ensures)
 
 pub check_length-requires : goal.check_length-requires
 check_length-requires c = in-range (goal.at.check_length-requires c).In_ok-check_counts
 
-pub returns-in_err-check_length : goal.returns-in_err-check_length
-returns-in_err-check_length c = whole _ c.counts-c.result c.in_ok-check_head.ensures c.in_ok-check_version.ensures c.counts-c.ensures
+pub returns-in_err-check_length-clause-rule : goal.returns-in_err-check_length-clause-rule
+returns-in_err-check_length-clause-rule c = whole _ c.counts-c.result c.in_ok-check_head.ensures c.in_ok-check_version.ensures c.counts-c.ensures
     (goes_on _ _ _ c.in_ok-check_counts.ensures
-    (ends_at _ _ _ _ c.from_residual-in_err-check_length.ensures.1 c.in_err-check_length.ensures))
+    (ends_at _ _ _ _ _ c.from_residual-in_err-check_length.ensures.1 c.in_err-check_length.ensures))
 
 pub check_sets-requires : goal.check_sets-requires
 check_sets-requires c = fits (goal.at.check_sets-requires c).In_ok-check_length
 
-pub returns-in_err-check_sets : goal.returns-in_err-check_sets
-returns-in_err-check_sets c = whole _ c.counts-c.result c.in_ok-check_head.ensures c.in_ok-check_version.ensures c.counts-c.ensures
+pub returns-in_err-check_sets-clause-rule : goal.returns-in_err-check_sets-clause-rule
+returns-in_err-check_sets-clause-rule c = whole _ c.counts-c.result c.in_ok-check_head.ensures c.in_ok-check_version.ensures c.counts-c.ensures
     (goes_on _ _ _ c.in_ok-check_counts.ensures
     (goes_on _ _ _ c.in_ok-check_length.ensures
-    (ends_at _ _ _ _ c.from_residual-in_err-check_sets.ensures.1 c.in_err-check_sets.ensures)))
+    (ends_at _ _ _ _ _ c.from_residual-in_err-check_sets.ensures.1 c.in_err-check_sets.ensures)))
 
 pub check_actions-requires : goal.check_actions-requires
 check_actions-requires c = fits (goal.at.check_actions-requires c).In_ok-check_length
 
-pub returns-in_err-check_actions : goal.returns-in_err-check_actions
-returns-in_err-check_actions c = whole _ c.counts-c.result c.in_ok-check_head.ensures c.in_ok-check_version.ensures c.counts-c.ensures
+pub returns-in_err-check_actions-clause-rule : goal.returns-in_err-check_actions-clause-rule
+returns-in_err-check_actions-clause-rule c = whole _ c.counts-c.result c.in_ok-check_head.ensures c.in_ok-check_version.ensures c.counts-c.ensures
     (goes_on _ _ _ c.in_ok-check_counts.ensures
     (goes_on _ _ _ c.in_ok-check_length.ensures
     (goes_on _ _ _ c.in_ok-check_sets.ensures
-    (ends_at _ _ _ _ c.from_residual-in_err-check_actions.ensures.1 c.in_err-check_actions.ensures))))
+    (ends_at _ _ _ _ _ c.from_residual-in_err-check_actions.ensures.1 c.in_err-check_actions.ensures))))
 
-pub returns : goal.returns
-returns c = whole _ c.counts-c.result c.in_ok-check_head.ensures c.in_ok-check_version.ensures c.counts-c.ensures
+-- with all links passed
+all-passed : (c : In_ok-check_actions) → accepted c.counts-c.result ≡ file_rule c.args.file.now
+all-passed c = whole _ c.counts-c.result c.in_ok-check_head.ensures c.in_ok-check_version.ensures c.counts-c.ensures
     (goes_on _ _ _ c.in_ok-check_counts.ensures
     (goes_on _ _ _ c.in_ok-check_length.ensures
     (goes_on _ _ _ c.in_ok-check_sets.ensures
     (goes_on _ _ _ c.in_ok-check_actions.ensures refl))))
+
+pub new-view-requires : goal.new-view-requires
+new-view-requires c = taken_means _ _ (sym (all-passed (goal.at.new-view-requires c).In_ok-check_actions))
+
+pub returns-clause-rule : goal.returns-clause-rule
+returns-clause-rule c = ap accepted c.new-view.ensures.1 ∙ all-passed (goal.at.returns-clause-rule c).In_ok-check_actions

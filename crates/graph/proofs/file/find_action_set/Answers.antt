@@ -19,7 +19,7 @@ find_set-requires-2 c = (c.requires.0.props, omega arith, omega (arith, c.requir
 
 pub returns-in_err-find_set : goal.returns-in_err-find_set
 unfolding action_sets
-returns-in_err-find_set c = ends_at _ _ _ _ c.from_residual.ensures.1 c.in_err-find_set.ensures ∙ sym (choose_failed _ _ (not_plain c.if-c-eq-PLAIN_VERSION.false))
+returns-in_err-find_set c = ends_at _ _ _ _ _ c.from_residual.ensures.1 c.in_err-find_set.ensures ∙ sym (choose_failed _ _ (not_plain c.if-c-eq-PLAIN_VERSION.false))
 
 pub find_effect_set-requires : goal.find_effect_set-requires
 find_effect_set-requires c = (c.requires.0, omega (arith, c.requires.1, states_long c.args.c (not_plain c.if-c-eq-PLAIN_VERSION.false)))

@@ -1,5 +1,5 @@
 -- `file::find_effect_set` meets its contract: the effects before this one have no such set.
-use mathlib.Core.Path.{◌≡◌, sym, ap, ◌∙◌}
+use mathlib.Core.Path.{sym, ap, ◌∙◌}
 use native.Mathlib.Omega.{arith}
 use Rattle.graph.specs.File.{sets_from}
 use Rattle.graph.proofs.Files.{effects_all, effects_bad, effects_next, effects_none}
@@ -16,7 +16,7 @@ pub find_set-requires : goal.find_set-requires
 find_set-requires c = (c.requires.0.props, omega (arith, c.when_at.ensures, c.loop-e-test.true, c.requires.0.effects, c.requires.0.actions), omega arith, omega (arith, c.when_at.ensures, c.loop-e-test.true, c.requires.1))
 
 pub returns-in_err-find_set : goal.returns-in_err-find_set
-returns-in_err-find_set c = handed_on _ _ c.from_residual.ensures.1 ∙ effects_bad _ _ c.loop-e.invariant c.loop-e-test.true _ _
+returns-in_err-find_set c = handed_on _ _ _ c.from_residual.ensures.1 ∙ effects_bad _ _ c.loop-e.invariant c.loop-e-test.true _ _
     (ap (sets_from c.args.file.now c.args.c.props 3) (sym c.when_at.ensures) ∙ sym c.in_err-find_set.ensures)
 
 pub loop-e-preserved : goal.loop-e-preserved

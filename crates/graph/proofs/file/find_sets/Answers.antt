@@ -6,7 +6,7 @@ use Rattle.graph.proofs.file.find_sets.Goals as goal
 
 pub returns-in_err-find_action_set : goal.returns-in_err-find_action_set
 unfolding sets_rule
-returns-in_err-find_action_set c = ends_at _ _ _ _ c.from_residual.ensures.1 c.in_err-find_action_set.ensures
+returns-in_err-find_action_set c = ends_at _ _ _ _ _ c.from_residual.ensures.1 c.in_err-find_action_set.ensures
 
 pub returns : goal.returns
 unfolding sets_rule

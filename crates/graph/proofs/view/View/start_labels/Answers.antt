@@ -8,16 +8,16 @@ use Rattle.rules.proofs.Layers.{length_list_over}
 use Rattle.words.specs.Rows.{row_length}
 use Rattle.words.proofs.Spreads.{columns_none, columns_more}
 use Rattle.graph.specs.Format.{start_of}
-use Rattle.graph.proofs.read.start_labels.Goals as goal
+use Rattle.graph.proofs.view.View.start_labels.Goals as goal
 
 pub loop-s-init : goal.loop-s-init
-loop-s-init c = (omega arith, refl, columns_none _ _ _ c.requires.1)
+loop-s-init c = (omega arith, refl, columns_none _ _ _ c.requires)
 
 pub single-requires : goal.single-requires
-single-requires c = omega (arith, c.loop-s-test.true, c.requires.0.ranged.states)
+single-requires c = omega (arith, c.loop-s-test.true, c.args.self.now.taken.ranged.states)
 
 pub spread-requires : goal.spread-requires
-spread-requires c = omega (arith, ap length c.loop-s.invariant.2, length_list_over row_length (start_label c.loop-s.s (start_of c.args.file.now c.args.c)))
+spread-requires c = omega (arith, ap length c.loop-s.invariant.2, length_list_over row_length (start_label c.loop-s.s (start_of c.args.self.now.bytes.now c.args.self.now.counts)))
 
 pub loop-s-preserved : goal.loop-s-preserved
 loop-s-preserved c =
@@ -35,5 +35,5 @@ pub returns : goal.returns
 returns c =
     let l = c.loop-s in
     let a = c.args in
-    let e : l.s ≡ a.c.states = omega (arith, l.invariant.0) in
-    l.invariant.2 ∙ ap (λ (x : ℕ). list_over row_length (start_label x (start_of a.file.now a.c))) e
+    let e : l.s ≡ a.self.now.counts.states = omega (arith, l.invariant.0) in
+    l.invariant.2 ∙ ap (λ (x : ℕ). list_over row_length (start_label x (start_of a.self.now.bytes.now a.self.now.counts))) e

@@ -2,7 +2,7 @@ use Rattle.words.proofs.Writes.{list_none, list_more, list_done}
 use native.Mathlib.Omega.{arith}
 use native.Mathlib.Nat.{zero-add}
 use mathlib.Core.Path.{sym}
-use Rattle.graph.proofs.read.lay_starts.Goals as goal
+use Rattle.graph.proofs.view.View.lay_starts.Goals as goal
 
 pub loop-s-init : goal.loop-s-init
 loop-s-init c = list_none (omega arith)

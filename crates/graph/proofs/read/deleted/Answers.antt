@@ -1,8 +1,0 @@
--- `read::deleted` meets its contract: it reads the set at its offset.
-use mathlib.Core.Path.{ap, ◌∙◌}
-use Rattle.graph.specs.Format.{set_at, actions_of}
-use Rattle.graph.proofs.read.deleted.Goals as goal
-
-pub returns : goal.returns
-unfolding actions_of
-returns c = c.set_of.ensures ∙ ap (set_at _) c.del_at.ensures.0

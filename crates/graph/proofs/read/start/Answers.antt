@@ -1,8 +1,0 @@
--- `read::start` meets its contract: it reads the set at its offset.
-use mathlib.Core.Path.{ap, ◌∙◌}
-use Rattle.graph.specs.Format.{set_at, start_of}
-use Rattle.graph.proofs.read.start.Goals as goal
-
-pub returns : goal.returns
-unfolding start_of
-returns c = c.set_of.ensures ∙ ap (set_at _) c.state_at.ensures
