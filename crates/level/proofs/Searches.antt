@@ -128,6 +128,10 @@ sought_found {f} {n} {i} s l t = first_unique s.within s.before (λ h. t)
 pub sought_done : {f : ℕ → Bool} {n i : ℕ} → Sought f n i → n ≤ i → i ≡ first_below n f
 sought_done {f} {n} {i} s l = first_unique s.within s.before (λ h. absurd (omega arith))
 
+-- the same, said of n
+pub sought_all : {f : ℕ → Bool} {n i : ℕ} → Sought f n i → n ≤ i → n ≡ first_below n f
+sought_all {f} {n} {i} s l = let e : n ≡ i = omega (arith, s.within) in e ∙ sought_done s l
+
 -- none up to i, none at i, and none from there on: the search goes on further up
 pub sought_over : {f : ℕ → Bool} {n i j : ℕ} → Sought f n i → (So (f i) → ⊥) → i + 1 ≤ j → j ≤ n → ((k : ℕ) → i + 1 ≤ k → k < j → So (f k) → ⊥) → Sought f n j
 sought_over {f} {n} {i} {j} s e h l over = record {

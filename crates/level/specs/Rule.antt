@@ -1,33 +1,24 @@
 -- The rules of the two calls: what turns each away, cause by cause, and what it answers once accepted ('Level and rest').
-use Rattle.std.specs.Prelude.{ℕ, List, length}
+use Rattle.std.specs.Prelude.{ℕ, List, Option, Some, None, length}
 use Rattle.rules.specs.Level.{Level, level, never, not_by_depth, level_of, Rest, rests_at, none, rest_of}
-use Rattle.graph.specs.Verdict.{Verdict, accepted, turned_away, and_then}
+use Rattle.graph.specs.Verdict.{Verdict, accepted, and_then}
 use Rattle.graph.specs.Format.{shape_in}
 use Rattle.graph.specs.File.{file_rule}
 use Rattle.graph.specs.Checks.{asked_rule, graph_rule}
 use Rattle.graph.specs.declared.format.Counts.{Counts}
 use Rattle.level.specs.declared.layers.Level as C
 use Rattle.level.specs.declared.layers.Level.TheVariants as said
-use Rattle.level.specs.declared.LevelAnswer.{LevelAnswer}
-use Rattle.level.specs.declared.LevelAnswer.TheVariants as answer
-use Rattle.level.specs.declared.RestAnswer.{RestAnswer}
-use Rattle.level.specs.declared.RestAnswer.TheVariants as rested
 
--- what a level says, and a level's answer
+-- what a level says
 abbrev pub level_said : C.Level → Level
 level_said (said.At t) = level t
 level_said said.Never = never
 level_said said.NotByDepth = not_by_depth
 
-abbrev pub level_verdict : LevelAnswer → Verdict Level
-level_verdict (answer.Level l) = accepted (level_said l)
-level_verdict (answer.Refused why) = turned_away why
-
--- what a rest's answer says: 'A call of its own answers its layer, or none.'
-abbrev pub rest_verdict : RestAnswer → Verdict Rest
-rest_verdict (rested.At t) = accepted (rests_at t)
-rest_verdict rested.None = accepted none
-rest_verdict (rested.Refused why) = turned_away why
+-- what a rest says: 'A call of its own answers its layer, or none.'
+abbrev pub rest_said : Option ℕ → Rest
+rest_said (Some t) = rests_at t
+rest_said None = none
 
 -- causes 6 to 9 of a level, the file being taken: 'Level, rest, extract and plan take the file and depth again and read the graph words as found, junk or not'
 unfoldable pub level_taken : Counts → ℕ → ℕ → ℕ → List ℕ → Verdict Level

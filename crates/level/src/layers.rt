@@ -1,39 +1,29 @@
 // The proposition layers up to a depth: the first that meets a goal, and whether and where one equals the next.
-ghost use Rattle.std.specs.Prelude.{◌≡◌, ◌+◌, ◌≤◌, ◌<◌, ◌^◌};
+ghost use Rattle.std.specs.Prelude.{◌≡◌, ◌+◌, ◌≤◌, ◌<◌, ◌^◌, length, IfOk};
 ghost use Rattle.rules.specs.Test.{below};
-ghost use Rattle.rules.specs.Over.{all_below};
 ghost use Rattle.rules.specs.Layer.{size, props_in};
 ghost use Rattle.rules.specs.Level as L;
-ghost use Rattle.graph.specs.Checks.{Room};
-ghost use Rattle.level.specs.Meets.{Judged, shown_at, PassedOver, same_at, Both, Begun};
+ghost use Rattle.graph.specs.Verdict.{verdict, verdict_by};
+ghost use Rattle.graph.specs.Format.{shape_in};
+ghost use Rattle.graph.specs.File.{Ranged};
+ghost use Rattle.graph.specs.Checks.{Room, graph_rule};
+ghost use Rattle.level.specs.Meets.{Judged, shown_at, PassedOver};
 ghost use Rattle.level.specs.Rule as R;
 
 use crate::goal::failing;
+use graph::checks::check_graph;
+use graph::format::Counts;
 use graph::layout::{layer_size, layer_start, stride};
+use graph::refusal::Refusal;
 use rules::Shape;
 use words::sets::{Props, States};
 
 // What the layers say of a goal.
-#[derive(Clone, Copy)]
+#[derive(Clone, Copy, PartialEq, Eq, Debug)]
 pub enum Level {
     At(usize),
     Never,
     NotByDepth,
-}
-
-// How many words are compared at once: at the front of two layers, and behind it.
-const FIRST: usize = 8;
-
-const BLOCK: usize = 16;
-
-// The place of a word of layer t that keeps the goal from being met, and the layer's size where it is met.
-pub fn failing_at(words: &[u64], s: Shape, t: usize, set: States, goal: Props) -> usize
-    requires { Room s t words.now × (goal.0 < 2 ^ s.props) }
-    ensures { Judged s.props (props_in s words.now t) set.0 goal.0 result }
-{
-    let at = layer_start(s, t);
-    let end = at + layer_size(s.props);
-    failing(&words[at..end], s.props, set, goal)
 }
 
 // What the word at this place shows of the set in a layer that meets the goal: a label all of it, a mutex word nothing.
@@ -46,177 +36,144 @@ pub fn shown(n: usize, set: States, place: usize) -> u64
     0
 }
 
-// The first layer from this one on whose word at the place shows that, and depth + 1 where none does: one word a layer is read.
-pub fn pass_over(
-    words: &[u64],
-    s: Shape,
-    depth: usize,
-    from: usize,
-    set: States,
-    place: usize,
-    shows: u64,
-) -> usize
-    requires { Room s depth words.now × (from ≤ depth + 1) × (place < size s.props) }
-    ensures { PassedOver s words.now depth set.0 place shows from result }
-{
-    let step = stride(s);
-    let mut at = from * step + place;
-    let mut t = from;
-    while t <= depth {
-        if words[at] & set.0 == shows {
-            return t;
-        }
-        at += step;
-        t += 1;
-    }
-    t
+// The words of a graph, read as layers up to a depth: there are as many words as that takes.
+#[derive(Clone, Copy)]
+pub struct Layers<'a> {
+    pub words: &'a [u64],
+    pub shape: Shape,
+    pub depth: usize,
+    pub ghost room: { Room shape depth words.now },
 }
 
-// The first layer from 0 to depth that meets a goal of its propositions, and depth + 1 where none does. After a layer that does not, those are passed over in which the same word fails.
-fn first_met_of(words: &[u64], s: Shape, depth: usize, set: States, goal: Props) -> usize
-    requires { Room s depth words.now × (goal.0 < 2 ^ s.props) }
-    ensures { result ≡ L.first_met s depth set.0 goal.0 words.now }
-{
-    let mut t = 0;
-    while t <= depth {
-        let place = failing_at(words, s, t, set, goal);
-        if layer_size(s.props) <= place {
-            return t;
-        }
-        t = pass_over(
+impl<'a> Layers<'a> {
+    // Causes 6 to 9, or the layers: `asked` is what was found of the set and the goal, `Ok` for a call that takes neither.
+    pub fn lent(
+        c: Counts,
+        depth: usize,
+        asked: Result<(), Refusal>,
+        words: &'a [u64],
+    ) -> Result<Layers<'a>, Refusal>
+        requires { Ranged c }
+        ensures rule { verdict_by (λ l. tt) result ≡ graph_rule c depth (verdict asked) (length words.now) }
+        ensures layers { IfOk result (λ l. (l.words ≡ words.entry) × (l.shape ≡ shape_in c) × (l.depth ≡ depth)) }
+    {
+        check_graph(c, depth, asked, words.len())?;
+        let shape = c.shape();
+        Ok(Layers {
             words,
-            s,
+            shape,
             depth,
-            t + 1,
-            set,
-            place,
-            shown(s.props, set, place),
-        );
+        })
     }
-    t
-}
 
-// The same of any goal: of one that has others, too, only those that the layers have count.
-pub fn first_met(words: &[u64], s: Shape, depth: usize, set: States, goal: Props) -> usize
-    requires { Room s depth words.now }
-    ensures { result ≡ L.first_met s depth set.0 goal.0 words.now }
-{
-    let held = goal.common(Props::first(s.props));
-    first_met_of(words, s, depth, set, held)
-}
-
-// Whether the words after two places are the same from one on, so many of them: no word ends the loop early, so that several are compared at once.
-fn same_block(words: &[u64], one: usize, other: usize, from: usize, block: usize) -> bool
-    requires { Both words.now one other (from + block) }
-    ensures { result ≡ all_below block (λ i. same_at words.now one other (from + i)) }
-{
-    let mut differ = 0;
-    for i in 0..block {
-        let k = from + i;
-        differ = differ | (words[one + k] ^ words[other + k]);
+    // Proposition layer t.
+    pub fn at(&self, t: usize) -> &[u64]
+        requires { t ≤ self.now.depth }
+        ensures { result.now ≡ props_in self.now.shape self.now.words.now t }
+    {
+        let start = layer_start(self.shape, t);
+        let end = start + layer_size(self.shape.props);
+        &self.words[start..end]
     }
-    differ == 0
-}
 
-// Whether so many words after two places are the same, where those before one are: word by word.
-fn same_last(words: &[u64], one: usize, other: usize, from: usize, count: usize) -> bool
-    requires { Begun words.now one other from count }
-    ensures { result ≡ all_below count (same_at words.now one other) }
-{
-    for i in from..count {
-        if words[one + i] != words[other + i] {
-            return false;
+    // The place of a word of layer t that keeps the goal from being met, and the layer's size where it is met.
+    pub fn failing_at(&self, t: usize, set: States, goal: Props) -> usize
+        requires { (t ≤ self.now.depth) × (goal.0 < 2 ^ self.now.shape.props) }
+        ensures { Judged self.now.shape.props (props_in self.now.shape self.now.words.now t) set.0 goal.0 result }
+    {
+        failing(self.at(t), self.shape.props, set, goal)
+    }
+
+    // The first layer from this one on whose word at the place shows that, and depth + 1 where none does: one word a layer is read.
+    pub fn pass_over(&self, from: usize, set: States, place: usize, shows: u64) -> usize
+        requires { (from ≤ self.now.depth + 1) × (place < size self.now.shape.props) }
+        ensures { PassedOver self.now.shape self.now.words.now self.now.depth set.0 place shows from result }
+    {
+        let step = stride(self.shape);
+        let end = self.depth + 1;
+        for t in from..end {
+            if self.words[t * step + place] & set.0 == shows {
+                return t;
+            }
         }
+        end
     }
-    true
-}
 
-// The same, block by block as far as there are whole ones.
-fn same_from(words: &[u64], one: usize, other: usize, from: usize, count: usize) -> bool
-    requires { Begun words.now one other from count }
-    ensures { result ≡ all_below count (same_at words.now one other) }
-{
-    let mut at = from;
-    while at + BLOCK <= count {
-        if !same_block(words, one, other, at, BLOCK) {
-            return false;
+    // The first layer from 0 to depth that meets a goal of its propositions, and depth + 1 where none does. After a layer that does not, those are passed over in which the same word fails.
+    fn first_met_of(&self, set: States, goal: Props) -> usize
+        requires { goal.0 < 2 ^ self.now.shape.props }
+        ensures { result ≡ L.first_met self.now.shape self.now.depth set.0 goal.0 self.now.words.now }
+    {
+        let n = self.shape.props;
+        let mut t = 0;
+        while t <= self.depth {
+            let place = self.failing_at(t, set, goal);
+            if layer_size(n) <= place {
+                return t;
+            }
+            t = self.pass_over(t + 1, set, place, shown(n, set, place));
         }
-        at += BLOCK;
+        t
     }
-    same_last(words, one, other, at, count)
-}
 
-// The same from the start. Two layers that differ do so mostly among the first labels.
-fn same_words(words: &[u64], one: usize, other: usize, count: usize) -> bool
-    requires { Both words.now one other count }
-    ensures { result ≡ all_below count (same_at words.now one other) }
-{
-    if count < FIRST {
-        return same_last(words, one, other, 0, count);
+    // The same of any goal: of one that has others, too, only those that the layers have count.
+    pub fn first_met(&self, set: States, goal: Props) -> usize
+        ensures { result ≡ L.first_met self.now.shape self.now.depth set.0 goal.0 self.now.words.now }
+    {
+        let held = goal.common(Props::first(self.shape.props));
+        self.first_met_of(set, held)
     }
-    if !same_block(words, one, other, 0, FIRST) {
-        return false;
-    }
-    same_from(words, one, other, FIRST, count)
-}
 
-// The first layer below depth that equals the next one, labels and mutex words, and depth where none does.
-pub fn first_rest(words: &[u64], s: Shape, depth: usize) -> usize
-    requires { Room s depth words.now }
-    ensures { result ≡ L.first_rest s depth words.now }
-{
-    let count = layer_size(s.props);
-    let step = stride(s);
-    let mut at = 0;
-    let mut first = 0;
-    while first < depth {
-        if same_words(words, at, at + step, count) {
-            return first;
+    // Whether layer t equals the next one, labels and mutex words.
+    fn rests_at(&self, t: usize) -> bool
+        requires { t < self.now.depth }
+        ensures { result ≡ L.layer_rests self.now.shape self.now.words.now t }
+    {
+        self.at(t) == self.at(t + 1)
+    }
+
+    // The first layer below depth that equals the next one, and depth where none does.
+    pub fn first_rest(&self) -> usize
+        ensures { result ≡ L.first_rest self.now.shape self.now.depth self.now.words.now }
+    {
+        for first in 0..self.depth {
+            if self.rests_at(first) {
+                return first;
+            }
         }
-        at += step;
-        first += 1;
+        self.depth
     }
-    first
-}
 
-// Whether there is one: sought from the top, where a built graph that rests shows it at once.
-pub fn rests(words: &[u64], s: Shape, depth: usize) -> bool
-    requires { Room s depth words.now }
-    ensures { result ≡ below (L.first_rest s depth words.now) depth }
-{
-    let whole = layer_size(s.props);
-    let step = stride(s);
-    let mut at = depth * step;
-    let mut t = depth;
-    while 0 < t {
-        t -= 1;
-        at -= step;
-        if same_words(words, at, at + step, whole) {
-            return true;
+    // Whether there is one: sought from the top, where a built graph that rests shows it at once.
+    pub fn rests(&self) -> bool
+        ensures { result ≡ below (L.first_rest self.now.shape self.now.depth self.now.words.now) self.now.depth }
+    {
+        for t in (0..self.depth).rev() {
+            if self.rests_at(t) {
+                return true;
+            }
         }
+        false
     }
-    false
-}
 
-// The answer by the first layer that has what is sought: 'never' and 'not by depth' only once none has.
-pub fn level_by(words: &[u64], s: Shape, depth: usize, t: usize) -> Level
-    requires { Room s depth words.now }
-    ensures { R.level_said result ≡ L.level_by s depth words.now t }
-{
-    if t <= depth {
-        return Level::At(t);
+    // The answer by the first layer that has what is sought: 'never' and 'not by depth' only once none has.
+    pub fn level_by(&self, t: usize) -> Level
+        ensures { R.level_said result ≡ L.level_by self.now.shape self.now.depth self.now.words.now t }
+    {
+        if t <= self.depth {
+            return Level::At(t);
+        }
+        if self.rests() {
+            return Level::Never;
+        }
+        Level::NotByDepth
     }
-    if rests(words, s, depth) {
-        return Level::Never;
-    }
-    Level::NotByDepth
-}
 
-// The level over words of this shape.
-pub fn level_over(words: &[u64], s: Shape, depth: usize, set: States, goal: Props) -> Level
-    requires { Room s depth words.now }
-    ensures { R.level_said result ≡ L.level_of s depth set.0 goal.0 words.now }
-{
-    let t = first_met(words, s, depth, set, goal);
-    level_by(words, s, depth, t)
+    // The level of a goal for a set of states.
+    pub fn level(&self, set: States, goal: Props) -> Level
+        ensures { R.level_said result ≡ L.level_of self.now.shape self.now.depth set.0 goal.0 self.now.words.now }
+    {
+        let t = self.first_met(set, goal);
+        self.level_by(t)
+    }
 }

@@ -1,5 +1,6 @@
 -- The laws that follow from the definitions, each over P, A, N, the set width and the depth.
 pub mod Tests
+pub mod Equal
 pub mod Words
 pub mod Overs
 pub mod Firsts

@@ -1,21 +1,26 @@
--- A file turned away turns the call away; with a file that is taken, the rest reads no action, just the counts.
-use mathlib.Core.Path.{sym, ◌∙◌}
-use Rattle.graph.specs.File.{file_verdict}
-use Rattle.graph.proofs.Verdicts.{told, then_refused, then_accepted}
-use Rattle.level.specs.Rule.{rest_rule}
-use Rattle.graph.proofs.Ladder.{taken_means}
+-- `rest` meets its contract: the file, then causes 6 to 9, then the layers.
+use mathlib.Core.Path.{ap, ◌∙◌}
+use mathlib.Core.List.{List}
+use Prim.Native.Nat.{ℕ}
+use Rattle.rules.specs.Level.{rest_of}
+use Rattle.rules.specs.declared.Shape.{Shape}
+use Rattle.graph.specs.Verdict.{accepted}
+use Rattle.graph.proofs.Verdicts.{ends_at, goes_on}
+use Rattle.level.specs.Rule.{rest_rule, rest_taken}
+use Rattle.level.proofs.Answers.{of_lent}
 use Rattle.level.proofs.rest.Goals as goal
 
-pub rest_taken-requires : goal.rest_taken-requires
-rest_taken-requires c =
-    (taken_means _ _ (told file_verdict c.check_file-taken.ensures c.in-Taken.is)).ranged
-
-pub returns-in-Refused : goal.returns-in-Refused
+pub returns-in_err-c : goal.returns-in_err-c
 unfolding rest_rule
-returns-in-Refused c = sym (then_refused _ _ _ _ (told file_verdict c.check_file-taken.ensures c.in-Refused.is))
+returns-in_err-c c = ends_at _ _ _ _ _ c.from_residual.ensures.1 c.in_err-c.ensures.rule
 
-pub returns-in-Taken : goal.returns-in-Taken
-unfolding rest_rule
-returns-in-Taken c =
-    c.rest_taken.ensures
-    ∙ sym (then_accepted _ _ _ (told file_verdict c.check_file-taken.ensures c.in-Taken.is))
+pub returns-in_err-layers : goal.returns-in_err-layers
+unfolding rest_rule rest_taken
+returns-in_err-layers c = goes_on _ _ _ c.in_ok-c.ensures.rule
+    (ends_at _ _ _ _ _ c.from_residual-in_err-layers.ensures.1 c.in_err-layers.ensures.rule)
+
+pub returns : goal.returns
+unfolding rest_rule rest_taken
+returns c = goes_on _ _ _ c.in_ok-c.ensures.rule
+    (goes_on _ _ tt c.in_ok-layers.ensures.rule
+    (ap accepted (c.rest_of.ensures ∙ of_lent (λ (S : Shape) (k : ℕ) (w : List ℕ). rest_of S k w) c.in_ok-layers.ensures.layers)))

@@ -1,0 +1,6 @@
+-- The loop goes from layer to layer at the same place, and is left at the first that shows what is sought.
+use Rattle.level.proofs.Parts.{Passing}
+use Rattle.level.proofs.layers.Layers.pass_over.Given as goal
+
+abbrev pub invariant-loop-t : goal.invariant-loop-t
+invariant-loop-t l = Passing l.self.words.now l.self.depth l.set.0 l.place l.shows l.step l.from l.t
