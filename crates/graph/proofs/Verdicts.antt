@@ -10,7 +10,7 @@ use lib.ListN.{length, drop}
 use Rattle.rules.specs.Test.{fails, choose}
 use Rattle.std.specs.Prelude.{Result, IsErrAnd}
 use Rattle.std.proofs.lemmas.Result.{err_from_is_err_and}
-use Rattle.graph.specs.Verdict.{Verdict, accepted, refused, turned_away, verdict_by, and_then, laid, written}
+use Rattle.graph.specs.Verdict.{Verdict, accepted, refused, turned_away, verdict, verdict_by, and_then, laid, written}
 use Rattle.graph.specs.declared.refusal.Refusal.{Refusal}
 use Rattle.words.specs.Memory.{put_at}
 
@@ -31,10 +31,14 @@ then_accepted v next x e = ap (λ (y : Verdict _). and_then y next) e
 pub handed_on : {X Y : Type 0} (says : X → Y) (r : Result X Refusal) (why : Refusal) → IsErrAnd r (λ w. w ≡ why) → verdict_by says r ≡ turned_away why
 handed_on says r why h = let e = err_from_is_err_and r h in ap (verdict_by says) e.1 ∙ ap turned_away e.2
 
--- so a chain of checks ends at a `?` that is refused, and goes on behind one that is passed
+-- a chain of checks ends at one that is refused, and goes on behind one that is passed
+pub stops : {X Y : Type 0} (why : Refusal) (v : Verdict Y) (next : Y → Verdict X) → turned_away why ≡ v → turned_away why ≡ and_then v next
+stops why v next e = sym (then_refused v next _ _ (sym e))
+
+-- so it ends at a `?` that is refused
 pub ends_at : {X Y Z : Type 0} (says : X → Y) (r : Result X Refusal) (why : Refusal) (v : Verdict Z) (next : Z → Verdict Y) → IsErrAnd r (λ w. w ≡ why) → turned_away why ≡ v
     → verdict_by says r ≡ and_then v next
-ends_at says r why v next h e = handed_on says r why h ∙ sym (then_refused v next _ _ (sym e))
+ends_at says r why v next h e = handed_on says r why h ∙ stops why v next e
 
 pub goes_on : {X Y : Type 0} {w : Verdict X} (v : Verdict Y) (next : Y → Verdict X) (y : Y) → accepted y ≡ v → w ≡ next y → w ≡ and_then v next
 goes_on v next y e q = q ∙ sym (then_accepted v next y (sym e))
@@ -71,6 +75,11 @@ accepted_is x y e = cc
 pub laid_refused : (v : Verdict (List ℕ)) (number place : ℕ) (w : List ℕ) → v ≡ refused number place → (refused number place ≡ written v) × (w ≡ laid v w)
 unfolding laid written
 laid_refused v number place w e = (sym (ap written e), sym (ap (λ (x : Verdict (List ℕ)). laid x w) e))
+
+-- so where `?` hands the refusal on
+pub laid_away : (r : Result ℕ Refusal) (why : Refusal) (v : Verdict (List ℕ)) (w : List ℕ) → IsErrAnd r (λ x. x ≡ why) → turned_away why ≡ v
+    → (verdict r ≡ written v) × (w ≡ laid v w)
+laid_away r why v w h e = let q = laid_refused v _ _ w (sym e) in (handed_on (λ x. x) r why h ∙ q.0, q.1)
 
 -- accepted: the number of words, which stand at the front
 pub laid_accepted : (v : Verdict (List ℕ)) (words w w' : List ℕ) (n : ℕ) → v ≡ accepted words → n ≡ length words → w' ≡ put_at 0 words w
