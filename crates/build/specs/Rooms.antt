@@ -6,16 +6,14 @@ use Rattle.rules.specs.Shared.{start_label}
 use Rattle.words.specs.Memory.{put_at}
 use Rattle.words.specs.Rows.{row_length, table_length, columns_of}
 use Rattle.together.specs.Interference.{interferers_of}
-use Rattle.graph.specs.Verdict.{Verdict, accepted, turned_away}
 use Rattle.graph.specs.Format.{actions_of}
 use Rattle.graph.specs.Build.{graph_for, looks_for, Counted}
 use Rattle.graph.specs.declared.format.Counts.{Counts}
-use Rattle.build.specs.declared.BuildAnswer.{BuildAnswer}
-use Rattle.build.specs.declared.BuildAnswer.TheVariants as answer
+use Rattle.build.specs.declared.Built.{Built}
 
-abbrev pub build_verdict : BuildAnswer → Verdict Counted
-build_verdict (answer.Built words looked) = accepted (record { words = words; looked = looked })
-build_verdict (answer.Refused why) = turned_away why
+-- what a build counts
+abbrev pub counted_words : Built → Counted
+counted_words b = record { words = b.words; looked = b.looked }
 
 -- what the code asks of the memory that is lent for the effects: how long each list is, and that no adder is there yet
 pub record Empty (c : Counts) (needs adds dels owners adders interferers : List ℕ) : Type 0 where

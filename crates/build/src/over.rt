@@ -2,30 +2,28 @@
 ghost use Rattle.std.specs.Prelude.{◌≡◌, ℕ, ◌≤◌, length};
 ghost use Rattle.rules.specs.Layer.{word_count};
 ghost use Rattle.words.specs.Rows.{row_length};
-ghost use Rattle.graph.specs.Verdict.{laid};
+ghost use Rattle.graph.specs.Verdict.{laid, verdict_by};
 ghost use Rattle.graph.specs.Limits.{max_depth};
 ghost use Rattle.graph.specs.Format.{shape_in};
-ghost use Rattle.graph.specs.File.{Taken};
 ghost use Rattle.graph.specs.Build.{build_for, looks_for, counted};
-ghost use Rattle.build.specs.Rooms.{build_verdict, Labels, Graph, Rooms};
+ghost use Rattle.build.specs.Rooms.{counted_words, Labels, Graph, Rooms};
 
-use crate::BuildAnswer;
+use crate::Built;
 use crate::copies::copy_rest;
 use crate::problem::{many_pairs, read_problem, width_for};
 use crate::steps::steps_until;
 use graph::checks::check_graph;
-use graph::format::Counts;
 use graph::layout::word_count;
 use graph::limits::MAX_EFFECTS;
-use graph::refusal::Check;
+use graph::refusal::Refusal;
+use graph::view::View;
 use layers::start::start;
 use words::sets::States;
 use words::tables::{ROW, TABLE};
 
 // Writes the words, with room lent for the lists and tables; how many looks the scans take.
 fn build_in(
-    file: &[u8],
-    c: Counts,
+    file: &View<'_>,
     depth: usize,
     labels: &mut [u64],
     words: &mut [u64],
@@ -42,13 +40,12 @@ fn build_in(
     besides: &mut [u64],
     spare: &mut [u64],
 ) -> usize
-    requires taken { Taken file.now c × (depth ≤ max_depth) × (word_count (shape_in c) depth ≤ length words.old) }
-    requires rooms { Rooms c needs.old adds.old dels.old owners.old adders.old interferers.old labels.old live.old t.old r.old mates.old besides.old spare.old }
-    ensures { Graph file.now c depth labels.old words.old result words.new }
+    requires fits { (depth ≤ max_depth) × (word_count (shape_in file.now.counts) depth ≤ length words.old) }
+    requires rooms { Rooms file.now.counts needs.old adds.old dels.old owners.old adders.old interferers.old labels.old live.old t.old r.old mates.old besides.old spare.old }
+    ensures { Graph file.now.bytes.now file.now.counts depth labels.old words.old result words.new }
 {
     read_problem(
         file,
-        c,
         &mut *needs,
         &mut *adds,
         &mut *dels,
@@ -56,9 +53,9 @@ fn build_in(
         &mut *adders,
         &mut *interferers,
     );
-    let n = c.props;
+    let n = file.counts.props;
     let width = width_for(n);
-    let span = width_for(c.effects);
+    let span = width_for(file.counts.effects);
     start(&mut *words, &mut *t, &*labels, &*spare, n, width);
     let steps = steps_until(
         &mut *words,
@@ -68,7 +65,7 @@ fn build_in(
         &dels[..],
         &adders[..],
         &interferers[..],
-        States::first(c.states).0,
+        States::first(file.counts.states).0,
         many_pairs(&interferers[..], span),
         width,
         span,
@@ -81,17 +78,17 @@ fn build_in(
         besides,
         spare,
     );
-    copy_rest(words, c.shape(), steps.done, depth);
+    copy_rest(words, file.counts.shape(), steps.done, depth);
     steps.looked
 }
 
 // Writes the words; lists and tables are arrays of this call. How many looks the scans take.
-fn build_words(file: &[u8], c: Counts, depth: usize, labels: [u64; ROW], words: &mut [u64]) -> usize
-    requires { Taken file.now c × (depth ≤ max_depth) × (word_count (shape_in c) depth ≤ length words.old) × (length labels ≡ row_length) }
-    ensures { Graph file.now c depth labels words.old result words.new }
+fn build_words(file: &View<'_>, depth: usize, labels: [u64; ROW], words: &mut [u64]) -> usize
+    requires { (depth ≤ max_depth) × (word_count (shape_in file.now.counts) depth ≤ length words.old) × (length labels ≡ row_length) }
+    ensures { Graph file.now.bytes.now file.now.counts depth labels words.old result words.new }
 {
-    let p = c.props;
-    let e = c.effects;
+    let p = file.counts.props;
+    let e = file.counts.effects;
     let mut needs = [0u32; MAX_EFFECTS];
     let mut adds = [0u32; MAX_EFFECTS];
     let mut dels = [0u32; MAX_EFFECTS];
@@ -107,7 +104,6 @@ fn build_words(file: &[u8], c: Counts, depth: usize, labels: [u64; ROW], words: 
     let mut spare = [0u64; TABLE];
     build_in(
         file,
-        c,
         depth,
         &mut row[..],
         words,
@@ -128,23 +124,21 @@ fn build_words(file: &[u8], c: Counts, depth: usize, labels: [u64; ROW], words: 
 
 // Causes 6 and 9, or the words. The labels come by value: of a row that is lent the compiler would not know that the words lie apart from it.
 pub fn build_over(
-    file: &[u8],
-    c: Counts,
+    file: &View<'_>,
     depth: usize,
     labels: [u64; ROW],
     words: &mut [u64],
-) -> BuildAnswer
-    requires { Taken file.now c × (length labels ≡ row_length) }
-    ensures { (starts : ℕ → ℕ) → Labels c starts labels
-        → (build_verdict result ≡ counted (looks_for file.now c starts depth) (build_for file.now c starts depth (length words.old)))
-        × (words.new ≡ laid (build_for file.now c starts depth (length words.old)) words.old) }
+) -> Result<Built, Refusal>
+    requires { length labels ≡ row_length }
+    ensures { (starts : ℕ → ℕ) → Labels file.now.counts starts labels
+        → (verdict_by counted_words result ≡ counted (looks_for file.now.bytes.now file.now.counts starts depth) (build_for file.now.bytes.now file.now.counts starts depth (length words.old)))
+        × (words.new ≡ laid (build_for file.now.bytes.now file.now.counts starts depth (length words.old)) words.old) }
 {
-    let check = check_graph(c, depth, Check::Passed, words.len());
-    match check {
-        Check::Refused(why) => BuildAnswer::Refused(why),
-        Check::Passed => {
-            let looked = build_words(file, c, depth, labels, words);
-            BuildAnswer::Built(word_count(c.shape(), depth), looked)
-        }
-    }
+    let c = file.counts;
+    check_graph(c, depth, Ok(()), words.len())?;
+    let looked = build_words(file, depth, labels, words);
+    Ok(Built {
+        words: word_count(c.shape(), depth),
+        looked,
+    })
 }

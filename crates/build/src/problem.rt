@@ -4,11 +4,9 @@ ghost use Rattle.rules.specs.Lists.{list_over};
 ghost use Rattle.rules.specs.Domain as D;
 ghost use Rattle.words.specs.Rows.{row_length, InParts};
 ghost use Rattle.graph.specs.Format.{actions_of};
-ghost use Rattle.graph.specs.File.{Taken};
 ghost use Rattle.build.specs.Rooms.{Empty, Read};
 
-use graph::format::Counts;
-use graph::read::{added, condition, deleted, owner};
+use graph::view::View;
 use together::interference::interferer_sets;
 use words::columns::columns;
 use words::parts::PART;
@@ -19,31 +17,29 @@ const PAIRS: usize = 9;
 
 // The sets of all effects and the actions that own them, into four lists.
 fn read_effects(
-    file: &[u8],
-    c: Counts,
+    file: &View<'_>,
     needs: &mut [u32],
     adds: &mut [u32],
     dels: &mut [u32],
     owners: &mut [u8],
 )
-    requires { Taken file.now c × (length needs.old ≡ c.effects) × (length adds.old ≡ c.effects) × (length dels.old ≡ c.effects) × (length owners.old ≡ c.effects) }
-    ensures { (needs.new ≡ list_over c.effects (D.condition (actions_of file.now c)))
-        × (adds.new ≡ list_over c.effects (actions_of file.now c).add)
-        × (dels.new ≡ list_over c.effects (actions_of file.now c).del)
-        × (owners.new ≡ list_over c.effects (actions_of file.now c).owner) }
+    requires { (length needs.old ≡ file.now.counts.effects) × (length adds.old ≡ file.now.counts.effects) × (length dels.old ≡ file.now.counts.effects) × (length owners.old ≡ file.now.counts.effects) }
+    ensures { (needs.new ≡ list_over file.now.counts.effects (D.condition (actions_of file.now.bytes.now file.now.counts)))
+        × (adds.new ≡ list_over file.now.counts.effects (actions_of file.now.bytes.now file.now.counts).add)
+        × (dels.new ≡ list_over file.now.counts.effects (actions_of file.now.bytes.now file.now.counts).del)
+        × (owners.new ≡ list_over file.now.counts.effects (actions_of file.now.bytes.now file.now.counts).owner) }
 {
     for i in 0..needs.len() {
-        needs[i] = condition(file, c, i);
-        adds[i] = added(file, c, i);
-        dels[i] = deleted(file, c, i);
-        owners[i] = owner(file, c, i) as u8;
+        needs[i] = file.condition(i);
+        adds[i] = file.added(i);
+        dels[i] = file.deleted(i);
+        owners[i] = file.owner(i) as u8;
     }
 }
 
 // The effects' sets and actions, the adders of each proposition, and the effects that interfere with each.
 pub fn read_problem(
-    file: &[u8],
-    c: Counts,
+    file: &View<'_>,
     needs: &mut [u32],
     adds: &mut [u32],
     dels: &mut [u32],
@@ -51,10 +47,10 @@ pub fn read_problem(
     adders: &mut [u64],
     interferers: &mut [u64],
 )
-    requires { Taken file.now c × Empty c needs.old adds.old dels.old owners.old adders.old interferers.old }
-    ensures { Read file.now c needs.new adds.new dels.new owners.new adders.new interferers.new }
+    requires { Empty file.now.counts needs.old adds.old dels.old owners.old adders.old interferers.old }
+    ensures { Read file.now.bytes.now file.now.counts needs.new adds.new dels.new owners.new adders.new interferers.new }
 {
-    read_effects(file, c, &mut *needs, &mut *adds, &mut *dels, &mut *owners);
+    read_effects(file, &mut *needs, &mut *adds, &mut *dels, &mut *owners);
     columns(&mut *adders, &adds[..]);
     interferer_sets(
         &needs[..],

@@ -14,18 +14,18 @@ use Rattle.build.proofs.over.build_in.Goals as goal
 use Rattle.build.proofs.over.build_in.Goals.{After-read_problem}
 
 -- the steps have room
-fits : (c : After-read_problem) → size c.args.c.props ≤ length c.args.words.now
+fits : (c : After-read_problem) → size c.args.file.now.counts.props ≤ length c.args.words.now
 fits c = omega (
   arith,
-  steps_fit c.args.file.now c.args.c _ _ _ _ _ _ c.requires.taken.0 c.read_problem.ensures
-      c.args.depth _ c.requires.taken.2,
+  steps_fit c.args.file.now.bytes.now c.args.file.now.counts _ _ _ _ _ _ c.args.file.now.taken c.read_problem.ensures
+      c.args.depth _ c.requires.fits.1,
 )
 
 pub width_for-width-requires : goal.width_for-width-requires
-width_for-width-requires c = omega (arith, c.requires.taken.0.ranged.props)
+width_for-width-requires c = omega (arith, c.args.file.now.taken.ranged.props)
 
 pub width_for-span-requires : goal.width_for-span-requires
-width_for-span-requires c = omega (arith, c.requires.taken.0.ranged.effects)
+width_for-span-requires c = omega (arith, c.args.file.now.taken.ranged.effects)
 
 pub start-requires : goal.start-requires
 start-requires c =
@@ -34,7 +34,7 @@ start-requires c =
     (record { parts = w.0; props = w.1; labels_long = rooms.labels_long; t_long = rooms.t_long; spare_long = rooms.spare_long }, fits (goal.at.start-requires c).After-read_problem)
 
 pub first-requires : goal.first-requires
-first-requires c = c.requires.taken.0.ranged.states
+first-requires c = c.args.file.now.taken.ranged.states
 
 pub many_pairs-requires : goal.many_pairs-requires
 many_pairs-requires c =
@@ -42,8 +42,8 @@ many_pairs-requires c =
     let s = c.width_for-span.ensures in (
       omega (
         arith,
-        interferers_same c.args.file.now c.args.c _ _ _ _ _ _ c.requires.taken.0 is,
-        (spans_for c.args.file.now c.args.c _ _ _ _ _ _ c.requires.taken.0 is _ s.0 s.1).effects,
+        interferers_same c.args.file.now.bytes.now c.args.file.now.counts _ _ _ _ _ _ c.args.file.now.taken is,
+        (spans_for c.args.file.now.bytes.now c.args.file.now.counts _ _ _ _ _ _ c.args.file.now.taken is _ s.0 s.1).effects,
         parts_le s.0,
       ),
       parts_le s.0,
@@ -57,14 +57,14 @@ steps_until-steps-requires c =
     let s = c.width_for-span.ensures in
     record {
       mating = record {
-        wide = wide_for c.args.file.now c.args.c _ _ _ _ _ _ c.requires.taken.0 is _ w.0 w.1;
-        spans = spans_for c.args.file.now c.args.c _ _ _ _ _ _ c.requires.taken.0 is _ s.0 s.1;
-        adds_long = adds_same c.args.file.now c.args.c _ _ _ _ _ _ c.requires.taken.0 is;
-        dels_long = dels_same c.args.file.now c.args.c _ _ _ _ _ _ c.requires.taken.0 is;
-        adders_long = adders_count c.args.file.now c.args.c _ _ _ _ _ _ c.requires.taken.0 is;
-        adders_inside = adders_inside c.args.file.now c.args.c _ _ _ _ _ _ c.requires.taken.0 is;
-        interferers_long = interferers_same c.args.file.now c.args.c _ _ _ _ _ _ c.requires.taken.0 is;
-        interferers_inside = interferers_inside c.args.file.now c.args.c _ _ _ _ _ _ c.requires.taken.0 is;
+        wide = wide_for c.args.file.now.bytes.now c.args.file.now.counts _ _ _ _ _ _ c.args.file.now.taken is _ w.0 w.1;
+        spans = spans_for c.args.file.now.bytes.now c.args.file.now.counts _ _ _ _ _ _ c.args.file.now.taken is _ s.0 s.1;
+        adds_long = adds_same c.args.file.now.bytes.now c.args.file.now.counts _ _ _ _ _ _ c.args.file.now.taken is;
+        dels_long = dels_same c.args.file.now.bytes.now c.args.file.now.counts _ _ _ _ _ _ c.args.file.now.taken is;
+        adders_long = adders_count c.args.file.now.bytes.now c.args.file.now.counts _ _ _ _ _ _ c.args.file.now.taken is;
+        adders_inside = adders_inside c.args.file.now.bytes.now c.args.file.now.counts _ _ _ _ _ _ c.args.file.now.taken is;
+        interferers_long = interferers_same c.args.file.now.bytes.now c.args.file.now.counts _ _ _ _ _ _ c.args.file.now.taken is;
+        interferers_inside = interferers_inside c.args.file.now.bytes.now c.args.file.now.counts _ _ _ _ _ _ c.args.file.now.taken is;
         live_long = rooms.live_long;
         r_long = rooms.r_long;
         mates_long = rooms.mates_long;
@@ -73,26 +73,26 @@ steps_until-steps-requires c =
       };
       labels_long = rooms.labels_long;
       t_long = c.start.auto.t ∙ rooms.t_long;
-      deep = c.requires.taken.1;
+      deep = c.requires.fits.0;
       fits = omega (
         arith,
-        steps_fit c.args.file.now c.args.c _ _ _ _ _ _ c.requires.taken.0 is c.args.depth _
-            c.requires.taken.2,
+        steps_fit c.args.file.now.bytes.now c.args.file.now.counts _ _ _ _ _ _ c.args.file.now.taken is c.args.depth _
+            c.requires.fits.1,
         c.start.auto.words,
       );
     }
 
 pub shape-requires : goal.shape-requires
-shape-requires c = c.requires.taken.0.ranged
+shape-requires c = c.args.file.now.taken.ranged
 
 pub copy_rest-requires : goal.copy_rest-requires
 copy_rest-requires c =
     record {
-      small = subst Small (sym c.shape.ensures) (small_of c.args.c c.requires.taken.0.ranged);
-      deep = c.requires.taken.1;
+      small = subst Small (sym c.shape.ensures) (small_of c.args.file.now.counts c.args.file.now.taken.ranged);
+      deep = c.requires.fits.0;
       within = c.steps_until-steps.ensures.0;
       some = c.steps_until-steps.ensures.1;
-      fits = omega (arith, c.requires.taken.2, ap (λ (S : Shape). word_count S c.args.depth) c.shape.ensures, c.start.auto.words, c.steps_until-steps.auto.words);
+      fits = omega (arith, c.requires.fits.1, ap (λ (S : Shape). word_count S c.args.depth) c.shape.ensures, c.start.auto.words, c.steps_until-steps.auto.words);
     }
 
 pub shape_of-labels : goal.shape_of-labels
@@ -125,6 +125,6 @@ shape_of-t c = c.steps_until-steps.auto.t ∙ c.start.auto.t
 pub returns : goal.returns
 returns c =
     let did = c.start in
-    graph_made c.requires.taken.0 c.read_problem.ensures _ _ _ _ _ _ _ c.args.words.now _ _ _ c.requires.taken.2 c.first.ensures
+    graph_made c.args.file.now.taken c.read_problem.ensures _ _ _ _ _ _ _ c.args.words.now _ _ _ c.requires.fits.1 c.first.ensures
     c.shape.ensures did.auto.words did.ensures.0 did.ensures.1 did.ensures.2
     c.steps_until-steps.ensures.2 c.copy_rest.ensures

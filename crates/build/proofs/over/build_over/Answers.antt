@@ -1,42 +1,41 @@
 -- `over::build_over` meets its contract: causes 6 and 9, or the words and the looks.
-use mathlib.Core.Path.{◌≡◌, sym, ap, subst, ◌∙◌}
+use mathlib.Core.Path.{sym, ap, subst, ◌∙◌}
 use lib.ListN.{length}
 use Rattle.rules.specs.Layer.{word_count}
 use Rattle.rules.specs.declared.Shape.{Shape}
 use Rattle.graph.specs.Verdict.{accepted}
-use Rattle.graph.specs.Checks.{check_verdict, graph_rule, Small}
+use Rattle.graph.specs.Checks.{Small, Passed}
 use Rattle.graph.specs.Build.{build_for}
 use Rattle.graph.proofs.Ladder.{graph_means, small_of}
 use Rattle.graph.proofs.Graphs.{graph_long}
-use Rattle.graph.proofs.Verdicts.{told, then_refused, then_accepted}
-use Rattle.build.proofs.Answers.{count_refused, count_accepted}
+use Rattle.graph.proofs.Verdicts.{stops, then_accepted}
+use Rattle.build.proofs.Answers.{count_away, count_accepted}
 use Rattle.build.proofs.over.build_over.Goals as goal
-use Rattle.build.proofs.over.build_over.Goals.{In-Passed}
+use Rattle.build.proofs.over.build_over.Goals.{In_ok-check_graph}
 
 -- what has passed
-passed : (c : In-Passed)
-    → graph_rule c.args.c c.args.depth (accepted tt) (length c.args.words.now) ≡ accepted tt
-passed c = told check_verdict c.check_graph-check.ensures c.in-Passed.is
+passed : (c : In_ok-check_graph) → Passed c.args.file.now.counts c.args.depth (accepted tt) (length c.args.words.now)
+passed c = graph_means _ _ _ _ (sym c.in_ok-check_graph.ensures)
+
+pub returns-in_err-check_graph : goal.returns-in_err-check_graph
+unfolding build_for
+returns-in_err-check_graph c starts are = count_away _ _ _ _ _ c.from_residual.ensures.1 (stops _ _ _ c.in_err-check_graph.ensures)
 
 pub build_words-looked-requires : goal.build_words-looked-requires
 build_words-looked-requires c =
-    let p = graph_means _ _ _ _ (passed (goal.at.build_words-looked-requires c).In-Passed) in
-    (c.requires.0, p.deep, p.fits, c.requires.1)
+    let p = passed (goal.at.build_words-looked-requires c).In_ok-check_graph in
+    (p.deep, p.fits, c.requires)
 
 pub word_count-requires : goal.word_count-requires
 word_count-requires c =
-    (subst Small (sym c.shape.ensures) (small_of _ c.requires.0.ranged), (graph_means _ _ _ _ (passed (goal.at.word_count-requires c).In-Passed)).deep)
+    (subst Small (sym c.shape.ensures) (small_of _ c.args.file.now.taken.ranged), (passed (goal.at.word_count-requires c).In_ok-check_graph).deep)
 
-pub returns-in-Refused : goal.returns-in-Refused
+pub returns : goal.returns
 unfolding build_for
-returns-in-Refused c starts are =
-    count_refused _ _ _ _ _ (then_refused _ _ _ _ (told check_verdict c.check_graph-check.ensures c.in-Refused.is))
-
-pub returns-in-Passed : goal.returns-in-Passed
-unfolding build_for
-returns-in-Passed c starts are =
+returns c starts are =
     let made = c.build_words-looked.ensures starts are in
-    count_accepted _ _ _ _ _ _ _ (then_accepted _ _ _ (passed (goal.at.returns-in-Passed c).In-Passed))
+    let v = c.args.file.now in
+    count_accepted _ _ _ _ _ _ _ (then_accepted _ _ _ (sym c.in_ok-check_graph.ensures))
     (c.word_count.ensures ∙ ap (λ (s : Shape). word_count s c.args.depth) c.shape.ensures
-    ∙ sym (graph_long c.args.file.now c.args.c starts c.args.depth))
+    ∙ sym (graph_long v.bytes.now v.counts starts c.args.depth))
     made.1 made.0

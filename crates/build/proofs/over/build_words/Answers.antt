@@ -27,8 +27,8 @@ pub slice_bounds-build_in-end-7 : goal.slice_bounds-build_in-end-7
 slice_bounds-build_in-end-7 c = sym (length-take-le _ _ (omega arith))
 
 pub build_in-requires : goal.build_in-requires
-build_in-requires c = let few = length-take-le {A = ℕ} c.args.c.props (replicate 32 0) c.requires.0.ranged.props in record {
-  taken = (c.requires.0, c.requires.1, c.requires.2);
+build_in-requires c = let few = length-take-le {A = ℕ} c.args.file.now.counts.props (replicate 32 0) c.args.file.now.taken.ranged.props in record {
+  fits = (c.requires.0, c.requires.1);
   rooms = record {
     lists = record {
       needs_long = length-take-le _ _ (omega arith);
@@ -37,9 +37,9 @@ build_in-requires c = let few = length-take-le {A = ℕ} c.args.c.props (replica
       owners_long = length-take-le _ _ (omega arith);
       adders_long = few;
       interferers_long = length-take-le _ _ (omega arith);
-      no_adders = zeros c.args.c.props 32 c.requires.0.ranged.props ∙ ap (λ (x : ℕ). list_over x (λ p. 0)) (sym few);
+      no_adders = zeros c.args.file.now.counts.props 32 c.args.file.now.taken.ranged.props ∙ ap (λ (x : ℕ). list_over x (λ p. 0)) (sym few);
     };
-    labels_long = c.requires.3;
+    labels_long = c.requires.2;
     live_long = refl;
     t_long = refl;
     r_long = refl;

@@ -12,6 +12,6 @@ returns c =
       adds_are = did.ensures.1;
       dels_are = did.ensures.2;
       owners_are = did.ensures.3;
-      adders_are = c.columns.ensures ∙ ap (λ (x : ℕ). columns_of x did.new.adds) c.requires.1.adders_long;
+      adders_are = c.columns.ensures ∙ ap (λ (x : ℕ). columns_of x did.new.adds) c.requires.adders_long;
       interferers_are = c.interferer_sets.ensures;
     }
