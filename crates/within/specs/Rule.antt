@@ -5,14 +5,13 @@ use Rattle.rules.specs.Test.{◌and◌, fails, same, below, choose}
 use Rattle.rules.specs.Word.{within}
 use Rattle.rules.specs.Over.{first_below}
 use Rattle.rules.specs.Level.{Level}
-use Rattle.graph.specs.Verdict.{Verdict, accepted, refused, turned_away, and_then}
+use Rattle.graph.specs.Verdict.{Verdict, accepted, refused, and_then}
 use Rattle.graph.specs.Format.{start_of, counts_in}
 use Rattle.graph.specs.File.{file_rule}
 use Rattle.graph.specs.Build.{build_for, looks_for, Counted, counted}
 use Rattle.graph.specs.declared.format.Counts.{Counts}
+use Rattle.within.specs.declared.Levels as C
 use Rattle.level.specs.Rule.{level_said, level_taken, level_rule}
-use Rattle.within.specs.declared.WithinAnswer.{WithinAnswer}
-use Rattle.within.specs.declared.WithinAnswer.TheVariants as answer
 
 -- the set of state s in a list
 abbrev pub set_of : List ℕ → ℕ → ℕ
@@ -67,6 +66,5 @@ unfoldable pub levels_rule : List ℕ → ℕ → ℕ → ℕ → List ℕ → L
 levels_rule file depth set goal possible sure = both (level_rule file depth set goal possible) (level_rule file depth set goal sure)
 
 -- what an answer says
-abbrev pub levels_verdict : WithinAnswer → Verdict Levels
-levels_verdict (answer.Levels first second) = accepted (record { first = level_said first; second = level_said second })
-levels_verdict (answer.Refused why) = turned_away why
+abbrev pub levels_said : C.Levels → Levels
+levels_said l = record { first = level_said l.first; second = level_said l.second }

@@ -1,10 +1,10 @@
 // Cause 17: a list that is no list of the possible sets.
 ghost use Rattle.std.specs.Prelude.{◌≡◌, ◌≤◌, length};
 ghost use Rattle.words.specs.Width.{prop_width};
-ghost use Rattle.graph.specs.Checks.{check_verdict};
+ghost use Rattle.graph.specs.Verdict.{verdict};
 ghost use Rattle.within.specs.Rule as R;
 
-use graph::refusal::{Check, Refusal};
+use graph::refusal::Refusal;
 use words::sets::Props;
 
 // Whether a set has all that is sure and no proposition but the first so many.
@@ -35,17 +35,17 @@ fn first_open(props: usize, sure: &[u32], possible: &[u32]) -> usize
 }
 
 // The length is looked at before the sets.
-pub fn check_possible(props: usize, sure: &[u32], possible: &[u32]) -> Check
+pub fn check_possible(props: usize, sure: &[u32], possible: &[u32]) -> Result<(), Refusal>
     requires { props ≤ prop_width }
-    ensures { check_verdict result ≡ R.bounds_rule props (length sure.now) (R.set_of sure.now) possible.now }
+    ensures { verdict result ≡ R.bounds_rule props (length sure.now) (R.set_of sure.now) possible.now }
 {
     let n = sure.len();
     if possible.len() != n {
-        return Check::Refused(Refusal::PossibleSet(n));
+        return Err(Refusal::PossibleSet(n));
     }
     let s = first_open(props, sure, possible);
     if s < n {
-        return Check::Refused(Refusal::PossibleSet(s));
+        return Err(Refusal::PossibleSet(s));
     }
-    Check::Passed
+    Ok(())
 }
