@@ -1,10 +1,11 @@
 -- The search for the first layer where the weight is enough.
 -- Assumes nothing.
-use mathlib.Core.Path.{◌≡◌, sym, ap, subst}
+use mathlib.Core.Path.{◌≡◌, sym, ap, subst, ◌∙◌}
 use mathlib.Core.Bool.{So}
 use mathlib.Core.List.{List}
 use Prim.Native.Nat.{ℕ, suc, ◌+◌, ◌*◌, ◌≤◌, ◌<◌}
 use native.Mathlib.Nat.{zero-mul}
+use native.Mathlib.Numerals.{add-one}
 use native.Mathlib.Omega.{arith}
 use lib.ListN.{length}
 use Rattle.rules.specs.Word.{first, within}
@@ -12,7 +13,7 @@ use Rattle.rules.specs.Layer.{props_in}
 use Rattle.rules.specs.Share.{Share, weight_of, total, holders, enough, first_enough}
 use Rattle.rules.specs.declared.Shape.{Shape}
 use Rattle.rules.proofs.Shares.{enough_of, enough_at, enough_mono}
-use Rattle.level.proofs.Searches.{Sought, sought_none, sought_over, sought_found, sought_done}
+use Rattle.level.proofs.Searches.{Sought, sought_none, sought_over, sought_found, sought_all}
 use Rattle.share.proofs.Totals.{weight_none}
 
 module _ (S : Shape) (k : ℕ) (share : Share) (goal : ℕ) (words : List ℕ) where
@@ -43,9 +44,9 @@ module _ (S : Shape) (k : ℕ) (share : Share) (goal : ℕ) (words : List ℕ) w
   }
 
   module _ {short have t : ℕ} (s : Seeking short have t) where
-    pub seeking_end : k < t → t ≡ first_enough S k share goal words
+    pub seeking_end : k < t → k + 1 ≡ first_enough S k share goal words
     unfolding first_enough
-    seeking_end h = sought_done s.so_far (omega arith)
+    seeking_end h = add-one k ∙ sought_all s.so_far (omega arith)
 
     module _ (deep : t ≤ k) where
       next : (So (enough share (held_in t)) → ⊥) → Sought (λ i. enough share (held_in i)) (suc k) (t + 1)

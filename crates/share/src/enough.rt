@@ -3,21 +3,28 @@
 ghost use Rattle.std.specs.Prelude.{◌≡◌, ◌≤◌, ◌<◌, ◌^◌, length};
 ghost use Rattle.rules.specs.Word.{without};
 ghost use Rattle.rules.specs.Over.{join_of};
-ghost use Rattle.rules.specs.Layer.{size, mutex_in, props_in};
+ghost use Rattle.rules.specs.Layer.{size, mutex_in};
 ghost use Rattle.rules.specs.Shared.{needs_label, needs_apart};
 ghost use Rattle.rules.specs.Share as S;
 ghost use Rattle.words.specs.Width.{prop_width};
-ghost use Rattle.graph.specs.Checks.{Room};
 ghost use Rattle.level.specs.Meets.{Above};
-ghost use Rattle.level.specs.Rule.{level_said};
 ghost use Rattle.share.specs.Sums.{Weighed, Looked};
 
 use crate::weights::weight_by;
-use graph::layout::{layer_size, layer_start, pair_at};
-use level::layers::{Level, level_by};
-use rules::Shape;
+use graph::layout::pair_at;
+use level::layers::Layers;
 use words::members::{lowest, others};
 use words::sets::{Props, States};
+
+// The share that is asked for: of the weights of the start states, with their total.
+#[derive(Clone, Copy)]
+pub struct Share<'a> {
+    pub weights: &'a [u16],
+    pub total: u32,
+    pub numerator: u16,
+    pub denominator: u16,
+    pub ghost weighed: { Weighed weights.now total },
+}
 
 // Of these states those that have each goal.
 fn with_labels(layer: &[u64], n: usize, all: States, goal: Props, short: States) -> States
@@ -86,75 +93,29 @@ fn holders(layer: &[u64], n: usize, all: States, goal: Props, short: States) -> 
     free_in(layer, n, goal, held, short)
 }
 
-// The same in layer t.
-fn holders_at(words: &[u64], s: Shape, t: usize, all: States, goal: Props, short: States) -> States
-    requires { Room s t words.now × (goal.0 < 2 ^ s.props) }
-    ensures { Looked (S.holders s.props all.0 (props_in s words.now t) goal.0) short.0 result.0 }
-{
-    let at = layer_start(s, t);
-    let end = at + layer_size(s.props);
-    holders(&words[at..end], s.props, all, goal, short)
-}
-
 // The first layer from 0 to depth where the weight is enough, and depth + 1 where it is in none. For a share of nothing it is at once.
-fn first_enough(
-    words: &[u64],
-    s: Shape,
-    depth: usize,
-    goal: Props,
-    weights: &[u16],
-    total: u32,
-    numerator: u16,
-    denominator: u16,
-) -> usize
-    requires { Room s depth words.now × (goal.0 < 2 ^ s.props) × Weighed weights.now total }
-    ensures { result ≡ S.first_enough s depth (S.share_of weights.now numerator denominator) goal.0 words.now }
+pub fn first_enough(layers: &Layers<'_>, goal: Props, share: &Share<'_>) -> usize
+    requires { goal.0 < 2 ^ layers.now.shape.props }
+    ensures { result ≡ S.first_enough layers.now.shape layers.now.depth (S.share_of share.now.weights.now share.now.numerator share.now.denominator) goal.0 layers.now.words.now }
 {
-    let wanted = total as u64 * numerator as u64;
+    let wanted = share.total as u64 * share.numerator as u64;
     if wanted == 0 {
         return 0;
     }
-    let all = States::first(weights.len());
+    let n = layers.shape.props;
+    let all = States::first(share.weights.len());
     let mut short = States::EMPTY;
     let mut have = 0u32;
-    let mut t = 0;
-    while t <= depth {
-        let held = holders_at(words, s, t, all, goal, short);
+    let end = layers.depth + 1;
+    for t in 0..end {
+        let held = holders(layers.at(t), n, all, goal, short);
         if !held.within(short) {
-            have = weight_by(weights, held, short, have);
-            if wanted <= have as u64 * denominator as u64 {
+            have = weight_by(share.weights, held, short, have);
+            if wanted <= have as u64 * share.denominator as u64 {
                 return t;
             }
             short = held;
         }
-        t += 1;
     }
-    t
-}
-
-// The level over words of this shape.
-pub fn share_over(
-    words: &[u64],
-    s: Shape,
-    depth: usize,
-    goal: Props,
-    weights: &[u16],
-    total: u32,
-    numerator: u16,
-    denominator: u16,
-) -> Level
-    requires { Room s depth words.now × (goal.0 < 2 ^ s.props) × Weighed weights.now total }
-    ensures { level_said result ≡ S.share_level s depth (S.share_of weights.now numerator denominator) goal.0 words.now }
-{
-    let t = first_enough(
-        words,
-        s,
-        depth,
-        goal,
-        weights,
-        total,
-        numerator,
-        denominator,
-    );
-    level_by(words, s, depth, t)
+    end
 }

@@ -2,10 +2,10 @@
 ghost use Rattle.std.specs.Prelude.{◌≡◌, ◌≤◌, ◌<◌, ◌^◌, length};
 ghost use Rattle.rules.specs.Share as S;
 ghost use Rattle.words.specs.Width.{state_width};
-ghost use Rattle.graph.specs.Checks.{check_verdict};
+ghost use Rattle.graph.specs.Verdict.{verdict};
 ghost use Rattle.share.specs.Sums.{max_total, total_for, rule_by};
 
-use graph::refusal::{Check, Refusal};
+use graph::refusal::Refusal;
 use words::members::{lowest, others};
 use words::sets::States;
 
@@ -33,19 +33,19 @@ pub fn total_for(states: usize, weights: &[u16]) -> u32
 }
 
 // Cause 18, by the total: weights that are all zero, or not one for each state, have none.
-pub fn check_weights(total: u32, numerator: u16, denominator: u16) -> Check
-    ensures { check_verdict result ≡ rule_by total numerator denominator }
+pub fn check_weights(total: u32, numerator: u16, denominator: u16) -> Result<(), Refusal>
+    ensures { verdict result ≡ rule_by total numerator denominator }
 {
     if total == 0 {
-        return Check::Refused(Refusal::Share);
+        return Err(Refusal::Share);
     }
     if denominator == 0 {
-        return Check::Refused(Refusal::Share);
+        return Err(Refusal::Share);
     }
     if denominator < numerator {
-        return Check::Refused(Refusal::Share);
+        return Err(Refusal::Share);
     }
-    Check::Passed
+    Ok(())
 }
 
 // The weight of the states of a set.

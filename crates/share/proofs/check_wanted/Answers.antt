@@ -1,13 +1,9 @@
--- Cause 8, and then 18.
-use mathlib.Core.Path.{sym, ◌∙◌}
-use Rattle.graph.specs.Checks.{check_verdict}
-use Rattle.graph.proofs.Verdicts.{told, then_refused, then_accepted}
+-- `check_wanted` meets its contract: cause 8, and then 18.
+use Rattle.graph.proofs.Verdicts.{ends_at, goes_on}
 use Rattle.share.proofs.check_wanted.Goals as goal
 
-pub returns-in-Refused : goal.returns-in-Refused
-returns-in-Refused c = sym (then_refused _ _ _ _ (told check_verdict c.check_goal-fit.ensures c.in-Refused.is))
+pub returns-in_err-check_goal : goal.returns-in_err-check_goal
+returns-in_err-check_goal c = ends_at _ _ _ _ _ c.from_residual.ensures.1 c.in_err-check_goal.ensures
 
 pub returns : goal.returns
-returns c =
-    c.check_weights.ensures
-    ∙ sym (then_accepted _ _ _ (told check_verdict c.check_goal-fit.ensures c.in_default.is))
+returns c = goes_on _ _ _ c.in_ok-check_goal.ensures c.check_weights.ensures
