@@ -3,20 +3,20 @@
 use mathlib.Core.Path.{◌≡◌, refl, sym, ap, ◌∙◌}
 use mathlib.Core.Bool.{Bool, true, false}
 use mathlib.Core.List.{List}
-use mathlib.Core.Logic.{inr, ⊎_elim}
-use Prim.Native.Nat.{ℕ, suc, ◌^◌, ◌≤◌}
+use Prim.Native.Nat.{ℕ, suc, ◌^◌, ◌≤◌, ◌<◌}
 use native.Mathlib.Omega.{arith}
-use Rattle.rules.specs.Test.{same, below, choose}
+use Rattle.rules.specs.Test.{below, choose}
 use Rattle.rules.specs.Level.{first_met, first_rest}
 use Rattle.rules.specs.declared.Shape.{Shape}
-use Rattle.rules.proofs.Tests.{choose_held, choose_failed, holds_or, same_of, same_at, same_not, below_of}
-use Rattle.graph.specs.Verdict.{Verdict, accepted, refused}
+use Rattle.rules.proofs.Tests.{choose_held, same_of, same_not, below_of}
+use Rattle.graph.specs.Verdict.{Verdict, accepted, refused, turned_away}
+use Rattle.graph.specs.declared.refusal.Refusal.{Refusal}
 use Rattle.graph.specs.Checks.{goal_rule}
 use Rattle.graph.specs.Limits.{max_depth}
 use Rattle.graph.proofs.Ladder.{goal_means}
 use Rattle.level.proofs.Answers.{met_le}
 use Rattle.page.specs.Rule.{never_entry, not_by_depth_entry, goal_entry}
-use Rattle.page.specs.Memo.{met_layer, unmet_entry, Known, Settled, entry_by, entry_in}
+use Rattle.page.specs.Memo.{met_layer, unmet_entry, entry_by, entry_in}
 
 -- ---- the layer that is found
 
@@ -34,14 +34,6 @@ module _ (S : Shape) (k set goal : ℕ) (words : List ℕ) where
   unfolding met_layer
   layer_fit e f = f ∙ sym (choose_held goal_entry (below_of (goal_means _ _ e)))
 
-  pub layer_small : {t : ℕ} → t ≡ met_layer S k set goal words → k ≤ max_depth → t ≤ goal_entry
-  unfolding met_layer choose
-  layer_small e h = omega (arith, go (below goal (2 ^ S.props)))
-    where
-      go : (b : Bool) → choose b (first_met S k set goal words) goal_entry ≤ goal_entry
-      go true = omega (arith, met_le S k set words goal)
-      go false = omega arith
-
 -- ---- the entry by the layer that was found
 
 module _ (k t unmet : ℕ) where
@@ -55,32 +47,30 @@ module _ (k t unmet : ℕ) where
 
 -- ---- the entry of a goal that no layer meets
 
-module _ {S : Shape} {k : ℕ} {words : List ℕ} {t : ℕ} where
-  -- what was sought stays known
-  pub settled_known : {unmet : ℕ} → Known S k words unmet → (unmet ≡ 0 → ⊥) → Settled S k words t unmet
-  settled_known {unmet} known some =
-      let is : unmet ≡ unmet_entry S k words = ⊎_elim (λ e. absurd (some e)) (λ e. e) known in
-      record { known = inr is; wanted = λ e. is }
-
-  settled_is : {unmet : ℕ} → unmet ≡ unmet_entry S k words → Settled S k words t unmet
-  settled_is is = record { known = inr is; wanted = λ e. is }
-
-  pub settled_never : below (first_rest S k words) k ≡ true → Settled S k words t never_entry
+module _ (S : Shape) (k : ℕ) (words : List ℕ) where
+  pub never_is : below (first_rest S k words) k ≡ true → never_entry ≡ unmet_entry S k words
   unfolding unmet_entry choose
-  settled_never r = settled_is (simp r)
+  never_is r = simp r
 
-  pub settled_not_by_depth : below (first_rest S k words) k ≡ false → Settled S k words t not_by_depth_entry
+  pub not_by_depth_is : below (first_rest S k words) k ≡ false → not_by_depth_entry ≡ unmet_entry S k words
   unfolding unmet_entry choose
-  settled_not_by_depth r = settled_is (simp r)
+  not_by_depth_is r = simp r
 
--- the entry by what was found is that of the goal
-pub entry_in_lem : {S : Shape} {k : ℕ} {words : List ℕ} {t unmet e : ℕ} (set goal : ℕ) → t ≡ met_layer S k set goal words → Settled S k words t unmet
-    → e ≡ entry_by k t unmet → e ≡ entry_in S k set goal words
-unfolding entry_by entry_in
-entry_in_lem {S} {k} {words} {t} {unmet} set goal found settled is =
-    is
-    ∙ ⊎_elim
-    (λ s. ap (entry_by k t) (settled.wanted (same_at s)))
-    (λ s. choose_failed _ unmet s ∙ sym (choose_failed _ (unmet_entry S k words) s))
-    (holds_or (same t (suc k)))
-    ∙ ap (λ (x : ℕ). entry_by k x (unmet_entry S k words)) found
+-- ---- the entry of a goal
+
+module _ (S : Shape) (k set goal : ℕ) (words : List ℕ) where
+  pub entry_wide : (why : Refusal) → turned_away why ≡ goal_rule S.props goal → k ≤ max_depth → goal_entry ≡ entry_in S k set goal words
+  unfolding entry_in
+  entry_wide why e h = entry_met k goal_entry (unmet_entry S k words) (λ z. omega arith)
+      ∙ ap (λ (x : ℕ). entry_by k x (unmet_entry S k words)) (layer_wide S k set goal words (sym e))
+
+  module _ (fit : accepted tt ≡ goal_rule S.props goal) {t : ℕ} (found : t ≡ first_met S k set goal words) where
+    pub entry_level : t ≤ k → t ≡ entry_in S k set goal words
+    unfolding entry_in
+    entry_level h = entry_met k t (unmet_entry S k words) (λ z. omega arith)
+        ∙ ap (λ (x : ℕ). entry_by k x (unmet_entry S k words)) (layer_fit S k set goal words (sym fit) found)
+
+    pub entry_without : k < t → unmet_entry S k words ≡ entry_in S k set goal words
+    unfolding entry_in
+    entry_without h = entry_unmet k t (unmet_entry S k words) (omega (arith, found, met_le S k set words goal))
+        ∙ ap (λ (x : ℕ). entry_by k x (unmet_entry S k words)) (layer_fit S k set goal words (sym fit) found)

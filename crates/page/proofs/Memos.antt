@@ -19,6 +19,8 @@ use Rattle.rules.specs.declared.Shape.{Shape}
 use Rattle.rules.proofs.Tests.{fails_at, holds_or, same_of, same_at}
 use Rattle.rules.proofs.Layers.{length_list_over, get_d_list_over}
 use Rattle.words.specs.Width.{prop_width}
+use Rattle.words.specs.declared.sets.States.{States}
+use Rattle.level.specs.declared.layers.Layers.{Layers}
 use Rattle.level.specs.Meets.{shown_at, PassedOver}
 use Rattle.level.proofs.Goals.{label_shows}
 use Rattle.level.proofs.Searches.{Sought, sought_none}
@@ -54,6 +56,14 @@ module _ {S : Shape} {words : List ℕ} {k states place shows : ℕ} where
   -- none
   pub passed_none : PassedOver S words k states place shows 0 0
   passed_none = record { rises = omega arith; within = omega arith; each = λ t g l. absurd (omega arith) }
+
+-- the same of equal layers and sets
+pub passed_of : {l m : Layers} {s t : States} (place from upto : ℕ) → l ≡ m → s ≡ t
+    → PassedOver l.shape l.words.now l.depth s.0 place (shown_at l.shape.props s.0 place) from upto
+    → PassedOver m.shape m.words.now m.depth t.0 place (shown_at m.shape.props t.0 place) from upto
+passed_of {l} {m} {s} {t} place from upto e f p =
+    subst (λ (x : States). PassedOver m.shape m.words.now m.depth x.0 place (shown_at m.shape.props x.0 place) from upto) f
+    (subst (λ (x : Layers). PassedOver x.shape x.words.now x.depth s.0 place (shown_at x.shape.props s.0 place) from upto) e p)
 
 -- ---- labels
 

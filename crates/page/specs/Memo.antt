@@ -1,5 +1,5 @@
 -- One goal after the other over the same words: what is remembered of the words and of the rest, and the entry that is made of it.
-use Rattle.std.specs.Prelude.{ℕ, suc, ◌+◌, ◌*◌, ◌^◌, ◌<◌, ◌≡◌, ◌⊎◌, List, length, get_or}
+use Rattle.std.specs.Prelude.{ℕ, suc, ◌+◌, ◌*◌, ◌^◌, ◌<◌, ◌≡◌, List, length, get_or}
 use Rattle.std.proofs.Math.Bool.{So}
 use Rattle.rules.specs.Test.{same, below, choose}
 use Rattle.rules.specs.Word.{bit}
@@ -46,15 +46,6 @@ met_layer S k set goal words = choose (below goal (2 ^ S.props)) (first_met S k 
 -- the entry of a goal that no layer meets
 unfoldable pub unmet_entry : Shape → ℕ → List ℕ → ℕ
 unmet_entry S k words = choose (below (first_rest S k words) k) never_entry not_by_depth_entry
-
--- what is known of it: nothing yet, or all
-abbrev pub Known : Shape → ℕ → List ℕ → ℕ → Type 0
-Known S k words unmet = (unmet ≡ 0) ⊎ (unmet ≡ unmet_entry S k words)
-
--- and all where the layer that was found for a goal is none
-pub record Settled (S : Shape) (k : ℕ) (words : List ℕ) (t unmet : ℕ) : Type 0 where
-  pub known : Known S k words unmet
-  pub wanted : t ≡ suc k → unmet ≡ unmet_entry S k words
 
 -- the entry by both
 unfoldable pub entry_by : ℕ → ℕ → ℕ → ℕ

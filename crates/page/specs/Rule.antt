@@ -2,13 +2,11 @@
 use Rattle.std.specs.Prelude.{ℕ, List, length, get_or}
 use Rattle.rules.specs.Lists.{list_over}
 use Rattle.rules.specs.Level.{Level, level, never, not_by_depth}
-use Rattle.graph.specs.Verdict.{Verdict, accepted, refused, turned_away, and_then}
+use Rattle.graph.specs.Verdict.{Verdict, accepted, refused, and_then}
 use Rattle.graph.specs.File.{file_rule}
 use Rattle.graph.specs.Checks.{set_rule, output_rule, graph_rule}
 use Rattle.graph.specs.declared.format.Counts.{Counts}
 use Rattle.level.specs.Rule.{level_rule}
-use Rattle.page.specs.declared.PageAnswer.{PageAnswer}
-use Rattle.page.specs.declared.PageAnswer.TheVariants as answer
 
 -- the entries that are no level
 abbrev pub never_entry : ℕ
@@ -38,12 +36,7 @@ page_taken single c depth set goals have room =
     and_then (output_rule (length goals) room) (λ _.
     accepted (entries single goals)))
 
--- the file's causes, and then that: 'what the single call gives' is the rule of the level
+-- the file's causes, and then that; an answer says how many entries were written, one for each goal: 'what the single call gives' is the rule of the level
 unfoldable pub page_rule : List ℕ → ℕ → ℕ → List ℕ → List ℕ → ℕ → Verdict (List ℕ)
 page_rule file depth set goals words room =
     and_then (file_rule file) (λ c. page_taken (λ goal. level_rule file depth set goal words) c depth set goals (length words) room)
-
--- what an answer says: how many entries were written, one for each goal
-abbrev pub page_verdict : PageAnswer → Verdict ℕ
-page_verdict (answer.Paged count) = accepted count
-page_verdict (answer.Refused why) = turned_away why

@@ -1,138 +1,175 @@
-// The first layer that meets a goal, for one goal after the other over the same words: how far a word keeps goals from being met is remembered.
+// The entry of one goal after the other over the same layers: how far a word keeps goals from being met is remembered, and so is the entry of a goal without a level.
 ghost use Rattle.std.specs.Prelude.{◌≡◌, ◌+◌, ◌≤◌, ◌<◌, ◌^◌, max, length};
+ghost use Rattle.std.specs.Option.{ForSome};
 ghost use Rattle.rules.specs.Layer.{size};
 ghost use Rattle.rules.specs.Level as L;
 ghost use Rattle.words.specs.Width.{prop_width};
-ghost use Rattle.graph.specs.Checks.{Room};
 ghost use Rattle.level.specs.Meets.{shown_at, PassedOver};
-ghost use Rattle.page.specs.Memo.{Firsts, Rows, Remembers, OfLabel};
+ghost use Rattle.page.specs.Memo.{Remembers, OfLabel, unmet_entry, entry_in};
 
+use graph::checks::check_goal;
 use graph::layout::layer_size;
-use level::layers::{failing_at, pass_over, shown};
-use rules::Shape;
+use level::layers::{Layers, shown};
 use words::members::{lowest, others};
-use words::sets::{Props, States};
+use words::sets::{PROP_WIDTH, Props, States};
+
+// The entries that are no level.
+pub const NEVER: u16 = 256;
+
+pub const NOT_BY_DEPTH: u16 = 257;
+
+const WIDE_GOAL: u16 = 258;
 
 // Two numbers for each word of the widest proposition layer.
-pub const ROWS: usize = 1056;
+const ROWS: usize = 1056;
 
-fn larger(a: usize, b: usize) -> usize
-    ensures { result ≡ max a b }
-{
-    if a < b { b } else { a }
+// What the layers have shown of a set of states: of each label a layer before which it does not contain the set, of each word a row of layers in which it keeps
+// goals from being met, and the entry of a goal without a level once there was one.
+#[derive(Drop)]
+pub struct Memo<'a> {
+    pub layers: Layers<'a>,
+    pub set: States,
+    pub firsts: [u16; PROP_WIDTH],
+    pub rows: [u16; ROWS],
+    pub unmet: Option<u16>,
+    pub ghost remembers: { Remembers layers.shape layers.words.now layers.depth set.0 firsts rows },
+    pub ghost known: { ForSome unmet (λ e. e ≡ unmet_entry layers.shape layers.depth layers.words.now) },
 }
 
-// A layer before which none meets the goal: the last that is remembered of its labels.
-fn start(n: usize, goal: Props, firsts: &[u16]) -> usize
-    requires { (n ≤ prop_width) × (goal.0 < 2 ^ n) × (length firsts.now ≡ prop_width) }
-    ensures { OfLabel firsts.now n goal.0 result }
-{
-    let mut left = goal.0 as u64;
-    let mut t = 0;
-    while 0 < left {
-        let p = lowest(left);
-        let first = firsts[p] as usize;
-        t = larger(t, first);
-        left = others(left);
-    }
-    t
-}
-
-// The first layer after t in which the label of p contains the set. In a built graph that is the first of all, which is remembered.
-fn next_label(
-    words: &[u64],
-    s: Shape,
-    depth: usize,
-    set: States,
-    p: usize,
-    t: usize,
-    firsts: &mut [u16],
-) -> usize
-    requires { Room s depth words.now × (p < s.props) × (t ≤ depth) × Firsts s words.now depth set.0 firsts.old }
-    ensures { PassedOver s words.now depth set.0 p (shown_at s.props set.0 p) (t + 1) result
-        × Firsts s words.now depth set.0 firsts.new }
-{
-    let shows = shown(s.props, set, p);
-    let known = firsts[p] as usize;
-    let first = pass_over(words, s, depth, known, set, p, shows);
-    firsts[p] = first as u16;
-    if t < first {
-        return first;
-    }
-    pass_over(words, s, depth, t + 1, set, p, shows)
-}
-
-// The first layer after t whose word at the place shows what it does where a goal is met: the end of the row that is remembered, or that of a row from there on.
-fn next_word(
-    words: &[u64],
-    s: Shape,
-    depth: usize,
-    set: States,
-    place: usize,
-    t: usize,
-    rows: &mut [u16],
-) -> usize
-    requires { Room s depth words.now × (place < size s.props) × (t ≤ depth) × Rows s words.now depth set.0 rows.old }
-    ensures { PassedOver s words.now depth set.0 place (shown_at s.props set.0 place) (t + 1) result
-        × Rows s words.now depth set.0 rows.new }
-{
-    let next = t + 1;
-    let at = 2 * place;
-    let end = rows[at + 1] as usize;
-    if rows[at] as usize <= next {
-        if next <= end {
-            return end;
+impl<'a> Memo<'a> {
+    // Nothing is remembered at first.
+    pub fn new(layers: Layers<'a>, set: States) -> Memo<'a>
+        ensures { (result.layers ≡ layers.entry) × (result.set ≡ set) }
+    {
+        Memo {
+            layers,
+            set,
+            firsts: [0; PROP_WIDTH],
+            rows: [0; ROWS],
+            unmet: None,
         }
     }
-    let shows = shown(s.props, set, place);
-    let found = pass_over(words, s, depth, next, set, place, shows);
-    rows[at] = next as u16;
-    rows[at + 1] = found as u16;
-    found
-}
 
-// The next layer after t that may meet a goal which the word at the place keeps from being met at t.
-fn later(
-    words: &[u64],
-    s: Shape,
-    depth: usize,
-    set: States,
-    place: usize,
-    t: usize,
-    firsts: &mut [u16],
-    rows: &mut [u16],
-) -> usize
-    requires { Room s depth words.now × (place < size s.props) × (t ≤ depth) × Remembers s words.now depth set.0 firsts.old rows.old }
-    ensures { PassedOver s words.now depth set.0 place (shown_at s.props set.0 place) (t + 1) result
-        × Remembers s words.now depth set.0 firsts.new rows.new }
-{
-    if place < s.props {
-        return next_label(words, s, depth, set, place, t, firsts);
-    }
-    next_word(words, s, depth, set, place, t, rows)
-}
-
-// The first layer from 0 to depth that meets a goal of its propositions, and depth + 1 where none does.
-pub fn first_met_by(
-    words: &[u64],
-    s: Shape,
-    depth: usize,
-    set: States,
-    goal: Props,
-    firsts: &mut [u16],
-    rows: &mut [u16],
-) -> usize
-    requires { Room s depth words.now × (goal.0 < 2 ^ s.props) × Remembers s words.now depth set.0 firsts.old rows.old }
-    ensures { (result ≡ L.first_met s depth set.0 goal.0 words.now)
-        × Remembers s words.now depth set.0 firsts.new rows.new }
-{
-    let mut t = start(s.props, goal, &firsts[..]);
-    while t <= depth {
-        let place = failing_at(words, s, t, set, goal);
-        if layer_size(s.props) <= place {
-            return t;
+    // A layer before which none meets the goal: the last that is remembered of its labels.
+    fn start(&self, goal: Props) -> usize
+        requires { goal.0 < 2 ^ self.now.layers.shape.props }
+        ensures { OfLabel self.now.firsts self.now.layers.shape.props goal.0 result }
+    {
+        let mut left = goal.0 as u64;
+        let mut t = 0;
+        while 0 < left {
+            let p = lowest(left);
+            let first = self.firsts[p] as usize;
+            t = usize::max(t, first);
+            left = others(left);
         }
-        t = later(words, s, depth, set, place, t, &mut *firsts, &mut *rows);
+        t
     }
-    t
+
+    // The first layer after t in which the label of p contains the set. In a built graph that is the first of all, which is remembered.
+    fn next_label(&mut self, p: usize, t: usize) -> usize
+        requires { (p < self.old.layers.shape.props) × (t ≤ self.old.layers.depth) }
+        ensures { PassedOver self.old.layers.shape self.old.layers.words.now self.old.layers.depth self.old.set.0 p (shown_at self.old.layers.shape.props self.old.set.0 p) (t + 1) result
+            × (self.new.layers ≡ self.old.layers) × (self.new.set ≡ self.old.set) }
+    {
+        let shows = shown(self.layers.shape.props, self.set, p);
+        let known = self.firsts[p] as usize;
+        let first = self.layers.pass_over(known, self.set, p, shows);
+        self.firsts[p] = first as u16;
+        if t < first {
+            return first;
+        }
+        self.layers.pass_over(t + 1, self.set, p, shows)
+    }
+
+    // The first layer after t whose word at the place shows what it does where a goal is met: the end of the row that is remembered, or that of a row from there on.
+    fn next_word(&mut self, place: usize, t: usize) -> usize
+        requires { (place < size self.old.layers.shape.props) × (t ≤ self.old.layers.depth) }
+        ensures { PassedOver self.old.layers.shape self.old.layers.words.now self.old.layers.depth self.old.set.0 place (shown_at self.old.layers.shape.props self.old.set.0 place) (t + 1) result
+            × (self.new.layers ≡ self.old.layers) × (self.new.set ≡ self.old.set) }
+    {
+        let next = t + 1;
+        let at = 2 * place;
+        let end = self.rows[at + 1] as usize;
+        if self.rows[at] as usize <= next {
+            if next <= end {
+                return end;
+            }
+        }
+        let shows = shown(self.layers.shape.props, self.set, place);
+        let found = self.layers.pass_over(next, self.set, place, shows);
+        self.rows[at] = next as u16;
+        self.rows[at + 1] = found as u16;
+        found
+    }
+
+    // The next layer after t that may meet a goal which the word at the place keeps from being met at t.
+    fn later(&mut self, place: usize, t: usize) -> usize
+        requires { (place < size self.old.layers.shape.props) × (t ≤ self.old.layers.depth) }
+        ensures { PassedOver self.old.layers.shape self.old.layers.words.now self.old.layers.depth self.old.set.0 place (shown_at self.old.layers.shape.props self.old.set.0 place) (t + 1) result
+            × (self.new.layers ≡ self.old.layers) × (self.new.set ≡ self.old.set) }
+    {
+        if place < self.layers.shape.props {
+            return self.next_label(place, t);
+        }
+        self.next_word(place, t)
+    }
+
+    // The first layer from 0 to depth that meets a goal of its propositions, and depth + 1 where none does.
+    fn first_met(&mut self, goal: Props) -> usize
+        requires { goal.0 < 2 ^ self.old.layers.shape.props }
+        ensures { (result ≡ L.first_met self.old.layers.shape self.old.layers.depth self.old.set.0 goal.0 self.old.layers.words.now)
+            × (self.new.layers ≡ self.old.layers) × (self.new.set ≡ self.old.set) }
+    {
+        let layers = self.layers;
+        let set = self.set;
+        let mut t = self.start(goal);
+        while t <= layers.depth {
+            let place = layers.failing_at(t, set, goal);
+            if layer_size(layers.shape.props) <= place {
+                return t;
+            }
+            t = self.later(place, t);
+        }
+        t
+    }
+
+    // The entry of a goal without a level, by the rest.
+    fn without_level(&self) -> u16
+        ensures { result ≡ unmet_entry self.now.layers.shape self.now.layers.depth self.now.layers.words.now }
+    {
+        let rests = self.layers.rests();
+        if rests {
+            return NEVER;
+        }
+        NOT_BY_DEPTH
+    }
+
+    // The same, with the rest sought for the first such goal only.
+    fn unmet_entry(&mut self) -> u16
+        ensures { (result ≡ unmet_entry self.old.layers.shape self.old.layers.depth self.old.layers.words.now)
+            × (self.new.layers ≡ self.old.layers) × (self.new.set ≡ self.old.set) }
+    {
+        if let Some(entry) = self.unmet {
+            return entry;
+        }
+        let entry = self.without_level();
+        self.unmet = Some(entry);
+        entry
+    }
+
+    // The entry of a goal.
+    pub fn entry(&mut self, goal: Props) -> u16
+        ensures { (result ≡ entry_in self.old.layers.shape self.old.layers.depth self.old.set.0 goal.0 self.old.layers.words.now)
+            × (self.new.layers ≡ self.old.layers) × (self.new.set ≡ self.old.set) }
+    {
+        let Ok(()) = check_goal(self.layers.shape.props, goal) else {
+            return WIDE_GOAL;
+        };
+        let t = self.first_met(goal);
+        if t <= self.layers.depth {
+            return t as u16;
+        }
+        self.unmet_entry()
+    }
 }

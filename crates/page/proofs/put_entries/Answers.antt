@@ -1,35 +1,26 @@
-use mathlib.Core.Path.{refl}
-use mathlib.Core.Logic.{inl}
+use mathlib.Core.Path.{ap, ◌∙◌}
+use Prim.Native.Nat.{ℕ}
 use native.Mathlib.Omega.{arith}
+use lib.ListN.{get_or}
+use Rattle.words.specs.declared.sets.States.{States}
+use Rattle.level.specs.declared.layers.Layers.{Layers}
 use Rattle.words.proofs.Writes.{list_none, list_more, list_done}
-use Rattle.page.proofs.Entries.{layer_small, entry_in_lem}
+use Rattle.page.specs.Memo.{entry_in}
 use Rattle.page.proofs.put_entries.Goals as goal
 
 pub loop-i-init : goal.loop-i-init
-loop-i-init c = (list_none (omega arith), c.requires.2, inl refl)
-
-pub met_layer-t-requires : goal.met_layer-t-requires
-met_layer-t-requires c =
-    (c.requires.0, c.loop-i.invariant.1)
-
-pub unmet_entry-unmet-requires : goal.unmet_entry-unmet-requires
-unmet_entry-unmet-requires c =
-    (c.requires.0, c.loop-i.invariant.2)
-
-pub entry-requires : goal.entry-requires
-entry-requires c =
-    (c.requires.0.deep, layer_small _ _ _ _ _ c.met_layer-t.ensures.0 c.requires.0.deep)
-
-pub bounds-out-i : goal.bounds-out-i
-bounds-out-i c = omega (arith, c.loop-i.invariant.0.long)
+loop-i-init c = (list_none (omega arith), c.new-memo.ensures.0, c.new-memo.ensures.1)
 
 pub loop-i-preserved : goal.loop-i-preserved
 loop-i-preserved c =
-    let settled = c.unmet_entry-unmet.ensures in (
-      list_more c.loop-i.invariant.0 (omega arith) (omega arith)
-          (entry_in_lem _ _ c.met_layer-t.ensures.0 settled c.entry.ensures),
-      c.met_layer-t.ensures.1,
-      settled.known,
+    let did = c.entry.ensures in
+    let i = c.loop-i.invariant in
+    let asked : ℕ = get_or c.args.goals.now c.loop-i.i 0 in (
+      list_more i.0 (omega arith) (omega arith)
+          (did.0 ∙ ap (λ (l : Layers). entry_in l.shape l.depth c.loop-i.memo.set.0 asked l.words.now) i.1
+          ∙ ap (λ (s : States). entry_in c.args.layers.shape c.args.layers.depth s.0 asked c.args.layers.words.now) i.2),
+      did.1 ∙ i.1,
+      did.2 ∙ i.2,
     )
 
 pub returns : goal.returns

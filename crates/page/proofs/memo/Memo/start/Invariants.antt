@@ -2,10 +2,10 @@
 use mathlib.Core.Bool.{true}
 use Rattle.level.proofs.Goals.{Left}
 use Rattle.page.specs.Memo.{OfLabel}
-use Rattle.page.proofs.memo.start.Given as goal
+use Rattle.page.proofs.memo.Memo.start.Given as goal
 
 abbrev pub invariant-loop-left : goal.invariant-loop-left
-invariant-loop-left l = Left (λ i. true) l.n l.initial.left l.left × OfLabel l.firsts l.n l.initial.left l.t
+invariant-loop-left l = Left (λ i. true) l.self.layers.shape.props l.initial.left l.left × OfLabel l.self.firsts l.self.layers.shape.props l.initial.left l.t
 
 abbrev pub decreases-loop-left : goal.decreases-loop-left
 decreases-loop-left l = l.left
