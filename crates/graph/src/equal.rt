@@ -28,147 +28,160 @@ const SPREAD: usize = 2654435769;
 
 const WRAP: usize = 4294967296;
 
-// The three sets of action a. The version is known, and is not asked for once more.
-fn needs_of(file: &[u8], c: Counts, a: usize) -> u32
-    requires { PlainFile file.now c × (a < c.actions) }
-    ensures { result ≡ (actions_of file.now c).pre a }
-{
-    set_at(file, action_at(a))
+// A file of version 1 that is whole, before its actions are compared.
+#[derive(Clone, Copy)]
+pub(crate) struct Plain<'a> {
+    pub bytes: &'a [u8],
+    pub counts: Counts,
+    pub ghost plain: { PlainFile bytes.now counts },
 }
 
-fn adds_of(file: &[u8], c: Counts, a: usize) -> u32
-    requires { PlainFile file.now c × (a < c.actions) }
-    ensures { result ≡ (actions_of file.now c).add a }
-{
-    set_at(file, action_at(a) + SET_BYTES)
-}
-
-fn dels_of(file: &[u8], c: Counts, a: usize) -> u32
-    requires { PlainFile file.now c × (a < c.actions) }
-    ensures { result ≡ (actions_of file.now c).del a }
-{
-    set_at(file, action_at(a) + 2 * SET_BYTES)
-}
-
-// The mark of action a.
-fn mark(file: &[u8], c: Counts, a: usize) -> usize
-    requires { PlainFile file.now c × (a < c.actions) }
-    ensures { (result ≡ mark_of (actions_of file.now c) a) × (result < marks) }
-{
-    let needs = needs_of(file, c, a) as usize;
-    let adds = adds_of(file, c, a) as usize;
-    let mixed = (needs + ADD_WEIGHT * adds) % WRAP;
-    let spread = mixed * SPREAD % WRAP;
-    spread / MARK_SPAN
-}
-
-// Whether two actions have the same three sets.
-fn same_sets(file: &[u8], c: Counts, b: usize, a: usize) -> bool
-    requires { PlainFile file.now c × (b < c.actions) × (a < c.actions) }
-    ensures { result ≡ equal_actions (actions_of file.now c) b a }
-{
-    if needs_of(file, c, b) != needs_of(file, c, a) {
-        return false;
+impl<'a> Plain<'a> {
+    pub(crate) fn new(bytes: &'a [u8], counts: Counts) -> Plain<'a>
+        requires { PlainFile bytes.now counts }
+        ensures { (result.bytes ≡ bytes.entry) × (result.counts ≡ counts) }
+    {
+        Plain { bytes, counts }
     }
-    if adds_of(file, c, b) != adds_of(file, c, a) {
-        return false;
-    }
-    dels_of(file, c, b) == dels_of(file, c, a)
-}
 
-// The first action after b and before the end that equals b, and the end where there is none.
-fn equal_after(file: &[u8], c: Counts, b: usize, end: usize) -> usize
-    requires { PlainFile file.now c × (b < c.actions) × (end ≤ c.actions) }
-    ensures { After (actions_of file.now c) b end result }
-{
-    let next = b + 1;
-    for later in next..end {
-        let equal = same_sets(file, c, b, later);
-        if equal {
-            return later;
+    // The three sets of action a. The version is known, and is not asked for once more.
+    fn needs_of(&self, a: usize) -> u32
+        requires { a < self.now.counts.actions }
+        ensures { result ≡ (actions_of self.now.bytes.now self.now.counts).pre a }
+    {
+        set_at(self.bytes, action_at(a))
+    }
+
+    fn adds_of(&self, a: usize) -> u32
+        requires { a < self.now.counts.actions }
+        ensures { result ≡ (actions_of self.now.bytes.now self.now.counts).add a }
+    {
+        set_at(self.bytes, action_at(a) + SET_BYTES)
+    }
+
+    fn dels_of(&self, a: usize) -> u32
+        requires { a < self.now.counts.actions }
+        ensures { result ≡ (actions_of self.now.bytes.now self.now.counts).del a }
+    {
+        set_at(self.bytes, action_at(a) + 2 * SET_BYTES)
+    }
+
+    // The mark of action a.
+    fn mark(&self, a: usize) -> usize
+        requires { a < self.now.counts.actions }
+        ensures { (result ≡ mark_of (actions_of self.now.bytes.now self.now.counts) a) × (result < marks) }
+    {
+        let needs = self.needs_of(a) as usize;
+        let adds = self.adds_of(a) as usize;
+        let mixed = (needs + ADD_WEIGHT * adds) % WRAP;
+        let spread = mixed * SPREAD % WRAP;
+        spread / MARK_SPAN
+    }
+
+    // Whether two actions have the same three sets.
+    fn same_sets(&self, b: usize, a: usize) -> bool
+        requires { (b < self.now.counts.actions) × (a < self.now.counts.actions) }
+        ensures { result ≡ equal_actions (actions_of self.now.bytes.now self.now.counts) b a }
+    {
+        if self.needs_of(b) != self.needs_of(a) {
+            return false;
         }
-    }
-    end
-}
-
-// Whether an action equals an earlier one: of those with its mark the last is given, and each leads to the one before it.
-fn equals_earlier(file: &[u8], c: Counts, befores: &[u8], last: usize, a: usize) -> bool
-    requires { PlainFile file.now c × (a < c.actions) × Chained (actions_of file.now c) a befores.now
-        × Last (actions_of file.now c) a (mark_of (actions_of file.now c) a) last }
-    ensures { result ≡ equals_earlier (actions_of file.now c) a }
-{
-    let mut left = last;
-    while 0 < left {
-        let b = left - 1;
-        let equal = same_sets(file, c, b, a);
-        if equal {
-            return true;
+        if self.adds_of(b) != self.adds_of(a) {
+            return false;
         }
-        left = befores[b] as usize;
+        self.dels_of(b) == self.dels_of(a)
     }
-    false
-}
 
-// The first action that equals an earlier one, and the number of actions where there is none. Each is put before those with its mark.
-fn first_marked(file: &[u8], c: Counts, lasts: &mut [u8], befores: &mut [u8]) -> usize
-    requires { PlainFile file.now c × Marked (actions_of file.now c) 0 lasts.old × Chained (actions_of file.now c) 0 befores.old }
-    ensures { result ≡ first_equal (actions_of file.now c) }
-{
-    for a in 0..c.actions {
-        let m = mark(file, c, a);
-        let last = lasts[m];
-        if last != NONE {
-            if equals_earlier(file, c, &befores[..], last as usize, a) {
-                return a;
+    // The first action after b and before the end that equals b, and the end where there is none.
+    fn equal_after(&self, b: usize, end: usize) -> usize
+        requires { (b < self.now.counts.actions) × (end ≤ self.now.counts.actions) }
+        ensures { After (actions_of self.now.bytes.now self.now.counts) b end result }
+    {
+        let next = b + 1;
+        for later in next..end {
+            let equal = self.same_sets(b, later);
+            if equal {
+                return later;
             }
-            befores[a] = last;
         }
-        lasts[m] = (a + 1) as u8;
+        end
     }
-    c.actions
-}
 
-// The same with no action marked yet.
-fn first_of_many(file: &[u8], c: Counts) -> usize
-    requires { PlainFile file.now c }
-    ensures { result ≡ first_equal (actions_of file.now c) }
-{
-    let mut lasts = [0u8; MARKS];
-    let mut befores = [0u8; MAX_ACTIONS];
-    first_marked(file, c, &mut lasts[..], &mut befores[..])
-}
-
-// The same without marks, of few actions: to clear the marks takes longer.
-fn first_of_few(file: &[u8], c: Counts) -> usize
-    requires { PlainFile file.now c }
-    ensures { result ≡ first_equal (actions_of file.now c) }
-{
-    let mut first = c.actions;
-    for b in 0..c.actions {
-        first = equal_after(file, c, b, first);
+    // Whether an action equals an earlier one: of those with its mark the last is given, and each leads to the one before it.
+    fn equals_earlier(&self, befores: &[u8], last: usize, a: usize) -> bool
+        requires { (a < self.now.counts.actions) × Chained (actions_of self.now.bytes.now self.now.counts) a befores.now
+            × Last (actions_of self.now.bytes.now self.now.counts) a (mark_of (actions_of self.now.bytes.now self.now.counts) a) last }
+        ensures { result ≡ equals_earlier (actions_of self.now.bytes.now self.now.counts) a }
+    {
+        let mut left = last;
+        while 0 < left {
+            let b = left - 1;
+            let equal = self.same_sets(b, a);
+            if equal {
+                return true;
+            }
+            left = befores[b] as usize;
+        }
+        false
     }
-    first
-}
 
-// The same of any number of actions.
-fn first_equal(file: &[u8], c: Counts) -> usize
-    requires { PlainFile file.now c }
-    ensures { result ≡ first_equal (actions_of file.now c) }
-{
-    if c.actions <= FEW {
-        return first_of_few(file, c);
+    // The first action that equals an earlier one, and the number of actions where there is none. Each is put before those with its mark.
+    fn first_marked(&self, lasts: &mut [u8], befores: &mut [u8]) -> usize
+        requires { Marked (actions_of self.now.bytes.now self.now.counts) 0 lasts.old × Chained (actions_of self.now.bytes.now self.now.counts) 0 befores.old }
+        ensures { result ≡ first_equal (actions_of self.now.bytes.now self.now.counts) }
+    {
+        for a in 0..self.counts.actions {
+            let m = self.mark(a);
+            let last = lasts[m];
+            if last != NONE {
+                if self.equals_earlier(&befores[..], last as usize, a) {
+                    return a;
+                }
+                befores[a] = last;
+            }
+            lasts[m] = (a + 1) as u8;
+        }
+        self.counts.actions
     }
-    first_of_many(file, c)
-}
 
-// Cause 15, of a file of version 1.
-pub(crate) fn check_equal(file: &[u8], c: Counts) -> Result<(), Refusal>
-    requires { PlainFile file.now c }
-    ensures { verdict result ≡ equal_rule file.now c }
-{
-    let a = first_equal(file, c);
-    if a < c.actions {
-        return Err(Refusal::EqualAction(action_at(a)));
+    // The same with no action marked yet.
+    fn first_of_many(&self) -> usize
+        ensures { result ≡ first_equal (actions_of self.now.bytes.now self.now.counts) }
+    {
+        let mut lasts = [0u8; MARKS];
+        let mut befores = [0u8; MAX_ACTIONS];
+        self.first_marked(&mut lasts[..], &mut befores[..])
     }
-    Ok(())
+
+    // The same without marks, of few actions: to clear the marks takes longer.
+    fn first_of_few(&self) -> usize
+        ensures { result ≡ first_equal (actions_of self.now.bytes.now self.now.counts) }
+    {
+        let mut first = self.counts.actions;
+        for b in 0..self.counts.actions {
+            first = self.equal_after(b, first);
+        }
+        first
+    }
+
+    // The same of any number of actions.
+    fn first_equal(&self) -> usize
+        ensures { result ≡ first_equal (actions_of self.now.bytes.now self.now.counts) }
+    {
+        if self.counts.actions <= FEW {
+            return self.first_of_few();
+        }
+        self.first_of_many()
+    }
+
+    // Cause 15, of a file of version 1.
+    pub(crate) fn check_equal(&self) -> Result<(), Refusal>
+        ensures { verdict result ≡ equal_rule self.now.bytes.now self.now.counts }
+    {
+        let a = self.first_equal();
+        if a < self.counts.actions {
+            return Err(Refusal::EqualAction(action_at(a)));
+        }
+        Ok(())
+    }
 }

@@ -9,7 +9,7 @@ ghost use Rattle.graph.specs.File.{Ranged};
 ghost use Rattle.graph.specs.File as R;
 ghost use Rattle.graph.specs.Format as F;
 
-use crate::equal::check_equal;
+use crate::equal::Plain;
 use crate::format::{
     ACTIONS_OFFSET, Counts, EFFECTS_OFFSET, EFFECTS_VERSION, HEAD_BYTES, LONG_HEAD, PLAIN_VERSION,
     PROPS_OFFSET, SET_BYTES, SETS_EACH, STATES_OFFSET,
@@ -177,91 +177,6 @@ fn joined_sets(file: &[u8], at: usize, count: usize) -> u32
     joined
 }
 
-// Version 2: what is in some set of an effect.
-fn joined_effects(file: &[u8], c: Counts) -> u32
-    requires { Ranged c × (F.effect_at c c.effects ≤ length file.now) }
-    ensures { result ≡ join_over c.effects (λ e. join_over 3 (λ i. F.set_at file.now (F.when_at c e + F.set_bytes * i))) }
-{
-    let mut joined = 0u32;
-    for e in 0..c.effects {
-        joined = joined | joined_sets(file, c.when_at(e), SETS_EACH);
-    }
-    joined
-}
-
-// What is in some set of the file.
-fn joined_all(file: &[u8], c: Counts) -> u32
-    requires { Ranged c × (length file.now ≡ F.right_length c) }
-    ensures { result < 2 ^ c.props → accepted tt ≡ R.sets_rule file.now c }
-{
-    if c.version == PLAIN_VERSION {
-        return joined_sets(file, HEAD_BYTES, SETS_EACH * c.actions + c.states);
-    }
-    joined_sets(file, LONG_HEAD, c.actions)
-        | joined_effects(file, c)
-        | joined_sets(file, c.states_at(), c.states)
-}
-
-// Cause 5, of so many sets that lie one behind the other.
-fn find_set(file: &[u8], props: usize, at: usize, count: usize) -> Result<(), Refusal>
-    requires { (props ≤ prop_width) × (at ≤ 1000) × (count ≤ 160) × (at + F.set_bytes * count ≤ length file.now) }
-    ensures { verdict result ≡ R.sets_from file.now props count at }
-{
-    for i in 0..count {
-        let here = at + SET_BYTES * i;
-        if Props::first(props).0 < set_at(file, here) {
-            return Err(Refusal::PropSet(here));
-        }
-    }
-    Ok(())
-}
-
-// Version 2: cause 5, of the effects' sets.
-fn find_effect_set(file: &[u8], c: Counts) -> Result<(), Refusal>
-    requires { Ranged c × (F.effect_at c c.effects ≤ length file.now) }
-    ensures { verdict result ≡ R.effect_sets file.now c c.effects 0 }
-{
-    for e in 0..c.effects {
-        find_set(file, c.props, c.when_at(e), SETS_EACH)?;
-    }
-    Ok(())
-}
-
-// Cause 5, of the sets before the start states.
-fn find_action_set(file: &[u8], c: Counts) -> Result<(), Refusal>
-    requires { Ranged c × (length file.now ≡ F.right_length c) }
-    ensures { verdict result ≡ R.action_sets file.now c }
-{
-    if c.version == PLAIN_VERSION {
-        return find_set(file, c.props, HEAD_BYTES, SETS_EACH * c.actions);
-    }
-    find_set(file, c.props, LONG_HEAD, c.actions)?;
-    find_effect_set(file, c)
-}
-
-// Cause 5, of all sets of the file, one after the other.
-fn find_sets(file: &[u8], c: Counts) -> Result<(), Refusal>
-    requires { Ranged c × (length file.now ≡ F.right_length c) }
-    ensures { verdict result ≡ R.sets_rule file.now c }
-{
-    find_action_set(file, c)?;
-    find_set(file, c.props, c.states_at(), c.states)
-}
-
-// Cause 5: with the most propositions no set has room for another; else, where no proposition of P or above is in all sets together, none has one.
-fn check_sets(file: &[u8], c: Counts) -> Result<(), Refusal>
-    requires { Ranged c × (length file.now ≡ F.right_length c) }
-    ensures { verdict result ≡ R.sets_rule file.now c }
-{
-    if PROP_WIDTH <= c.props {
-        return Ok(());
-    }
-    if joined_all(file, c) <= Props::first(c.props).0 {
-        return Ok(());
-    }
-    find_sets(file, c)
-}
-
 // Version 2: the number that effect e has of its action.
 pub(crate) fn owner_at(file: &[u8], c: Counts, e: usize) -> usize
     requires { Ranged c × So (fails (F.plain c)) × (length file.now ≡ F.right_length c) × (e < c.effects) }
@@ -270,61 +185,158 @@ pub(crate) fn owner_at(file: &[u8], c: Counts, e: usize) -> usize
     byte(file, c.effect_at(e))
 }
 
-// The first effect whose number is that of no action.
-fn find_stray(file: &[u8], c: Counts) -> Result<(), Refusal>
-    requires { Ranged c × So (fails (F.plain c)) × (length file.now ≡ F.right_length c) }
-    ensures { verdict result ≡ R.owners_rule file.now c }
-{
-    for e in 0..c.effects {
-        if c.actions <= owner_at(file, c, e) {
-            return Err(Refusal::EffectAction(c.effect_at(e)));
+// A file whose counts are in their ranges, and that is as long as they say.
+#[derive(Clone, Copy)]
+pub(crate) struct Whole<'a> {
+    pub bytes: &'a [u8],
+    pub counts: Counts,
+    pub ghost ranged: { Ranged counts },
+    pub ghost long: { length bytes.now ≡ F.right_length counts },
+}
+
+impl<'a> Whole<'a> {
+    // Version 2: what is in some set of an effect.
+    fn joined_effects(&self) -> u32
+        requires { So (fails (F.plain self.now.counts)) }
+        ensures { result ≡ join_over self.now.counts.effects (λ e. join_over 3 (λ i. F.set_at self.now.bytes.now (F.when_at self.now.counts e + F.set_bytes * i))) }
+    {
+        let mut joined = 0u32;
+        for e in 0..self.counts.effects {
+            joined = joined | joined_sets(self.bytes, self.counts.when_at(e), SETS_EACH);
         }
+        joined
     }
-    Ok(())
+
+    // What is in some set of the file.
+    fn joined_all(&self) -> u32
+        ensures { result < 2 ^ self.now.counts.props → accepted tt ≡ R.sets_rule self.now.bytes.now self.now.counts }
+    {
+        if self.counts.version == PLAIN_VERSION {
+            return joined_sets(
+                self.bytes,
+                HEAD_BYTES,
+                SETS_EACH * self.counts.actions + self.counts.states,
+            );
+        }
+        joined_sets(self.bytes, LONG_HEAD, self.counts.actions)
+            | self.joined_effects()
+            | joined_sets(self.bytes, self.counts.states_at(), self.counts.states)
+    }
+
+    // Cause 5, of so many of its sets that lie one behind the other.
+    fn find(&self, at: usize, count: usize) -> Result<(), Refusal>
+        requires { (at ≤ 1000) × (count ≤ 160) × (at + F.set_bytes * count ≤ length self.now.bytes.now) }
+        ensures { verdict result ≡ R.sets_from self.now.bytes.now self.now.counts.props count at }
+    {
+        for i in 0..count {
+            let here = at + SET_BYTES * i;
+            if Props::first(self.counts.props).0 < set_at(self.bytes, here) {
+                return Err(Refusal::PropSet(here));
+            }
+        }
+        Ok(())
+    }
+
+    // Version 2: cause 5, of the effects' sets.
+    fn find_effect_set(&self) -> Result<(), Refusal>
+        requires { So (fails (F.plain self.now.counts)) }
+        ensures { verdict result ≡ R.effect_sets self.now.bytes.now self.now.counts self.now.counts.effects 0 }
+    {
+        for e in 0..self.counts.effects {
+            self.find(self.counts.when_at(e), SETS_EACH)?;
+        }
+        Ok(())
+    }
+
+    // Cause 5, of the sets before the start states.
+    fn find_action_set(&self) -> Result<(), Refusal>
+        ensures { verdict result ≡ R.action_sets self.now.bytes.now self.now.counts }
+    {
+        if self.counts.version == PLAIN_VERSION {
+            return self.find(HEAD_BYTES, SETS_EACH * self.counts.actions);
+        }
+        self.find(LONG_HEAD, self.counts.actions)?;
+        self.find_effect_set()
+    }
+
+    // Cause 5, of all sets of the file, one after the other.
+    fn find_sets(&self) -> Result<(), Refusal>
+        ensures { verdict result ≡ R.sets_rule self.now.bytes.now self.now.counts }
+    {
+        self.find_action_set()?;
+        self.find(self.counts.states_at(), self.counts.states)
+    }
+
+    // Cause 5: where no proposition of P or above is in all sets together, none has one.
+    fn check_sets(&self) -> Result<(), Refusal>
+        ensures { verdict result ≡ R.sets_rule self.now.bytes.now self.now.counts }
+    {
+        if self.joined_all() <= Props::first(self.counts.props).0 {
+            return Ok(());
+        }
+        self.find_sets()
+    }
+
+    // The first effect whose number is that of no action.
+    fn find_stray(&self) -> Result<(), Refusal>
+        requires { So (fails (F.plain self.now.counts)) }
+        ensures { verdict result ≡ R.owners_rule self.now.bytes.now self.now.counts }
+    {
+        for e in 0..self.counts.effects {
+            if self.counts.actions <= owner_at(self.bytes, self.counts, e) {
+                return Err(Refusal::EffectAction(self.counts.effect_at(e)));
+            }
+        }
+        Ok(())
+    }
+
+    // The largest number of an action that an effect has: no way out of the loop, which is quicker than to look at each.
+    fn last_owner(&self) -> usize
+        requires { So (fails (F.plain self.now.counts)) }
+        ensures { result < self.now.counts.actions → accepted tt ≡ R.owners_rule self.now.bytes.now self.now.counts }
+    {
+        let mut last = 0;
+        for e in 0..self.counts.effects {
+            last = usize::max(last, owner_at(self.bytes, self.counts, e));
+        }
+        last
+    }
+
+    // Version 2: cause 16; where the largest number is that of an action, all are.
+    fn check_owners(&self) -> Result<(), Refusal>
+        requires { So (fails (F.plain self.now.counts)) }
+        ensures { verdict result ≡ R.owners_rule self.now.bytes.now self.now.counts }
+    {
+        if self.last_owner() < self.counts.actions {
+            return Ok(());
+        }
+        self.find_stray()
+    }
+
+    // Causes 16 and 15: in version 1 each effect has its action, and in version 2 equal actions are not looked for.
+    fn check_actions(&self) -> Result<(), Refusal>
+        ensures { verdict result ≡ R.actions_rule self.now.bytes.now self.now.counts }
+    {
+        if self.counts.version == PLAIN_VERSION {
+            return Plain::new(self.bytes, self.counts).check_equal();
+        }
+        self.check_owners()
+    }
 }
 
-// The larger of two numbers.
-fn most(a: usize, b: usize) -> usize
-    ensures { (a ≤ result) × (b ≤ result) }
+// Cause 5: with the most propositions no set has room for another.
+fn check_sets(file: &[u8], c: Counts) -> Result<(), Refusal>
+    requires { Ranged c × (length file.now ≡ F.right_length c) }
+    ensures { verdict result ≡ R.sets_rule file.now c }
 {
-    if a < b {
-        return b;
-    }
-    a
-}
-
-// The largest number of an action that an effect has: no way out of the loop, which is quicker than to look at each.
-fn last_owner(file: &[u8], c: Counts) -> usize
-    requires { Ranged c × So (fails (F.plain c)) × (length file.now ≡ F.right_length c) }
-    ensures { result < c.actions → accepted tt ≡ R.owners_rule file.now c }
-{
-    let mut last = 0;
-    for e in 0..c.effects {
-        last = most(last, owner_at(file, c, e));
-    }
-    last
-}
-
-// Version 2: cause 16; where the largest number is that of an action, all are.
-fn check_owners(file: &[u8], c: Counts) -> Result<(), Refusal>
-    requires { Ranged c × So (fails (F.plain c)) × (length file.now ≡ F.right_length c) }
-    ensures { verdict result ≡ R.owners_rule file.now c }
-{
-    if last_owner(file, c) < c.actions {
+    if PROP_WIDTH <= c.props {
         return Ok(());
     }
-    find_stray(file, c)
-}
-
-// Causes 16 and 15: in version 1 each effect has its action, and in version 2 equal actions are not looked for.
-fn check_actions(file: &[u8], c: Counts) -> Result<(), Refusal>
-    requires { Ranged c × (length file.now ≡ F.right_length c) }
-    ensures { verdict result ≡ R.actions_rule file.now c }
-{
-    if c.version == PLAIN_VERSION {
-        return check_equal(file, c);
-    }
-    check_owners(file, c)
+    let whole = Whole {
+        bytes: file,
+        counts: c,
+    };
+    whole.check_sets()
 }
 
 // Causes 1 to 5, 16 and 15, in order.
@@ -338,7 +350,11 @@ pub fn check_file<'a>(file: &'a [u8]) -> Result<View<'a>, Refusal>
     check_counts(c)?;
     check_length(file, c)?;
     check_sets(file, c)?;
-    check_actions(file, c)?;
+    let whole = Whole {
+        bytes: file,
+        counts: c,
+    };
+    whole.check_actions()?;
     let view = View::new(file, c);
     Ok(view)
 }

@@ -66,6 +66,9 @@ returns-in_err-check_length-clause-rule c = whole _ c.counts-c.result c.in_ok-ch
     (goes_on _ _ _ c.in_ok-check_counts.ensures
     (ends_at _ _ _ _ _ c.from_residual-in_err-check_length.ensures.1 c.in_err-check_length.ensures))
 
+pub invariant_of-whole : goal.invariant_of-whole
+invariant_of-whole c = let f = fits (goal.at.invariant_of-whole c).In_ok-check_length in record { ranged = f.0; long = f.1 }
+
 pub check_sets-requires : goal.check_sets-requires
 check_sets-requires c = fits (goal.at.check_sets-requires c).In_ok-check_length
 
@@ -74,9 +77,6 @@ returns-in_err-check_sets-clause-rule c = whole _ c.counts-c.result c.in_ok-chec
     (goes_on _ _ _ c.in_ok-check_counts.ensures
     (goes_on _ _ _ c.in_ok-check_length.ensures
     (ends_at _ _ _ _ _ c.from_residual-in_err-check_sets.ensures.1 c.in_err-check_sets.ensures)))
-
-pub check_actions-requires : goal.check_actions-requires
-check_actions-requires c = fits (goal.at.check_actions-requires c).In_ok-check_length
 
 pub returns-in_err-check_actions-clause-rule : goal.returns-in_err-check_actions-clause-rule
 returns-in_err-check_actions-clause-rule c = whole _ c.counts-c.result c.in_ok-check_head.ensures c.in_ok-check_version.ensures c.counts-c.ensures
