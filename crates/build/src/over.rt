@@ -19,7 +19,7 @@ use graph::layout::word_count;
 use graph::limits::MAX_EFFECTS;
 use graph::refusal::Check;
 use layers::start::start;
-use words::sets::States;
+use words::sets::{Set, States};
 use words::tables::{ROW, TABLE};
 
 // Writes the words, with room lent for the lists and tables; how many looks the scans take.

@@ -17,7 +17,7 @@ use crate::format::{
 };
 use crate::limits::{MAX_ACTIONS, MAX_EFFECTS};
 use crate::refusal::{Check, Refusal};
-use words::sets::{PROP_WIDTH, Props, STATE_WIDTH};
+use words::sets::{PROP_WIDTH, STATE_WIDTH, Props, Set};
 
 #[derive(Clone, Copy)]
 pub enum FileAnswer {

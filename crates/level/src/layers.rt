@@ -11,7 +11,7 @@ ghost use Rattle.level.specs.Rule as R;
 use crate::goal::failing;
 use graph::layout::{layer_size, layer_start, stride};
 use rules::Shape;
-use words::sets::{Props, States};
+use words::sets::{Props, Set, States};
 
 // What the layers say of a goal.
 #[derive(Clone, Copy)]

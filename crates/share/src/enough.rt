@@ -17,7 +17,7 @@ use graph::layout::{layer_size, layer_start, pair_at};
 use level::layers::{Level, level_by};
 use rules::Shape;
 use words::members::{lowest, others};
-use words::sets::{Props, States};
+use words::sets::{Props, Set, States};
 
 // Of these states those that have each goal.
 fn with_labels(layer: &[u64], n: usize, all: States, goal: Props, short: States) -> States

@@ -11,7 +11,7 @@ ghost use Rattle.together.specs.Cells.{RowPut, Independent, Lists, EmptyRows, Fe
 use words::columns::spread;
 use words::members::{lowest, meet_at, others, single};
 use words::parts::join_row;
-use words::sets::{Props, States, wide};
+use words::sets::{Props, Set, States, wide};
 use words::tables::{ROW, clear_cells};
 
 // Effect i with each of these, which are independent of it:

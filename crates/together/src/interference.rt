@@ -8,7 +8,7 @@ ghost use Rattle.words.specs.Rows.{row_length};
 ghost use Rattle.together.specs.Interference as I;
 
 use words::members::single;
-use words::sets::Props;
+use words::sets::{Props, Set};
 
 // Whether i deletes something that j needs or adds.
 fn clobbers(needs: &[u32], adds: &[u32], dels: &[u32], i: usize, j: usize) -> bool

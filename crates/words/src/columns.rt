@@ -8,7 +8,7 @@ ghost use Rattle.words.specs.Rows.{columns_of};
 ghost use Rattle.words.specs.Width.{prop_width, word_width};
 
 use crate::members::{lowest, others, single};
-use crate::sets::{Props, wide};
+use crate::sets::{Props, Set, wide};
 
 // Joins `t` to the word of each member. Only the members cost time, and where `t` is empty they do not.
 pub fn spread(row: &mut [u64], set: Props, t: u64)
