@@ -4,7 +4,6 @@ ghost use Rattle.rules.specs.Test.{choose};
 ghost use Rattle.rules.specs.Word as W;
 ghost use Rattle.rules.specs.Over.{keep, join_of};
 ghost use Rattle.rules.specs.Lists.{list_over};
-ghost use Rattle.words.specs.Memory.{put_at};
 ghost use Rattle.words.specs.Rows.{row_length, cell, Target, Source, InParts};
 ghost use Rattle.together.specs.Cells.{RowPut, Independent, Lists, EmptyRows, Fewing, with_independent, mates_of, beside_of, mate_of, beside_for};
 
