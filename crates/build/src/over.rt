@@ -18,7 +18,7 @@ use graph::limits::MAX_EFFECTS;
 use graph::refusal::Refusal;
 use graph::view::View;
 use layers::start::start;
-use words::sets::States;
+use words::sets::{Set, States};
 use words::tables::{ROW, TABLE};
 
 // Writes the words, with room lent for the lists and tables; how many looks the scans take.

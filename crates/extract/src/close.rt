@@ -12,7 +12,7 @@ ghost use Rattle.extract.specs.Moves.{most_moves, piece_words};
 ghost use Rattle.extract.specs.Moves as M;
 
 use words::members::{lowest, others};
-use words::sets::States;
+use words::sets::{Set, States};
 
 // A state has a number below this.
 const STATE_WIDTH: usize = 64;

@@ -9,7 +9,7 @@ use crate::format::Counts;
 use crate::layout::word_count;
 use crate::limits::MAX_DEPTH;
 use crate::refusal::Refusal;
-use words::sets::{Props, States};
+use words::sets::{Props, Set, States};
 
 // Cause 6.
 fn check_depth(depth: usize) -> Result<(), Refusal>

@@ -17,7 +17,7 @@ use crate::format::{
 use crate::limits::{MAX_ACTIONS, MAX_EFFECTS};
 use crate::refusal::Refusal;
 use crate::view::View;
-use words::sets::{PROP_WIDTH, Props, STATE_WIDTH};
+use words::sets::{PROP_WIDTH, Props, STATE_WIDTH, Set};
 
 pub fn byte(file: &[u8], at: usize) -> usize
     requires { at < length file.now }

@@ -14,9 +14,8 @@ fn put_words(words: &mut [u64], to: usize, from: &[u64])
     requires { to + length from.now ≤ length words.old }
     ensures { words.new ≡ put_at to from.now words.old }
 {
-    for k in 0..from.len() {
-        words[to + k] = from[k];
-    }
+    let end = to + from.len();
+    words[to..end].copy_from_slice(from);
 }
 
 // The pairs of n elements, row by row.

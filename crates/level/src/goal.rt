@@ -7,7 +7,7 @@ ghost use Rattle.level.specs.Meets.{all_of, label_meets, pair_meets, Above, Foun
 
 use graph::layout::pair_at;
 use words::members::{lowest, others};
-use words::sets::{Props, States};
+use words::sets::{Props, Set, States};
 
 // The first goal whose label lacks a state of the set, and n where none does.
 fn lacking(layer: &[u64], n: usize, set: States, goal: Props) -> usize

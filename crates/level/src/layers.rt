@@ -16,7 +16,7 @@ use graph::format::Counts;
 use graph::layout::{layer_size, layer_start, stride};
 use graph::refusal::Refusal;
 use rules::Shape;
-use words::sets::{Props, States};
+use words::sets::{Props, Set, States};
 
 // What the layers say of a goal.
 #[derive(Clone, Copy, PartialEq, Eq, Debug)]

@@ -13,7 +13,7 @@ use graph::layout::{layer_size, layer_start};
 use rules::Shape;
 use words::columns::spread;
 use words::members::{lowest, others};
-use words::sets::{PROP_WIDTH, Props, wide};
+use words::sets::{PROP_WIDTH, Props, Set, wide};
 
 // The actions marked and the propositions needed below; or states are left uncovered.
 #[derive(Clone, Copy)]

@@ -13,7 +13,7 @@ use crate::put::{put, put_decimal, put_level};
 use graph::refusal::{Refusal, number, place};
 use level::layers::{first_met, first_rest};
 use rules::Shape;
-use words::sets::{Props, States};
+use words::sets::{Props, Set, States};
 
 // The levels of each single proposition for a set of states.
 fn put_levels(

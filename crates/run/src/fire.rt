@@ -26,7 +26,7 @@ use graph::format::Counts;
 use graph::read::{added, antecedent, deleted, owner, precondition};
 use words::columns::spread;
 use words::members::{lowest, meet_at, others, single};
-use words::sets::{PROP_WIDTH, Props, States, wide};
+use words::sets::{PROP_WIDTH, Props, Set, States, wide};
 use words::tables::ROW;
 
 // The effects of each action, in a row of empty words.

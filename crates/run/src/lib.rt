@@ -36,7 +36,7 @@ use graph::limits::{MAX_ACTIONS, MAX_EFFECTS};
 use graph::read::{added, deleted, lay_starts, precondition, start, start_labels};
 use graph::refusal::{Check, Refusal};
 use words::members::{lowest, others};
-use words::sets::{PROP_WIDTH, Props, States, wide};
+use words::sets::{PROP_WIDTH, Props, Set, States, wide};
 use words::tables::ROW;
 
 // The longest list that a run takes.

@@ -5,7 +5,7 @@ ghost use Rattle.words.specs.Width.{word_width};
 ghost use Rattle.run.specs.Course as C;
 
 use graph::file::byte;
-use words::sets::{PROP_WIDTH, Props, wide};
+use words::sets::{PROP_WIDTH, Props, Set, wide};
 
 // All that a word of 64 has.
 pub const ALL: u64 = 0xffff_ffff_ffff_ffff;

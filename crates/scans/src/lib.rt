@@ -13,7 +13,7 @@ ghost use Rattle.words.specs.Rows.{row_length, table_length, cell, both_ways, In
 ghost use Rattle.scans.specs.Pairs as P;
 ghost use Rattle.scans.specs.Ends as E;
 
-use words::members::{lowest, others, single};
+use words::members::{Members, single};
 use words::tables::ROW;
 
 // The start states that might still be mutex, and how many looks were made.
@@ -28,25 +28,16 @@ fn look_at(table: &[u64], base: usize, step: usize, set: u64, both: u64, before:
     requires { (set < 2 ^ row_length) × ((i : ℕ) → i < row_length → base + i * step < length table.now) × (before ≤ P.most_looks) }
     ensures { (S.scan_of row_length set (λ i. S.look (P.word_at table.now base step i)) (S.scan_at both before) ≡ S.scan_at result.left result.looked) × (result.looked ≤ before + row_length) }
 {
-    let mut rest = set;
     let mut left = both;
     let mut looked = before;
-    while 0 < rest {
+    for i in Members(set) {
         if left == 0 {
-            return Seen {
-                left: left,
-                looked: looked,
-            };
+            return Seen { left, looked };
         }
-        let word = table[base + lowest(rest) * step];
-        left = left ^ (left & word);
+        left ^= left & table[base + i * step];
         looked += 1;
-        rest = others(rest);
     }
-    Seen {
-        left: left,
-        looked: looked,
-    }
+    Seen { left, looked }
 }
 
 // The set without v.
@@ -91,17 +82,12 @@ fn look_rows(
     ensures { ((r : List ℕ) → P.Beside mates.now r besides.now lower upper q → P.Parted mates.now lower upper both
         → S.scan_of row_length lower (P.row_looks mates.now r upper q) (S.scan_at both before) ≡ S.scan_at result.left result.looked) × (result.looked ≤ 2048) }
 {
-    let mut rest = lower;
     let mut left = both;
     let mut looked = before;
-    while 0 < rest {
+    for v in Members(lower) {
         if left == 0 {
-            return Seen {
-                left: left,
-                looked: looked,
-            };
+            return Seen { left, looked };
         }
-        let v = lowest(rest);
         let after = left ^ (left & besides[v * ROW + q]);
         if after == 0 {
             let seen = look_at(mates, v * ROW, 1, all_but(upper, v), left, looked);
@@ -112,12 +98,8 @@ fn look_rows(
         }
         looked += others_than(upper, size, v);
         left = after;
-        rest = others(rest);
     }
-    Seen {
-        left: left,
-        looked: looked,
-    }
+    Seen { left, looked }
 }
 
 // The scan of p and q, whose labels share `both`.
@@ -242,10 +224,7 @@ fn finish_row(
         words[at + q] = both ^ (both & word);
         looked += pair_looks(p, q, both, shown, adders, sizes, live, mates, r, besides);
     }
-    Done {
-        fresh: fresh,
-        looked: looked,
-    }
+    Done { fresh, looked }
 }
 
 // All pairs, row by row, behind the labels.
@@ -289,10 +268,7 @@ fn finish_rows(
         looked += row.looked;
         at += adders.len() - 1 - p;
     }
-    Done {
-        fresh: fresh,
-        looked: looked,
-    }
+    Done { fresh, looked }
 }
 
 // How many vertices add each proposition: the effects, and its persistence.
@@ -300,8 +276,8 @@ fn count_adders(sizes: &mut [usize], adders: &[u64])
     requires { (length adders.now ≤ length sizes.old) × Inside row_length adders.now }
     ensures { (p : ℕ) → p < length adders.now → get_or sizes.new p 0 ≡ ones (get_or adders.now p 0) + 1 }
 {
-    for p in 0..adders.len() {
-        sizes[p] = u64::count_ones(adders[p]) as usize + 1;
+    for (p, set) in adders.iter().enumerate() {
+        sizes[p] = set.count_ones() as usize + 1;
     }
 }
 

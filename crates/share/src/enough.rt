@@ -14,7 +14,7 @@ use crate::weights::weight_by;
 use graph::layout::pair_at;
 use level::layers::Layers;
 use words::members::{lowest, others};
-use words::sets::{Props, States};
+use words::sets::{Props, Set, States};
 
 // The share that is asked for: of the weights of the start states, with their total.
 #[derive(Clone, Copy)]

@@ -7,7 +7,7 @@ ghost use Rattle.share.specs.Sums.{max_total, total_for, rule_by};
 
 use graph::refusal::Refusal;
 use words::members::{lowest, others};
-use words::sets::States;
+use words::sets::{Set, States};
 
 // The total of the weights.
 fn total(weights: &[u16]) -> u32

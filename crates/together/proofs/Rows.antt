@@ -3,7 +3,7 @@
 use Prim.Native.Nat.{ℕ, ◌+◌, ◌-◌, ◌*◌, ◌≤◌, ◌<◌, ◌^◌}
 use mathlib.Core.Path.{◌≡◌, refl, sym, ap, ap₂, subst, ◌∙◌}
 use mathlib.Core.Logic.{⊎_elim}
-use mathlib.Core.List.{List, ◌++◌}
+use mathlib.Core.List.{List}
 use native.Mathlib.Omega.{arith}
 use native.Mathlib.Nat.{lt_of_lt_of_le}
 use borrow.Rule.Slice.PartMut.{put_mid}
@@ -11,7 +11,7 @@ use lib.Bits.{or_zero_r}
 use lib.Count.{count_trailing_zeros}
 use lib.ListN.{length, get_or, take, drop, set, length-drop}
 use lib.Pow.{pow_mono}
-use lib.Seq.{get_or-take, get_or-drop, drop-drop, length-take-le, get_or-set_same, get_or-set_other}
+use lib.Seq.{get_or-take, get_or-drop, length-take-le, get_or-set_same, get_or-set_other}
 use Rattle.rules.specs.Test.{same, choose}
 use Rattle.rules.specs.Word.{bit, common, union, without, single, first}
 use Rattle.rules.specs.Over.{join_of, meet_of}
@@ -21,6 +21,7 @@ use Rattle.rules.proofs.Tests.{choose_held, choose_failed, holds_or, same_of, sa
 use Rattle.words.specs.Memory.{put_at}
 use Rattle.words.specs.Width.{word_width}
 use Rattle.words.specs.Rows.{row_length, table_length, cell, InParts, Inside}
+use Rattle.words.proofs.Writes.{put_part}
 use Rattle.words.proofs.Lowest.{Upper, upper_none, upper_more, upper_is}
 use Rattle.words.proofs.MemberLoops.{Shares, shares_none, shares_more, meet_from, lowest_lt}
 use Rattle.words.proofs.Cells.{Rows, rows_more, row_length_lem, cell_put, cell_stays}
@@ -101,17 +102,10 @@ module _ (table : List ℕ) (i : ℕ) where
   unfolding row_in cell
   row_word k h = get_or-take row_length (drop (i * row_length) table) k 0 h ∙ get_or-drop (i * row_length) table k 0
 
-  -- and comes back written
-  pub row_back : (p : List ℕ) → length p ≡ row_length → put_mid (i * row_length) (i * row_length + row_length - i * row_length) table p ≡ put_at (i * row_length) p table
-  unfolding put_at
-  row_back p e =
-      let q : i * row_length + (i * row_length + row_length - i * row_length) ≡ i * row_length + length p = omega arith in
-      ap (λ (l : List ℕ). take (i * row_length) table ++ (p ++ l)) (drop-drop (i * row_length + row_length - i * row_length) (i * row_length) table ∙ ap (λ (x : ℕ). drop x table) q)
-
 -- made anew
 module _ (table : List ℕ) (i : ℕ) (f : ℕ → ℕ) {p : List ℕ} (whole : length table ≡ table_length) (h : i < row_length) (e : p ≡ list_over row_length f) where
   lent_put : put_mid (i * row_length) (i * row_length + row_length - i * row_length) table p ≡ put_at (i * row_length) (list_over row_length f) table
-  lent_put = row_back table i p (ap length e ∙ length_list_over row_length f) ∙ ap (λ (l : List ℕ). put_at (i * row_length) l table) e
+  lent_put = put_part (i * row_length) row_length (list_over row_length f) table p (length_list_over row_length f) e
 
   pub lent_row : RowPut f row_length i table (put_mid (i * row_length) (i * row_length + row_length - i * row_length) table p)
   lent_row = row_put whole h (omega arith) lent_put

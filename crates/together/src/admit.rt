@@ -7,7 +7,6 @@ ghost use Rattle.together.specs.Cells.{Row, RowPut, Admitting, label_for, row_fo
 
 use words::members::{lowest, meet_at, others};
 use words::parts::meet_row;
-use words::sets::wide;
 use words::tables::ROW;
 
 // The states in which all needs are together: of each need, with those from it on.
@@ -15,6 +14,7 @@ fn label_of(need: u64, all: u64, t: &[u64]) -> u64
     requires { Source t.now need }
     ensures { result ≡ label_for all t.now need }
 {
+    // Kept (point 3): by `for p in Members(need)`, with the needs from p on cut out of all, a dense build is 1.04 times as slow.
     let mut left = need;
     let mut label = all;
     while 0 < left {
@@ -59,8 +59,7 @@ pub fn admit(
     ensures { (live.new ≡ put_at 0 (list_over (length needs.now) (λ i. label_for all t.now (get_or needs.now i 0))) live.old)
         × ((i q : ℕ) → i < length needs.now → q < width → cell r.new i q ≡ row_for all labels.now t.now (get_or needs.now i 0) q) }
 {
-    for i in 0..needs.len() {
-        let label = admit_row(&mut *r, i, wide(needs[i]), all, labels, t, width);
-        live[i] = label;
+    for (i, need) in needs.iter().enumerate() {
+        live[i] = admit_row(&mut *r, i, u64::from(*need), all, labels, t, width);
     }
 }

@@ -5,7 +5,6 @@ ghost use Rattle.rules.specs.Word.{bit};
 ghost use Rattle.words.specs.Rows.{row_length, cell};
 ghost use Rattle.together.specs.Cells.{Cutting, with_prop};
 
-use words::sets::wide;
 use words::tables::{clear_cells, clear_column};
 
 // The table has a row for each effect.
@@ -13,8 +12,8 @@ pub fn cut_rows(r: &mut [u64], dels: &[u32])
     requires { Cutting dels.now r.old }
     ensures { (i q : ℕ) → i < length dels.now → q < row_length → cell r.new i q ≡ with_prop dels.now r.old i q }
 {
-    for i in 0..dels.len() {
-        clear_cells(&mut *r, i, wide(dels[i]));
+    for (i, del) in dels.iter().enumerate() {
+        clear_cells(&mut *r, i, u64::from(*del));
     }
 }
 
@@ -23,7 +22,7 @@ pub fn cut_columns(turned: &mut [u64], dels: &[u32])
     requires { Cutting dels.now turned.old }
     ensures { (i q : ℕ) → i < length dels.now → cell turned.new q i ≡ choose (bit q (get_or dels.now i 0)) 0 (cell turned.old q i) }
 {
-    for i in 0..dels.len() {
-        clear_column(&mut *turned, i, wide(dels[i]));
+    for (i, del) in dels.iter().enumerate() {
+        clear_column(&mut *turned, i, u64::from(*del));
     }
 }

@@ -4,14 +4,13 @@ ghost use Rattle.rules.specs.Test.{choose};
 ghost use Rattle.rules.specs.Word as W;
 ghost use Rattle.rules.specs.Over.{keep, join_of};
 ghost use Rattle.rules.specs.Lists.{list_over};
-ghost use Rattle.words.specs.Memory.{put_at};
 ghost use Rattle.words.specs.Rows.{row_length, cell, Target, Source, InParts};
 ghost use Rattle.together.specs.Cells.{RowPut, Independent, Lists, EmptyRows, Fewing, with_independent, mates_of, beside_of, mate_of, beside_for};
 
 use words::columns::spread;
-use words::members::{lowest, meet_at, others, single};
+use words::members::{Members, meet_at, single};
 use words::parts::join_row;
-use words::sets::{Props, States, wide};
+use words::sets::{Props, Set, States};
 use words::tables::{ROW, clear_cells};
 
 // Effect i with each of these, which are independent of it:
@@ -30,13 +29,10 @@ fn few_row(
     ensures { (mates.new ≡ list_over row_length (λ j. choose (W.bit j set) (with_independent needs.now live.now row.now i j) (get_or mates.old j 0)))
         × (beside.new ≡ list_over row_length (λ p. W.union (get_or beside.old p 0) (join_of row_length set (λ j. keep (W.bit p (get_or adds.now j 0)) (with_independent needs.now live.now row.now i j))))) }
 {
-    let mut left = set;
-    while 0 < left {
-        let j = lowest(left);
-        let both = meet_at(row, wide(needs[j]), live[i] & live[j]);
+    for j in Members(set) {
+        let both = meet_at(row, u64::from(needs[j]), live[i] & live[j]);
         mates[j] = both;
         spread(&mut *beside, Props(adds[j]), both);
-        left = others(left);
     }
 }
 
@@ -98,7 +94,7 @@ fn few_effects(
         × ((i p : ℕ) → i < length needs.now → p < width → cell besides.new i p ≡ beside_for needs.now adds.now dels.now interferers.now live.now r.now i p) }
 {
     for i in 0..needs.len() {
-        keep_row(&mut *besides, i, r, wide(dels[i]), width);
+        keep_row(&mut *besides, i, r, u64::from(dels[i]), width);
         let at = i * ROW;
         let end = at + ROW;
         few_effect(
@@ -111,16 +107,6 @@ fn few_effects(
             &mut mates[at..end],
             &mut besides[at..end],
         );
-    }
-}
-
-// Empty words at the front.
-fn clear(words: &mut [u64], count: usize)
-    requires { count ≤ length words.old }
-    ensures { words.new ≡ put_at 0 (list_over count (λ i. 0)) words.old }
-{
-    for i in 0..count {
-        words[i] = 0;
     }
 }
 
@@ -141,7 +127,8 @@ pub fn few(
     ensures { ((i j : ℕ) → i < length needs.now → j < row_length → cell mates.new i j ≡ mate_of needs.now interferers.now live.now r.now i j)
         × ((i p : ℕ) → i < length needs.now → p < width → cell besides.new i p ≡ beside_for needs.now adds.now dels.now interferers.now live.now r.now i p) }
 {
-    clear(&mut *mates, needs.len() * ROW);
+    let used = needs.len() * ROW;
+    mates[..used].fill(0);
     few_effects(
         needs,
         adds,

@@ -8,7 +8,7 @@ ghost use Rattle.words.specs.Rows.{row_length};
 ghost use Rattle.together.specs.Interference as I;
 
 use words::members::single;
-use words::sets::Props;
+use words::sets::{Props, Set};
 
 // Whether i deletes something that j needs or adds.
 fn clobbers(needs: &[u32], adds: &[u32], dels: &[u32], i: usize, j: usize) -> bool
@@ -24,10 +24,7 @@ fn either_clobbers(needs: &[u32], adds: &[u32], dels: &[u32], i: usize, j: usize
     requires { (i < length needs.now) × (j < length needs.now) × (length adds.now ≡ length needs.now) × (length dels.now ≡ length needs.now) }
     ensures { result ≡ (I.clobbers_in needs.now adds.now dels.now i j or I.clobbers_in needs.now adds.now dels.now j i) }
 {
-    if clobbers(needs, adds, dels, i, j) {
-        return true;
-    }
-    clobbers(needs, adds, dels, j, i)
+    clobbers(needs, adds, dels, i, j) || clobbers(needs, adds, dels, j, i)
 }
 
 // Just j where it interferes with i, else no effect. Whose effects they are is looked at last, only where it matters.
@@ -51,7 +48,7 @@ fn interferers_of(needs: &[u32], adds: &[u32], dels: &[u32], owners: &[u8], i: u
 {
     let mut joined = 0;
     for j in 0..needs.len() {
-        joined = joined | interferer(needs, adds, dels, owners, i, j);
+        joined |= interferer(needs, adds, dels, owners, i, j);
     }
     joined
 }
@@ -67,7 +64,7 @@ pub fn interferer_sets(
     requires { I.Listed needs.now adds.now dels.now owners.now × (length needs.now ≤ row_length) × (length interferers.old ≡ length needs.now) }
     ensures { interferers.new ≡ list_over (length needs.now) (I.interferers_of needs.now adds.now dels.now owners.now) }
 {
-    for i in 0..interferers.len() {
-        interferers[i] = interferers_of(needs, adds, dels, owners, i);
+    for (i, set) in interferers.iter_mut().enumerate() {
+        *set = interferers_of(needs, adds, dels, owners, i);
     }
 }

@@ -6,7 +6,6 @@ ghost use Rattle.words.specs.Rows.{row_length, table_length, cell};
 ghost use Rattle.together.specs.Cells.{Pairing, Joining, with_effect};
 
 use words::parts::{gather_row, join_row, meet_row};
-use words::sets::wide;
 use words::tables::{ROW, clear_cells};
 
 // An effect with itself is there where it is; with one that it interferes with nowhere.
@@ -21,8 +20,16 @@ pub fn pairs(
     requires { Pairing span needs.now interferers.now live.now turned.now mates.old }
     ensures { (i j : ℕ) → i < length needs.now → j < span → cell mates.new i j ≡ with_effect needs.now interferers.now live.now turned.now i j }
 {
-    for i in 0..needs.len() {
-        meet_row(&mut *mates, i, live, live[i], turned, span, wide(needs[i]));
+    for (i, need) in needs.iter().enumerate() {
+        meet_row(
+            &mut *mates,
+            i,
+            live,
+            live[i],
+            turned,
+            span,
+            u64::from(*need),
+        );
         clear_cells(&mut *mates, i, interferers[i]);
         mates[i * ROW + i] = live[i];
     }
@@ -33,8 +40,8 @@ pub fn join_rows(to: &mut [u64], from: &[u64], table: &[u64], sets: &[u64], widt
     requires { Joining to.old table.now sets.now width × (length from.now ≡ table_length) }
     ensures { (p k : ℕ) → p < length sets.now → k < width → cell to.new p k ≡ union (cell from.now p k) (join_of row_length (get_or sets.now p 0) (λ i. cell table.now i k)) }
 {
-    for p in 0..sets.len() {
-        join_row(&mut *to, p, from, table, width, sets[p]);
+    for (p, set) in sets.iter().enumerate() {
+        join_row(&mut *to, p, from, table, width, *set);
     }
 }
 
@@ -43,7 +50,7 @@ pub fn gather_rows(to: &mut [u64], table: &[u64], sets: &[u64], width: usize)
     requires { Joining to.old table.now sets.now width }
     ensures { (p k : ℕ) → p < length sets.now → k < width → cell to.new p k ≡ join_of row_length (get_or sets.now p 0) (λ i. cell table.now i k) }
 {
-    for p in 0..sets.len() {
-        gather_row(&mut *to, p, table, width, sets[p]);
+    for (p, set) in sets.iter().enumerate() {
+        gather_row(&mut *to, p, table, width, *set);
     }
 }

@@ -5,7 +5,7 @@ ghost use Rattle.graph.specs.Verdict.{verdict};
 ghost use Rattle.within.specs.Rule as R;
 
 use graph::refusal::Refusal;
-use words::sets::Props;
+use words::sets::{Props, Set};
 
 // Whether a set has all that is sure and no proposition but the first so many.
 fn encloses(props: usize, sure: Props, set: Props) -> bool

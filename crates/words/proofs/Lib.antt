@@ -8,3 +8,4 @@ pub mod Cells
 pub mod Spreads
 pub mod Squares
 pub mod Zeros
+pub mod FoldLaws

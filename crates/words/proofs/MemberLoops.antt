@@ -29,12 +29,12 @@ unfolding ◌or◌
 or_regroup true b c = refl
 or_regroup false b c = refl
 
-union_assoc : (a b c : ℕ) → union (union a b) c ≡ union a (union b c)
+pub union_assoc : (a b c : ℕ) → union (union a b) c ≡ union a (union b c)
 union_assoc a b c = ext_all (λ s.
     bit_union s (union a b) c ∙ ap (λ (x : Bool). x or bit s c) (bit_union s a b) ∙ or_regroup (bit s a) (bit s b) (bit s c)
     ∙ sym (bit_union s a (union b c) ∙ ap (λ (x : Bool). bit s a or x) (bit_union s b c)))
 
-common_assoc : (a b c : ℕ) → common (common a b) c ≡ common a (common b c)
+pub common_assoc : (a b c : ℕ) → common (common a b) c ≡ common a (common b c)
 common_assoc a b c = ext_all (λ s.
     bit_common s (common a b) c ∙ ap (λ (x : Bool). x and bit s c) (bit_common s a b) ∙ and_assoc (bit s a) (bit s b) (bit s c)
     ∙ sym (bit_common s a (common b c) ∙ ap (λ (x : Bool). bit s a and x) (bit_common s b c)))

@@ -145,6 +145,14 @@ put_within at b xs w p room e =
     ∙ ap₂ (λ (l r : List ℕ). l ++ (xs ++ r)) (sym (take-add at b w))
     (drop-drop (b + length xs) at w ∙ ap (λ (x : ℕ). drop x w) (sym (add_assoc at b (length xs))))
 
+-- the same of a part from `at` on that is as long as these words
+pub put_part : (at n : ℕ) (xs w p : List ℕ) → length xs ≡ n → p ≡ xs → put_mid at (at + n - at) w p ≡ put_at at xs w
+unfolding put_at
+put_part at n xs w p long e =
+    let here : at + (at + n - at) ≡ at + length xs = omega arith in
+    ap (λ (l : List ℕ). take at w ++ (l ++ drop (at + n - at) (drop at w))) e
+    ∙ ap (λ (l : List ℕ). take at w ++ (xs ++ l)) (drop-drop (at + n - at) at w ∙ ap (λ (x : ℕ). drop x w) here)
+
 -- the words of a list, one by one
 pub list_all : {n : ℕ} (l : List ℕ) → length l ≡ n → list_over n (λ k. get_or l k 0) ≡ l
 list_all l e = ap (λ (x : ℕ). list_over x (λ k. get_or l k 0)) (sym e) ∙ list_over_self

@@ -3,3 +3,5 @@ pub mod Width
 pub mod Memory
 pub mod Rows
 pub mod Squares
+pub mod Members
+pub mod Folds

@@ -7,8 +7,8 @@ ghost use Rattle.rules.specs.Layer.{label_in};
 ghost use Rattle.words.specs.Rows.{columns_of};
 ghost use Rattle.words.specs.Width.{prop_width, word_width};
 
-use crate::members::{lowest, others, single};
-use crate::sets::{Props, wide};
+use crate::members::{Members, single};
+use crate::sets::{Props, Set};
 
 // Joins `t` to the word of each member. Only the members cost time, and where `t` is empty they do not.
 pub fn spread(row: &mut [u64], set: Props, t: u64)
@@ -18,11 +18,8 @@ pub fn spread(row: &mut [u64], set: Props, t: u64)
     if t == 0 {
         return;
     }
-    let mut left = wide(Props::first(row.len()).common(set).0);
-    while 0 < left {
-        let q = lowest(left);
-        row[q] = row[q] | t;
-        left = others(left);
+    for q in Members(Props::first(row.len()).common(set).word()) {
+        row[q] |= t;
     }
 }
 
@@ -31,7 +28,7 @@ pub fn columns(row: &mut [u64], sets: &[u32])
     requires { (length row.old ≤ prop_width) × (length sets.now ≤ word_width) × (row.old ≡ list_over (length row.old) (λ p. 0)) }
     ensures { row.new ≡ columns_of (length row.old) sets.now }
 {
-    for i in 0..sets.len() {
-        spread(&mut *row, Props(sets[i]), single(i));
+    for (i, set) in sets.iter().enumerate() {
+        spread(&mut *row, Props(*set), single(i));
     }
 }

@@ -1,13 +1,14 @@
 // Rows of a table met and joined with other rows, in parts: the compiler keeps a part in registers while the named rows go by.
-ghost use Rattle.std.specs.Prelude.{◌≡◌, ◌+◌, ◌*◌, ◌≤◌, ◌<◌, length, get_or};
+ghost use Rattle.std.specs.Prelude.{◌≡◌, ℕ, ◌+◌, ◌*◌, ◌≤◌, ◌<◌, length, get_or};
 ghost use Rattle.rules.specs.Test.{same, choose};
 ghost use Rattle.rules.specs.Word.{common, union};
 ghost use Rattle.rules.specs.Over.{join_of, meet_of};
 ghost use Rattle.rules.specs.Lists.{list_over};
+ghost use Rattle.words.specs.Folds.{FoldLaws, joined_with, met_with};
 ghost use Rattle.words.specs.Memory.{put_at};
 ghost use Rattle.words.specs.Rows.{row_length, part_length, table_length, cell, Target, Source, InParts};
 
-use crate::members::{lowest, others};
+use crate::members::Members;
 use crate::tables::ROW;
 
 // The words of a row that are worked on at once.
@@ -15,13 +16,49 @@ pub const PART: usize = 16;
 
 const ALL: u64 = 0xffff_ffff_ffff_ffff;
 
+// How a word is taken together with another, and with the words that a set names, one after the other.
+trait Fold {
+    ghost op: { ℕ → ℕ → ℕ };
+
+    ghost over: { ℕ → (ℕ → ℕ) → ℕ → ℕ };
+
+    fn fold(a: u64, b: u64) -> u64
+        ensures { result ≡ op a b };
+}
+
+// What both have.
+struct Meet;
+
+impl Fold for Meet {
+    ghost op = { common };
+
+    ghost over = { met_with };
+
+    fn fold(a: u64, b: u64) -> u64 {
+        a & b
+    }
+}
+
+// What either has.
+struct Join;
+
+impl Fold for Join {
+    ghost op = { union };
+
+    ghost over = { joined_with };
+
+    fn fold(a: u64, b: u64) -> u64 {
+        a | b
+    }
+}
+
 // Words cut to a word.
 fn take_part(part: &mut [u64], words: &[u64], at: usize, own: u64)
     requires { (length part.old ≡ part_length) × (at + part_length ≤ length words.now) }
     ensures { part.new ≡ list_over part_length (λ k. common (get_or words.now (at + k) 0) own) }
 {
-    for k in 0..PART {
-        part[k] = words[at + k] & own;
+    for (k, word) in part.iter_mut().enumerate() {
+        *word = words[at + k] & own;
     }
 }
 
@@ -29,91 +66,72 @@ fn put_part(dest: &mut [u64], to: usize, part: &[u64])
     requires { (length part.now ≡ part_length) × (to + part_length ≤ length dest.old) }
     ensures { dest.new ≡ put_at to part.now dest.old }
 {
-    for k in 0..PART {
-        dest[to + k] = part[k];
+    // Kept (point 3): by `copy_from_slice` the part is worked on word by word, and a build is 1.1 to 1.8 times as slow.
+    for (k, word) in part.iter().enumerate() {
+        dest[to + k] = *word;
     }
 }
 
-fn meet_part(part: &mut [u64], table: &[u64], at: usize)
+fn fold_part<F: Fold>(part: &mut [u64], table: &[u64], at: usize)
     requires { (length part.old ≡ part_length) × (at + part_length ≤ length table.now) }
-    ensures { part.new ≡ list_over part_length (λ k. common (get_or part.old k 0) (get_or table.now (at + k) 0)) }
+    ensures { part.new ≡ list_over part_length (λ k. F.op (get_or part.old k 0) (get_or table.now (at + k) 0)) }
 {
-    for k in 0..PART {
-        part[k] = part[k] & table[at + k];
+    for (k, word) in part.iter_mut().enumerate() {
+        *word = F::fold(*word, table[at + k]);
     }
 }
 
-fn join_part(part: &mut [u64], table: &[u64], at: usize)
-    requires { (length part.old ≡ part_length) × (at + part_length ≤ length table.now) }
-    ensures { part.new ≡ list_over part_length (λ k. union (get_or part.old k 0) (get_or table.now (at + k) 0)) }
+// The part with the named rows, from column `col` on.
+fn fold_parts<F: Fold>(part: &mut [u64], table: &[u64], col: usize, named: u64)
+    requires laws { FoldLaws F.op F.over }
+    requires room { (length part.old ≡ part_length) × Source table.now named × (col + part_length ≤ row_length) }
+    ensures { part.new ≡ list_over part_length (λ k. F.over named (λ i. cell table.now i (col + k)) (get_or part.old k 0)) }
 {
-    for k in 0..PART {
-        part[k] = part[k] | table[at + k];
+    for i in Members(named) {
+        fold_part::<F>(&mut *part, table, i * ROW + col);
     }
 }
 
-// The part met with the named rows, from column `col` on.
-fn meet_parts(part: &mut [u64], table: &[u64], col: usize, named: u64)
-    requires { (length part.old ≡ part_length) × Source table.now named × (col + part_length ≤ row_length) }
-    ensures { part.new ≡ list_over part_length (λ k. meet_of row_length named (λ i. cell table.now i (col + k)) (get_or part.old k 0)) }
-{
-    let mut left = named;
-    while 0 < left {
-        meet_part(&mut *part, table, lowest(left) * ROW + col);
-        left = others(left);
-    }
-}
-
-// The part joined with them.
-fn join_parts(part: &mut [u64], table: &[u64], col: usize, named: u64)
-    requires { (length part.old ≡ part_length) × Source table.now named × (col + part_length ≤ row_length) }
-    ensures { part.new ≡ list_over part_length (λ k. union (get_or part.old k 0) (join_of row_length named (λ i. cell table.now i (col + k)))) }
-{
-    let mut left = named;
-    while 0 < left {
-        join_part(&mut *part, table, lowest(left) * ROW + col);
-        left = others(left);
-    }
-}
-
-// Part `col` of row `row`: the start cut to `own`, met with the named rows.
-fn meet_cols(
+// Part `col` of row `row`: the words of `start` from `at` on cut to `own`, with the named rows.
+fn fold_cols<F: Fold>(
     dest: &mut [u64],
     row: usize,
     start: &[u64],
+    at: usize,
     own: u64,
     table: &[u64],
     col: usize,
     named: u64,
 )
-    requires { Target dest.old row × (length start.now ≡ row_length) × Source table.now named × (col + part_length ≤ row_length) }
-    ensures { dest.new ≡ put_at (row * row_length + col) (list_over part_length (λ k. meet_of row_length named (λ i. cell table.now i (col + k)) (common (get_or start.now (col + k) 0) own))) dest.old }
+    requires laws { FoldLaws F.op F.over }
+    requires room { Target dest.old row × (at + row_length ≤ length start.now) × Source table.now named × (col + part_length ≤ row_length) }
+    ensures { dest.new ≡ put_at (row * row_length + col) (list_over part_length (λ k. F.over named (λ i. cell table.now i (col + k)) (common (get_or start.now (at + (col + k)) 0) own))) dest.old }
 {
     let mut part = [0u64; PART];
-    take_part(&mut part[..], start, col, own);
-    meet_parts(&mut part[..], table, col, named);
+    take_part(&mut part[..], start, at + col, own);
+    fold_parts::<F>(&mut part[..], table, col, named);
     put_part(dest, row * ROW + col, &part[..]);
 }
 
-// Part `col` of row `row`: that of `from`, joined with the named rows.
-fn join_cols(dest: &mut [u64], row: usize, from: &[u64], table: &[u64], col: usize, named: u64)
-    requires { Target dest.old row × (length from.now ≡ table_length) × Source table.now named × (col + part_length ≤ row_length) }
-    ensures { dest.new ≡ put_at (row * row_length + col) (list_over part_length (λ k. union (cell from.now row (col + k)) (join_of row_length named (λ i. cell table.now i (col + k))))) dest.old }
+// Row `row` of a table. `width` is PART or ROW.
+fn fold_row<F: Fold>(
+    dest: &mut [u64],
+    row: usize,
+    start: &[u64],
+    at: usize,
+    own: u64,
+    table: &[u64],
+    width: usize,
+    named: u64,
+)
+    requires laws { FoldLaws F.op F.over }
+    requires room { Target dest.old row × (at + row_length ≤ length start.now) × Source table.now named × InParts width }
+    ensures { dest.new ≡ put_at (row * row_length) (list_over width (λ k. F.over named (λ i. cell table.now i k) (common (get_or start.now (at + k) 0) own))) dest.old }
 {
-    let mut part = [0u64; PART];
-    take_part(&mut part[..], from, row * ROW + col, ALL);
-    join_parts(&mut part[..], table, col, named);
-    put_part(dest, row * ROW + col, &part[..]);
-}
-
-// Part `col` of row `row`: the named rows, joined.
-fn gather_cols(dest: &mut [u64], row: usize, table: &[u64], col: usize, named: u64)
-    requires { Target dest.old row × Source table.now named × (col + part_length ≤ row_length) }
-    ensures { dest.new ≡ put_at (row * row_length + col) (list_over part_length (λ k. join_of row_length named (λ i. cell table.now i (col + k)))) dest.old }
-{
-    let mut part = [0u64; PART];
-    join_parts(&mut part[..], table, col, named);
-    put_part(dest, row * ROW + col, &part[..]);
+    fold_cols::<F>(&mut *dest, row, start, at, own, table, 0, named);
+    if PART < width {
+        fold_cols::<F>(dest, row, start, at, own, table, PART, named);
+    }
 }
 
 // The rows that can change words cut to `own`: none where that is empty.
@@ -140,10 +158,7 @@ pub fn meet_row(
     ensures { dest.new ≡ put_at (row * row_length) (list_over width (λ k. meet_of row_length named (λ i. cell table.now i k) (common (get_or start.now k 0) own))) dest.old }
 {
     let rows = rows_for(own, named);
-    meet_cols(&mut *dest, row, start, own, table, 0, rows);
-    if PART < width {
-        meet_cols(dest, row, start, own, table, PART, rows);
-    }
+    fold_row::<Meet>(dest, row, start, 0, own, table, width, rows);
 }
 
 // Row `row` of a table: that of `from`, joined with the named rows of another.
@@ -151,19 +166,13 @@ pub fn join_row(dest: &mut [u64], row: usize, from: &[u64], table: &[u64], width
     requires { Target dest.old row × (length from.now ≡ table_length) × Source table.now named × InParts width }
     ensures { dest.new ≡ put_at (row * row_length) (list_over width (λ k. union (cell from.now row k) (join_of row_length named (λ i. cell table.now i k)))) dest.old }
 {
-    join_cols(&mut *dest, row, from, table, 0, named);
-    if PART < width {
-        join_cols(dest, row, from, table, PART, named);
-    }
+    fold_row::<Join>(dest, row, from, row * ROW, ALL, table, width, named);
 }
 
-// Row `row` of a table: the named rows of another, joined.
+// Row `row` of a table: the named rows of another, joined; they begin with no word of any.
 pub fn gather_row(dest: &mut [u64], row: usize, table: &[u64], width: usize, named: u64)
     requires { Target dest.old row × Source table.now named × InParts width }
     ensures { dest.new ≡ put_at (row * row_length) (list_over width (λ k. join_of row_length named (λ i. cell table.now i k))) dest.old }
 {
-    gather_cols(&mut *dest, row, table, 0, named);
-    if PART < width {
-        gather_cols(dest, row, table, PART, named);
-    }
+    fold_row::<Join>(dest, row, table, 0, 0, table, width, named);
 }

@@ -1,80 +1,122 @@
-// Sets of propositions and of start states: a type each, so that one is never read as the other.
-ghost use Rattle.std.specs.Prelude.{◌≡◌, ◌≤◌, ◌<◌};
+// Sets of propositions and of start states: a type each, so that one is never read as the other, and one trait for what sets do.
+ghost use Rattle.std.specs.Prelude.{◌≡◌, ℕ, ◌≤◌, ◌<◌, ◌^◌};
+ghost use Rattle.std.proofs.Common.{rules};
 ghost use Rattle.rules.specs.Test.{same};
 ghost use Rattle.rules.specs.Word as W;
-ghost use Rattle.words.specs.Width.{prop_width, state_width};
+ghost use Rattle.words.specs.Width.{prop_width, state_width, word_width};
 
 pub const PROP_WIDTH: usize = 32;
 
 pub const STATE_WIDTH: usize = 64;
 
+// The width of a word, and one of all ones.
+const WORD_WIDTH: usize = 64;
+
+const ALL: u64 = 0xffff_ffff_ffff_ffff;
+
+// A set of numbers below a width, bit i of its word for i.
+pub trait Set: Copy {
+    ghost width: { ℕ };
+
+    ghost members: { Self → ℕ };
+
+    // As a word of 64 bits.
+    fn word(self) -> u64
+        ensures is { result ≡ members self }
+        ensures inside { result < 2 ^ width };
+
+    fn from_word(word: u64) -> Self
+        requires { word < 2 ^ width }
+        ensures { members result ≡ word };
+
+    // Just i.
+    fn single(i: usize) -> Self
+        requires { i < width }
+        ensures { members result ≡ W.single i }
+    {
+        Self::from_word(1u64 << i)
+    }
+
+    // The first n.
+    fn first(n: usize) -> Self
+        requires { n ≤ width }
+        ensures { members result ≡ W.first n }
+    {
+        if n == 0 {
+            return Self::from_word(0);
+        }
+        Self::from_word(ALL >> (WORD_WIDTH - n))
+    }
+
+    fn has(self, i: usize) -> bool
+        requires { i < width }
+        ensures { result ≡ W.bit i (members self) }
+    {
+        (self.word() >> i) % 2 == 1
+    }
+
+    fn union(self, b: Self) -> Self
+        ensures { members result ≡ W.union (members self) (members b) }
+    {
+        Self::from_word(self.word() | b.word())
+    }
+
+    fn common(self, b: Self) -> Self
+        ensures { members result ≡ W.common (members self) (members b) }
+    {
+        Self::from_word(self.word() & b.word())
+    }
+
+    fn without(self, b: Self) -> Self
+        ensures { members result ≡ W.without (members self) (members b) }
+    {
+        let own = self.word();
+        Self::from_word(own ^ (own & b.word()))
+    }
+
+    fn within(self, b: Self) -> bool
+        ensures { result ≡ W.within (members self) (members b) }
+    {
+        let own = self.word();
+        own ^ (own & b.word()) == 0
+    }
+
+    fn meets(self, b: Self) -> bool
+        ensures { result ≡ W.meets (members self) (members b) }
+    {
+        self.word() & b.word() != 0
+    }
+
+    fn is_empty(self) -> bool
+        ensures { result ≡ same (members self) 0 }
+    {
+        self.word() == 0
+    }
+
+    ghost narrow: { width ≤ word_width };
+}
+
 // A set of propositions, bit p for proposition p.
-#[derive(Clone, Copy)]
+#[derive(Clone, Copy, Debug, PartialEq, Eq)]
 pub struct Props(pub u32);
 
 impl Props {
     pub const EMPTY: Props = Props(0);
+}
 
-    // Just i.
-    pub fn single(i: usize) -> Props
-        requires { i < prop_width }
-        ensures { result.0 ≡ W.single i }
-    {
-        Props(1u32 << i)
+impl Set for Props {
+    ghost width = { prop_width };
+
+    ghost members = { λ s. s.0 };
+
+    ghost narrow = { Prim.search rules };
+
+    fn word(self) -> u64 {
+        u64::from(self.0)
     }
 
-    // The first n.
-    pub fn first(n: usize) -> Props
-        requires { n ≤ prop_width }
-        ensures { result.0 ≡ W.first n }
-    {
-        if n == 0 {
-            return Props::EMPTY;
-        }
-        Props(0xffff_ffffu32 >> (PROP_WIDTH - n))
-    }
-
-    pub fn has(self, i: usize) -> bool
-        requires { i < prop_width }
-        ensures { result ≡ W.bit i self.0 }
-    {
-        (self.0 >> i) % 2 == 1
-    }
-
-    pub fn union(self, b: Props) -> Props
-        ensures { result.0 ≡ W.union self.0 b.0 }
-    {
-        Props(self.0 | b.0)
-    }
-
-    pub fn common(self, b: Props) -> Props
-        ensures { result.0 ≡ W.common self.0 b.0 }
-    {
-        Props(self.0 & b.0)
-    }
-
-    pub fn without(self, b: Props) -> Props
-        ensures { result.0 ≡ W.without self.0 b.0 }
-    {
-        Props(self.0 ^ (self.0 & b.0))
-    }
-
-    pub fn within(self, b: Props) -> bool
-        ensures { result ≡ W.within self.0 b.0 }
-    {
-        self.0 ^ (self.0 & b.0) == 0
-    }
-
-    pub fn meets(self, b: Props) -> bool
-        ensures { result ≡ W.meets self.0 b.0 }
-    {
-        self.0 & b.0 != 0
-    }
-
-    pub fn is_empty(self) -> bool
-        ensures { result ≡ same self.0 0 }
-    {
-        self.0 == 0
+    fn from_word(word: u64) -> Props {
+        Props(word as u32)
     }
 }
 
@@ -82,75 +124,29 @@ impl Props {
 pub fn wide(set: u32) -> u64
     ensures { result ≡ set }
 {
-    set as u64
+    u64::from(set)
 }
 
 // A set of start states, bit s for state s.
-#[derive(Clone, Copy)]
+#[derive(Clone, Copy, Debug, PartialEq, Eq)]
 pub struct States(pub u64);
 
 impl States {
     pub const EMPTY: States = States(0);
+}
 
-    // Just i.
-    pub fn single(i: usize) -> States
-        requires { i < state_width }
-        ensures { result.0 ≡ W.single i }
-    {
-        States(1u64 << i)
+impl Set for States {
+    ghost width = { state_width };
+
+    ghost members = { λ s. s.0 };
+
+    ghost narrow = { Prim.search rules };
+
+    fn word(self) -> u64 {
+        self.0
     }
 
-    // The first n.
-    pub fn first(n: usize) -> States
-        requires { n ≤ state_width }
-        ensures { result.0 ≡ W.first n }
-    {
-        if n == 0 {
-            return States::EMPTY;
-        }
-        States(0xffff_ffff_ffff_ffffu64 >> (STATE_WIDTH - n))
-    }
-
-    pub fn has(self, i: usize) -> bool
-        requires { i < state_width }
-        ensures { result ≡ W.bit i self.0 }
-    {
-        (self.0 >> i) % 2 == 1
-    }
-
-    pub fn union(self, b: States) -> States
-        ensures { result.0 ≡ W.union self.0 b.0 }
-    {
-        States(self.0 | b.0)
-    }
-
-    pub fn common(self, b: States) -> States
-        ensures { result.0 ≡ W.common self.0 b.0 }
-    {
-        States(self.0 & b.0)
-    }
-
-    pub fn without(self, b: States) -> States
-        ensures { result.0 ≡ W.without self.0 b.0 }
-    {
-        States(self.0 ^ (self.0 & b.0))
-    }
-
-    pub fn within(self, b: States) -> bool
-        ensures { result ≡ W.within self.0 b.0 }
-    {
-        self.0 ^ (self.0 & b.0) == 0
-    }
-
-    pub fn meets(self, b: States) -> bool
-        ensures { result ≡ W.meets self.0 b.0 }
-    {
-        self.0 & b.0 != 0
-    }
-
-    pub fn is_empty(self) -> bool
-        ensures { result ≡ same self.0 0 }
-    {
-        self.0 == 0
+    fn from_word(word: u64) -> States {
+        States(word)
     }
 }

@@ -6,7 +6,7 @@ ghost use Rattle.rules.specs.Lists.{list_over};
 ghost use Rattle.words.specs.Memory.{put_at};
 ghost use Rattle.words.specs.Rows.{row_length, table_length, cell};
 
-use crate::members::{lowest, others};
+use crate::members::Members;
 
 // From one row of a table to the next.
 pub const ROW: usize = 32;
@@ -38,10 +38,8 @@ pub fn clear_cells(table: &mut [u64], row: usize, set: u64)
     requires { (length table.old ≡ table_length) × (row < row_length) × (set < 2 ^ row_length) }
     ensures { table.new ≡ put_at (row * row_length) (list_over row_length (λ k. choose (bit k set) 0 (cell table.old row k))) table.old }
 {
-    let mut left = set;
-    while 0 < left {
-        table[row * ROW + lowest(left)] = 0;
-        left = others(left);
+    for k in Members(set) {
+        table[row * ROW + k] = 0;
     }
 }
 
@@ -50,10 +48,8 @@ pub fn clear_column(table: &mut [u64], column: usize, set: u64)
     requires { (length table.old ≡ table_length) × (column < row_length) × (set < 2 ^ row_length) }
     ensures { (p q : ℕ) → q < row_length → cell table.new p q ≡ choose (same q column and bit p set) 0 (cell table.old p q) }
 {
-    let mut left = set;
-    while 0 < left {
-        table[lowest(left) * ROW + column] = 0;
-        left = others(left);
+    for p in Members(set) {
+        table[p * ROW + column] = 0;
     }
 }
 

@@ -7,8 +7,6 @@ ghost use Rattle.words.specs.Rows.{columns_of};
 ghost use Rattle.words.specs.Squares.{pair_count, swap_pair, swap_pairs, make_squares};
 ghost use Rattle.words.specs.Width.{prop_width};
 
-use crate::sets::wide;
-
 // The pairs of rows of each stage.
 const PAIRS: usize = 16;
 
@@ -62,8 +60,8 @@ fn widen(row: &mut [u64], rows: &[u32])
     requires { length row.old ≤ length rows.now }
     ensures { row.new ≡ list_over (length row.old) (λ p. get_or rows.now p 0) }
 {
-    for p in 0..row.len() {
-        row[p] = wide(rows[p]);
+    for (p, word) in row.iter_mut().enumerate() {
+        *word = u64::from(rows[p]);
     }
 }
 

@@ -1,25 +1,19 @@
 use mathlib.Core.Path.{refl}
-use Prim.Native.Nat.{◌≤◌}
 use native.Mathlib.Omega.{arith}
 use borrow.Author.Rules.{rules}
-use lib.Count.{ones, ones-le}
-use lib.ListN.{get_or}
+use lib.Count.{ones-le}
 use Rattle.words.specs.Width.{word_width}
 use Rattle.scans.proofs.Looks.{sized_none, sized_more}
 use Rattle.scans.proofs.count_adders.Goals as goal
-use Rattle.scans.proofs.count_adders.Goals.{After-shared_slice_known-1}
-
-few : (c : After-shared_slice_known-1) → ones (get_or c.args.adders.now c.loop-p.p 0) ≤ word_width
-few c = ones-le word_width _ (c.shared_slice_known-1.given c.loop-p.p).fits
 
 pub loop-p-init : goal.loop-p-init
 loop-p-init c = sized_none refl
 
 pub overflow_cast-sizes : goal.overflow_cast-sizes
-overflow_cast-sizes c = omega (arith, few (goal.at.overflow_cast-sizes c).After-shared_slice_known-1)
+overflow_cast-sizes c = omega (arith, ones-le word_width _ (c.type_inv.adders c.loop-p.p).fits)
 
 pub overflow_add-sizes : goal.overflow_add-sizes
-overflow_add-sizes c = omega (arith, few (goal.at.overflow_add-sizes c).After-shared_slice_known-1)
+overflow_add-sizes c = omega (arith, ones-le word_width _ (c.type_inv.adders c.loop-p.p).fits)
 
 pub bounds-sizes-p : goal.bounds-sizes-p
 bounds-sizes-p c = omega (arith, c.loop-p.invariant.long, c.requires.0)

@@ -12,13 +12,13 @@ pub loop-i-init : goal.loop-i-init
 loop-i-init c =
     (list_none (omega (arith, parts_le c.requires.wide.parts)), rows_none (omega arith))
 
-pub admit_row-label-requires : goal.admit_row-label-requires
-admit_row-label-requires c =
+pub admit_row-requires : goal.admit_row-requires
+admit_row-requires c =
     let inside = parts_le c.requires.wide.parts in record {
       parts = c.requires.wide.parts;
       inside = omega arith;
       needs = inside_lt c.args.width c.args.needs.now c.loop-i.i c.requires.wide.inside c.requires.wide.props (omega arith)
-          c.wide.ensures;
+          c.from.ensures;
       r_long = c.loop-i.invariant.1.long;
       labels_long = c.requires.labels_long;
       t_long = c.requires.t_long;
@@ -31,9 +31,9 @@ pub loop-i-preserved : goal.loop-i-preserved
 loop-i-preserved c =
     let a = c.args in (
       list_more c.loop-i.invariant.0 c.loop-i-test.true (sym (zero-add _))
-          (c.admit_row-label.ensures.0 ∙ ap (label_for a.all a.t.now) c.wide.ensures),
-      rows_row c.loop-i.invariant.1 c.requires.wide.parts (omega (arith, c.admit_row-label.auto.r, c.loop-i.invariant.1.long)) c.admit_row-label.ensures.1
-          (λ k h. ap (λ (x : ℕ). row_for a.all a.labels.now a.t.now x k) c.wide.ensures),
+          (c.admit_row.ensures.0 ∙ ap (label_for a.all a.t.now) c.from.ensures),
+      rows_row c.loop-i.invariant.1 c.requires.wide.parts (omega (arith, c.admit_row.auto.r, c.loop-i.invariant.1.long)) c.admit_row.ensures.1
+          (λ k h. ap (λ (x : ℕ). row_for a.all a.labels.now a.t.now x k) c.from.ensures),
     )
 
 pub shape_of-live : goal.shape_of-live

@@ -6,10 +6,10 @@ pub loop-i-init : goal.loop-i-init
 loop-i-init c = cut_columns_none c.requires.long
 
 pub clear_column-requires : goal.clear_column-requires
-clear_column-requires c = (c.loop-i.invariant.long, omega arith, omega (arith, c.wide.ensures, c.shared_slice_known-in-loop-i-1.given c.loop-i.i))
+clear_column-requires c = (c.loop-i.invariant.long, omega arith, omega (arith, c.from.ensures, c.type_inv.dels c.loop-i.i))
 
 pub loop-i-preserved : goal.loop-i-preserved
-loop-i-preserved c = cut_columns_more c.loop-i.invariant (omega arith) c.wide.ensures
+loop-i-preserved c = cut_columns_more c.loop-i.invariant (omega arith) c.from.ensures
     c.clear_column.ensures
 
 pub shape_of-turned : goal.shape_of-turned

@@ -6,10 +6,10 @@ pub loop-i-init : goal.loop-i-init
 loop-i-init c = cut_rows_none c.requires.long
 
 pub clear_cells-requires : goal.clear_cells-requires
-clear_cells-requires c = (c.loop-i.invariant.done.long, omega arith, omega (arith, c.wide.ensures, c.shared_slice_known-in-loop-i-1.given c.loop-i.i))
+clear_cells-requires c = (c.loop-i.invariant.done.long, omega arith, omega (arith, c.from.ensures, c.type_inv.dels c.loop-i.i))
 
 pub loop-i-preserved : goal.loop-i-preserved
-loop-i-preserved c = cut_rows_more c.loop-i.invariant (omega arith) (omega arith) c.wide.ensures
+loop-i-preserved c = cut_rows_more c.loop-i.invariant (omega arith) (omega arith) c.from.ensures
     c.clear_cells.ensures
 
 pub shape_of-r : goal.shape_of-r

@@ -1,28 +1,23 @@
 -- The effects' rows are emptied first.
-use Prim.Native.Nat.{◌+◌, ◌*◌, ◌≤◌}
-use mathlib.Core.Path.{ap, ◌∙◌}
+use Prim.Native.Nat.{ℕ, ◌+◌, ◌*◌, ◌≤◌}
+use mathlib.Core.Path.{◌≡◌, ap, ◌∙◌}
 use mathlib.Core.List.{List}
 use native.Mathlib.Omega.{arith}
-use lib.ListN.{length, get_or}
+use borrow.Author.Rules.{rules}
+use lib.ListN.{length, get_or, drop, replicate, get_or-append}
+use lib.Seq.{length-take-le}
+use Rattle.std.proofs.lemmas.List.{get_or-replicate}
 use Rattle.words.specs.Rows.{row_length, cell}
-use Rattle.words.proofs.Writes.{front_word}
 use Rattle.together.proofs.few.few.Goals as goal
-use Rattle.together.proofs.few.few.Goals.{After-clear-arg-1}
-
--- they lie in the table
-inside : (c : After-clear-arg-1) → length c.args.needs.now * row_length ≤ length c.args.mates.now
-inside c = let p = c.requires in omega (arith, p.wide.effects, p.mates_long)
-
-pub overflow_mul-needs : goal.overflow_mul-needs
-overflow_mul-needs c = omega (arith, c.requires.wide.effects)
-
-pub clear-requires : goal.clear-requires
-clear-requires c = inside (goal.at.clear-requires c).After-clear-arg-1
 
 pub few_effects-requires : goal.few_effects-requires
 unfolding cell
 few_effects-requires c =
-    let p = c.requires in (
+    let p = c.requires in
+    let used = length c.args.needs.now * row_length in
+    let room : used ≤ length c.args.mates.now = omega (arith, p.wide.effects, p.mates_long) in
+    let emptied : c.fill.new.self ≡ replicate used 0 =
+    c.fill.ensures.after (λ y e. search rules) ∙ ap (λ (n : ℕ). replicate n 0) (length-take-le used c.args.mates.now room) in (
       record {
         wide = p.wide;
         adds_long = p.adds_long;
@@ -34,6 +29,6 @@ few_effects-requires c =
         besides_long = p.besides_long;
       },
       λ i k l h.
-          ap (λ (w : List _). get_or w (i * row_length + k) 0) c.clear.ensures
-          ∙ front_word _ (i * row_length + k) (λ q. 0) c.args.mates.now (inside (goal.at.few_effects-requires c).After-clear-arg-1) (omega arith),
+          get_or-append c.fill.new.self (drop used c.args.mates.now) 0 (i * row_length + k) (omega (arith, c.fill.ensures.len, length-take-le used c.args.mates.now room))
+          ∙ ap (λ (w : List ℕ). get_or w (i * row_length + k) 0) emptied ∙ get_or-replicate used (i * row_length + k) 0 0 (omega arith),
     )

@@ -15,7 +15,7 @@ loop-i-init c =
 pub keep_row-requires : goal.keep_row-requires
 keep_row-requires c = (
   record { whole = c.loop-i.invariant.with_adders_lem.long; inside = omega arith },
-  record { whole = c.requires.0.r_long; inside = omega (arith, c.wide.ensures, c.shared_slice_known-in-loop-i-1.given c.loop-i.i) },
+  record { whole = c.requires.0.r_long; inside = omega (arith, c.from.ensures, c.type_inv.dels c.loop-i.i) },
   c.requires.0.wide.parts,
 )
 
@@ -39,7 +39,7 @@ few_effect-requires c =
 
 pub loop-i-preserved : goal.loop-i-preserved
 loop-i-preserved c =
-    effects_more c.loop-i.invariant c.requires.0.wide.parts (omega arith) (omega arith) (omega arith) c.wide.ensures
+    effects_more c.loop-i.invariant c.requires.0.wide.parts (omega arith) (omega arith) (omega arith) c.from.ensures
     c.keep_row.ensures c.few_effect.ensures.0 c.few_effect.ensures.1
 
 pub returns : goal.returns

@@ -2,8 +2,5 @@
 use Rattle.together.proofs.FewLoops.{Fews}
 use Rattle.together.proofs.few.few_row.Given as goal
 
-abbrev pub invariant-loop-left : goal.invariant-loop-left
-invariant-loop-left l = Fews l.i l.set l.needs l.adds l.live l.row l.initial.mates l.initial.beside l.left l.mates l.beside
-
-abbrev pub decreases-loop-left : goal.decreases-loop-left
-decreases-loop-left l = l.left
+abbrev pub invariant-loop-j : goal.invariant-loop-j
+invariant-loop-j l = Fews l.i l.fn.set l.needs l.adds l.live l.row l.initial.mates l.initial.beside l.j-iterator.0 l.mates l.beside

@@ -5,8 +5,8 @@ use Rattle.together.proofs.interference.either_clobbers.Goals as goal
 
 pub returns-then-clobbers : goal.returns-then-clobbers
 unfolding ◌or◌
-returns-then-clobbers c = simp (sym c.clobbers.ensures ∙ c.if-clobbers.true)
+returns-then-clobbers c = rw c.if-clobbers.true (simp (sym c.clobbers.ensures ∙ c.if-clobbers.true))
 
-pub returns : goal.returns
+pub returns-else-clobbers : goal.returns-else-clobbers
 unfolding ◌or◌
-returns c = simp (sym c.clobbers.ensures ∙ c.if-clobbers.false) c.clobbers-2.ensures
+returns-else-clobbers c = simp (sym c.clobbers.ensures ∙ c.if-clobbers.false) c.clobbers-else-clobbers.ensures

@@ -13,7 +13,7 @@ pub meet_row-requires : goal.meet_row-requires
 meet_row-requires c = (
   record { whole = c.loop-i.invariant.1.long; inside = omega arith },
   c.requires.live_long,
-  record { whole = c.requires.turned_long; inside = inside_lt {n = row_length} row_length c.args.needs.now c.loop-i.i c.requires.needs_inside (omega arith) (omega arith) c.wide.ensures },
+  record { whole = c.requires.turned_long; inside = inside_lt {n = row_length} row_length c.args.needs.now c.loop-i.i c.requires.needs_inside (omega arith) (omega arith) c.from.ensures },
   c.requires.spans.parts,
 )
 
@@ -27,7 +27,7 @@ loop-i-preserved c =
       c.loop-i.invariant.0,
       rows_row c.loop-i.invariant.1 c.requires.spans.parts (length-set c.clear_cells.new.table _ _ ∙ omega arith)
           (pairs_put a.needs.now a.interferers.now a.live.now a.turned.now c.requires.spans.parts (omega arith) c.loop-i.invariant.1.long (omega arith) (omega arith)
-          c.wide.ensures c.meet_row.ensures c.clear_cells.ensures) (λ k h. refl),
+          c.from.ensures c.meet_row.ensures c.clear_cells.ensures) (λ k h. refl),
     )
 
 pub returns : goal.returns

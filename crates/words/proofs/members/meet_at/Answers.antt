@@ -1,40 +1,22 @@
 use mathlib.Core.Path.{refl, ap}
 use Prim.Native.Nat.{ℕ}
-use borrow.Author.Rules.{rules}
 use native.Mathlib.Omega.{arith}
 use lib.ListN.{length, get_or}
 use Rattle.words.proofs.MemberLoops.{shares_none, shares_more, shares_done, lowest_lt}
 use Rattle.words.proofs.members.meet_at.Goals as goal
 
-pub loop-left-init : goal.loop-left-init
-loop-left-init c = shares_none (search rules)
+pub loop-i-init : goal.loop-i-init
+loop-i-init c = rw c.into_iter-i-iterator.ensures.into_iter_gives (shares_none c.requires.1)
 
-pub offset_bounds-row-lowest : goal.offset_bounds-row-lowest
-offset_bounds-row-lowest c =
-    omega (
-      arith,
-      c.lowest.ensures,
-      lowest_lt (length c.args.row.now) _
-          c.requires.0 c.loop-left.invariant.inside (search rules),
-    )
+pub bounds-row-i : goal.bounds-row-i
+bounds-row-i c =
+    let t = c.in-Some.ensures.steps in
+    omega (arith, t.is, lowest_lt (length c.args.row.now) _ c.requires.0 c.loop-i.invariant.inside t.some)
 
-pub bounds-row-lowest : goal.bounds-row-lowest
-bounds-row-lowest c =
-    omega (
-      arith,
-      c.lowest.ensures,
-      lowest_lt (length c.args.row.now) _
-          c.requires.0 c.loop-left.invariant.inside (search rules),
-    )
-
-pub loop-left-smaller : goal.loop-left-smaller
-loop-left-smaller c = c.others-left.ensures.1
-
-pub loop-left-preserved : goal.loop-left-preserved
-loop-left-preserved c =
-    shares_more c.loop-left.invariant c.requires.0 (search rules) (ap (λ
-    (i : ℕ). get_or c.args.row.now i 0) c.lowest.ensures) refl
-    c.others-left.ensures.0
+pub loop-i-preserved : goal.loop-i-preserved
+loop-i-preserved c =
+    let t = c.in-Some.ensures.steps in
+    shares_more c.loop-i.invariant c.requires.0 t.some (ap (λ (i : ℕ). get_or c.args.row.now i 0) t.is) refl t.others
 
 pub returns : goal.returns
-returns c = shares_done c.loop-left.invariant (omega arith)
+returns c = shares_done c.loop-i.invariant (omega (arith, c.in-None.ensures.steps.0))

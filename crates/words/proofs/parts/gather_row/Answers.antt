@@ -1,19 +1,24 @@
--- The row is put by parts.
-use mathlib.Core.Path.{refl}
-use native.Mathlib.Omega.{arith}
+-- Words cut to none are empty, so that only the named rows are left.
+use mathlib.Core.Path.{ap, ◌∙◌}
+use mathlib.Core.List.{List}
+use Prim.Native.Nat.{ℕ, ◌+◌, ◌*◌}
+use lib.Bits.{and_zero_r, or_zero_l}
+use lib.ListN.{get_or}
+use Rattle.rules.specs.Word.{union}
 use Rattle.rules.specs.Over.{join_of}
+use Rattle.rules.proofs.Layers.{list_over_eq}
+use Rattle.words.specs.Memory.{put_at}
 use Rattle.words.specs.Rows.{row_length, cell}
-use Rattle.words.proofs.Cells.{row_narrow, row_wide}
+use Rattle.words.proofs.FoldLaws.{join_laws}
 use Rattle.words.proofs.parts.gather_row.Goals as goal
 
-pub returns-then-width-gt-PART : goal.returns-then-width-gt-PART
-returns-then-width-gt-PART c =
-    let a = c.args in
-    row_wide a.row c.requires.0 (λ k. join_of row_length a.named (λ i. cell a.table.now i k))
-    c.gather_cols.ensures a.width c.requires.2 (omega arith) (λ k. refl) c.gather_cols-then-width-gt-PART.ensures
+pub fold_row-requires-clause-laws : goal.fold_row-requires-clause-laws
+fold_row-requires-clause-laws c = join_laws
 
-pub returns-else-width-gt-PART : goal.returns-else-width-gt-PART
-returns-else-width-gt-PART c =
+pub returns : goal.returns
+returns c =
     let a = c.args in
-    row_narrow a.row c.requires.0 (λ k. join_of row_length a.named (λ i. cell a.table.now i k))
-    c.gather_cols.ensures a.width c.requires.2 (omega arith)
+    c.fold_row.ensures ∙ ap (λ (l : List ℕ). put_at (a.row * row_length) l a.dest.now)
+    (list_over_eq (λ k h.
+    let joined = join_of row_length a.named (λ i. cell a.table.now i k) in
+    ap (λ (x : ℕ). union x joined) (and_zero_r (get_or a.table.now (0 + k) 0)) ∙ or_zero_l joined))

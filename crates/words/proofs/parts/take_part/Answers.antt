@@ -10,8 +10,5 @@ loop-k-init c = list_none (omega arith)
 pub loop-k-preserved : goal.loop-k-preserved
 loop-k-preserved c = list_more c.loop-k.invariant (omega arith) (sym (zero-add _)) refl
 
-pub shape_of-part : goal.shape_of-part
-shape_of-part c = c.loop-k.invariant.long
-
 pub returns : goal.returns
 returns c = list_whole c.loop-k.invariant (omega arith) (omega arith)

@@ -1,38 +1,28 @@
 use mathlib.Core.Path.{refl}
-use Prim.Native.Nat.{◌<◌}
 use native.Mathlib.Omega.{arith}
-use Rattle.words.specs.Rows.{row_length}
-use Rattle.words.proofs.MemberLoops.{lowest_lt}
 use Rattle.words.proofs.Cells.{clears_none, clears_more, clears_done}
+use Rattle.words.proofs.FoldLaws.{taken_lt}
 use Rattle.words.proofs.tables.clear_cells.Goals as goal
-use Rattle.words.proofs.tables.clear_cells.Goals.{After-lowest}
 
-pub loop-left-init : goal.loop-left-init
-loop-left-init c = clears_none (omega arith)
-
--- the lowest member is the number of a cell
-named : (c : After-lowest) → c.lowest.result < row_length
-named c =
-    omega (arith, c.lowest.ensures, lowest_lt row_length c.loop-left.left (omega arith) c.loop-left.invariant.inside (omega arith))
+pub loop-k-init : goal.loop-k-init
+loop-k-init c = rw c.into_iter-k-iterator.ensures.into_iter_gives (clears_none c.requires.2)
 
 pub overflow_add-table : goal.overflow_add-table
-overflow_add-table c = omega (arith, named (goal.at.overflow_add-table c).After-lowest)
+overflow_add-table c = omega (arith, taken_lt c.in-Some.ensures.steps c.loop-k.invariant.inside)
 
 pub offset_bounds-table-row : goal.offset_bounds-table-row
-offset_bounds-table-row c = omega (arith, named (goal.at.offset_bounds-table-row c).After-lowest)
+offset_bounds-table-row c = omega (arith, taken_lt c.in-Some.ensures.steps c.loop-k.invariant.inside)
 
 pub bounds-table-row : goal.bounds-table-row
-bounds-table-row c = omega (arith, named (goal.at.bounds-table-row c).After-lowest)
+bounds-table-row c = omega (arith, taken_lt c.in-Some.ensures.steps c.loop-k.invariant.inside)
 
-pub loop-left-smaller : goal.loop-left-smaller
-loop-left-smaller c = c.others-left.ensures.1
-
-pub loop-left-preserved : goal.loop-left-preserved
-loop-left-preserved c = clears_more c.loop-left.invariant (omega arith) (omega arith) (omega arith) c.lowest.ensures refl
-    c.others-left.ensures.0
+pub loop-k-preserved : goal.loop-k-preserved
+loop-k-preserved c =
+    let t = c.in-Some.ensures.steps in
+    clears_more c.loop-k.invariant c.requires.0 c.requires.1 t.some t.is refl t.others
 
 pub shape_of-table : goal.shape_of-table
-shape_of-table c = c.loop-left.invariant.long
+shape_of-table c = c.loop-k.invariant.long
 
 pub returns : goal.returns
-returns c = clears_done c.loop-left.invariant (omega arith) (omega arith) (omega arith)
+returns c = clears_done c.loop-k.invariant c.requires.0 c.requires.1 (omega (arith, c.in-None.ensures.steps.0))

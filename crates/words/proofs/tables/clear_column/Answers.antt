@@ -1,41 +1,31 @@
 use mathlib.Core.Path.{refl}
-use Prim.Native.Nat.{◌<◌}
 use native.Mathlib.Omega.{arith}
-use Rattle.words.specs.Rows.{row_length}
-use Rattle.words.proofs.MemberLoops.{lowest_lt}
 use Rattle.words.proofs.Cells.{column_none, column_more, column_done}
+use Rattle.words.proofs.FoldLaws.{taken_lt}
 use Rattle.words.proofs.tables.clear_column.Goals as goal
-use Rattle.words.proofs.tables.clear_column.Goals.{After-lowest}
 
-pub loop-left-init : goal.loop-left-init
-loop-left-init c = column_none (omega arith)
-
--- the lowest member is the number of a row
-named : (c : After-lowest) → c.lowest.result < row_length
-named c =
-    omega (arith, c.lowest.ensures, lowest_lt row_length c.loop-left.left (omega arith) c.loop-left.invariant.inside (omega arith))
+pub loop-p-init : goal.loop-p-init
+loop-p-init c = rw c.into_iter-p-iterator.ensures.into_iter_gives (column_none c.requires.2)
 
 pub overflow_mul-table : goal.overflow_mul-table
-overflow_mul-table c = omega (arith, named (goal.at.overflow_mul-table c).After-lowest)
+overflow_mul-table c = omega (arith, taken_lt c.in-Some.ensures.steps c.loop-p.invariant.inside)
 
 pub overflow_add-table : goal.overflow_add-table
-overflow_add-table c = omega (arith, named (goal.at.overflow_add-table c).After-lowest)
+overflow_add-table c = omega (arith, taken_lt c.in-Some.ensures.steps c.loop-p.invariant.inside)
 
-pub offset_bounds-table-lowest : goal.offset_bounds-table-lowest
-offset_bounds-table-lowest c = omega (arith, named (goal.at.offset_bounds-table-lowest c).After-lowest)
+pub offset_bounds-table-p : goal.offset_bounds-table-p
+offset_bounds-table-p c = omega (arith, taken_lt c.in-Some.ensures.steps c.loop-p.invariant.inside)
 
-pub bounds-table-lowest : goal.bounds-table-lowest
-bounds-table-lowest c = omega (arith, named (goal.at.bounds-table-lowest c).After-lowest)
+pub bounds-table-p : goal.bounds-table-p
+bounds-table-p c = omega (arith, taken_lt c.in-Some.ensures.steps c.loop-p.invariant.inside)
 
-pub loop-left-smaller : goal.loop-left-smaller
-loop-left-smaller c = c.others-left.ensures.1
-
-pub loop-left-preserved : goal.loop-left-preserved
-loop-left-preserved c = column_more c.loop-left.invariant (omega arith) (omega arith) (omega arith) c.lowest.ensures refl
-    c.others-left.ensures.0
+pub loop-p-preserved : goal.loop-p-preserved
+loop-p-preserved c =
+    let t = c.in-Some.ensures.steps in
+    column_more c.loop-p.invariant c.requires.0 c.requires.1 t.some t.is refl t.others
 
 pub shape_of-table : goal.shape_of-table
-shape_of-table c = c.loop-left.invariant.long
+shape_of-table c = c.loop-p.invariant.long
 
 pub returns : goal.returns
-returns c = column_done c.loop-left.invariant (omega arith)
+returns c = column_done c.loop-p.invariant (omega (arith, c.in-None.ensures.steps.0))

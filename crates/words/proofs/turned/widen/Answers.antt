@@ -8,7 +8,7 @@ pub loop-p-init : goal.loop-p-init
 loop-p-init c = list_none (omega arith)
 
 pub loop-p-preserved : goal.loop-p-preserved
-loop-p-preserved c = list_more c.loop-p.invariant (omega arith) (sym (zero-add _)) c.wide.ensures
+loop-p-preserved c = list_more c.loop-p.invariant (omega arith) (sym (zero-add _)) c.from.ensures
 
 pub shape_of-row : goal.shape_of-row
 shape_of-row c = c.loop-p.invariant.long
