@@ -6,7 +6,7 @@ ghost use Rattle.words.specs.Width.{prop_width};
 ghost use Rattle.level.specs.Meets.{all_of, label_meets, pair_meets, Above, Found, Judged};
 
 use graph::layout::pair_at;
-use words::members::{lowest, others};
+use words::members::Members;
 use words::sets::{Props, Set, States};
 
 // The first goal whose label lacks a state of the set, and n where none does.
@@ -14,13 +14,10 @@ fn lacking(layer: &[u64], n: usize, set: States, goal: Props) -> usize
     requires { (n ≤ prop_width) × (n ≤ length layer.now) × (goal.0 < 2 ^ n) }
     ensures { Found (label_meets layer.now set.0) n goal.0 result }
 {
-    let mut left = goal.0 as u64;
-    while 0 < left {
-        let p = lowest(left);
+    for p in Members(goal.word()) {
         if !set.within(States(layer[p])) {
             return p;
         }
-        left = others(left);
     }
     n
 }
@@ -30,14 +27,11 @@ fn clashing(layer: &[u64], n: usize, set: States, p: usize, above: u64) -> usize
     requires { (n ≤ prop_width) × (size n ≤ length layer.now) × (above < 2 ^ n) × Above p above }
     ensures { Found (pair_meets n layer.now set.0 p) n above result }
 {
-    let mut left = above;
-    while 0 < left {
-        let q = lowest(left);
+    for q in Members(above) {
         let at = pair_at(n, p, q);
         if set.meets(States(layer[at])) {
             return q;
         }
-        left = others(left);
     }
     n
 }
@@ -47,11 +41,9 @@ fn clash(layer: &[u64], n: usize, set: States, goal: Props) -> usize
     requires { (n ≤ prop_width) × (length layer.now ≡ size n) × (goal.0 < 2 ^ n) × So (all_of n goal.0 (label_meets layer.now set.0)) }
     ensures { Judged n layer.now set.0 goal.0 result }
 {
-    let mut left = goal.0 as u64;
-    while 0 < left {
-        let p = lowest(left);
-        left = others(left);
-        let q = clashing(layer, n, set, p, left);
+    let mut left = Members(goal.word());
+    while let Some(p) = left.next() {
+        let q = clashing(layer, n, set, p, left.0);
         if q < n {
             return pair_at(n, p, q);
         }

@@ -10,8 +10,8 @@ ghost use Rattle.page.specs.Memo.{Remembers, OfLabel, unmet_entry, entry_in};
 use graph::checks::check_goal;
 use graph::layout::layer_size;
 use level::layers::{Layers, shown};
-use words::members::{lowest, others};
-use words::sets::{PROP_WIDTH, Props, States};
+use words::members::Members;
+use words::sets::{PROP_WIDTH, Props, Set, States};
 
 // The entries that are no level.
 pub const NEVER: u16 = 256;
@@ -55,13 +55,9 @@ impl<'a> Memo<'a> {
         requires { goal.0 < 2 ^ self.now.layers.shape.props }
         ensures { OfLabel self.now.firsts self.now.layers.shape.props goal.0 result }
     {
-        let mut left = goal.0 as u64;
         let mut t = 0;
-        while 0 < left {
-            let p = lowest(left);
-            let first = self.firsts[p] as usize;
-            t = usize::max(t, first);
-            left = others(left);
+        for p in Members(goal.word()) {
+            t = usize::max(t, self.firsts[p] as usize);
         }
         t
     }

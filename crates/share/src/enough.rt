@@ -13,7 +13,7 @@ ghost use Rattle.share.specs.Sums.{Weighed, Looked};
 use crate::weights::weight_by;
 use graph::layout::pair_at;
 use level::layers::Layers;
-use words::members::{lowest, others};
+use words::members::Members;
 use words::sets::{Props, Set, States};
 
 // The share that is asked for: of the weights of the start states, with their total.
@@ -31,15 +31,12 @@ fn with_labels(layer: &[u64], n: usize, all: States, goal: Props, short: States)
     requires { (n ≤ prop_width) × (n ≤ length layer.now) × (goal.0 < 2 ^ n) }
     ensures { Looked (needs_label n all.0 layer.now goal.0) short.0 result.0 }
 {
-    let mut left = goal.0 as u64;
     let mut held = all;
-    while 0 < left {
-        let p = lowest(left);
+    for p in Members(goal.word()) {
         held = held.common(States(layer[p]));
         if held.within(short) {
             return held;
         }
-        left = others(left);
     }
     held
 }
@@ -49,16 +46,13 @@ fn free_of(layer: &[u64], n: usize, p: usize, above: u64, states: States, short:
     requires { (n ≤ prop_width) × (size n ≤ length layer.now) × (above < 2 ^ n) × Above p above }
     ensures { Looked (without states.0 (join_of n above (mutex_in n layer.now p))) short.0 result.0 }
 {
-    let mut left = above;
     let mut free = states;
-    while 0 < left {
-        let q = lowest(left);
+    for q in Members(above) {
         let at = pair_at(n, p, q);
         free = free.without(States(layer[at]));
         if free.within(short) {
             return free;
         }
-        left = others(left);
     }
     free
 }
@@ -68,12 +62,10 @@ fn free_in(layer: &[u64], n: usize, goal: Props, states: States, short: States) 
     requires { (n ≤ prop_width) × (length layer.now ≡ size n) × (goal.0 < 2 ^ n) }
     ensures { Looked (without states.0 (needs_apart n layer.now goal.0)) short.0 result.0 }
 {
-    let mut left = goal.0 as u64;
+    let mut left = Members(goal.word());
     let mut free = states;
-    while 0 < left {
-        let p = lowest(left);
-        left = others(left);
-        free = free_of(layer, n, p, left, free, short);
+    while let Some(p) = left.next() {
+        free = free_of(layer, n, p, left.0, free, short);
         if free.within(short) {
             return free;
         }

@@ -6,7 +6,7 @@ ghost use Rattle.graph.specs.Verdict.{verdict};
 ghost use Rattle.share.specs.Sums.{max_total, total_for, rule_by};
 
 use graph::refusal::Refusal;
-use words::members::{lowest, others};
+use words::members::Members;
 use words::sets::{Set, States};
 
 // The total of the weights.
@@ -15,8 +15,8 @@ fn total(weights: &[u16]) -> u32
     ensures { (result ≡ S.total weights.now) × (result ≤ max_total) }
 {
     let mut sum = 0u32;
-    for s in 0..weights.len() {
-        sum += weights[s] as u32;
+    for weight in weights {
+        sum += *weight as u32;
     }
     sum
 }
@@ -53,11 +53,9 @@ fn weight(weights: &[u16], set: States) -> u32
     requires { (length weights.now ≤ state_width) × (set.0 < 2 ^ length weights.now) }
     ensures { (result ≡ S.weight_of weights.now set.0) × (result ≤ max_total) }
 {
-    let mut left = set.0;
     let mut sum = 0u32;
-    while 0 < left {
-        sum += weights[lowest(left)] as u32;
-        left = others(left);
+    for s in Members(set.0) {
+        sum += weights[s] as u32;
     }
     sum
 }

@@ -3,8 +3,8 @@ use Rattle.level.specs.Meets.{pair_meets}
 use Rattle.level.proofs.Goals.{LeftTwo}
 use Rattle.level.proofs.goal.clash.Given as goal
 
-abbrev pub invariant-loop-left : goal.invariant-loop-left
-invariant-loop-left l = LeftTwo (pair_meets l.n l.layer l.set.0) l.n l.initial.left l.left
+abbrev pub invariant-loop-p : goal.invariant-loop-p
+invariant-loop-p l = LeftTwo (pair_meets l.n l.layer l.set.0) l.n l.fn.goal.0 l.left.0
 
-abbrev pub decreases-loop-left : goal.decreases-loop-left
-decreases-loop-left l = l.left
+abbrev pub decreases-loop-p : goal.decreases-loop-p
+decreases-loop-p l = l.left.0

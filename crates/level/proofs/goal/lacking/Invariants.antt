@@ -3,8 +3,5 @@ use Rattle.level.specs.Meets.{label_meets}
 use Rattle.level.proofs.Goals.{Left}
 use Rattle.level.proofs.goal.lacking.Given as goal
 
-abbrev pub invariant-loop-left : goal.invariant-loop-left
-invariant-loop-left l = Left (label_meets l.layer l.set.0) l.n l.initial.left l.left
-
-abbrev pub decreases-loop-left : goal.decreases-loop-left
-decreases-loop-left l = l.left
+abbrev pub invariant-loop-p : goal.invariant-loop-p
+invariant-loop-p l = Left (label_meets l.layer l.set.0) l.n l.fn.goal.0 l.p-iterator.0

@@ -2,8 +2,8 @@
 use Rattle.share.proofs.Holders.{Apart}
 use Rattle.share.proofs.enough.free_in.Given as goal
 
-abbrev pub invariant-loop-left : goal.invariant-loop-left
-invariant-loop-left l = Apart l.n l.layer l.initial.left l.initial.free.0 l.left l.free.0
+abbrev pub invariant-loop-p : goal.invariant-loop-p
+invariant-loop-p l = Apart l.n l.layer l.fn.goal.0 l.initial.free.0 l.left.0 l.free.0
 
-abbrev pub decreases-loop-left : goal.decreases-loop-left
-decreases-loop-left l = l.left
+abbrev pub decreases-loop-p : goal.decreases-loop-p
+decreases-loop-p l = l.left.0

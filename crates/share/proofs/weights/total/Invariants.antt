@@ -2,5 +2,5 @@
 use Rattle.share.proofs.Totals.{Added}
 use Rattle.share.proofs.weights.total.Given as goal
 
-abbrev pub invariant-loop-s : goal.invariant-loop-s
-invariant-loop-s l = Added l.weights l.s l.sum
+abbrev pub invariant-loop-weight : goal.invariant-loop-weight
+invariant-loop-weight l = Added l.weights l.weight-index l.sum

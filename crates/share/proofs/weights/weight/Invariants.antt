@@ -2,8 +2,5 @@
 use Rattle.share.proofs.Totals.{Weighing}
 use Rattle.share.proofs.weights.weight.Given as goal
 
-abbrev pub invariant-loop-left : goal.invariant-loop-left
-invariant-loop-left l = Weighing l.weights l.initial.left l.left l.sum
-
-abbrev pub decreases-loop-left : goal.decreases-loop-left
-decreases-loop-left l = l.left
+abbrev pub invariant-loop-s : goal.invariant-loop-s
+invariant-loop-s l = Weighing l.weights l.fn.set.0 l.s-iterator.0 l.sum

@@ -4,8 +4,5 @@ use Rattle.level.proofs.Goals.{Left}
 use Rattle.page.specs.Memo.{OfLabel}
 use Rattle.page.proofs.memo.Memo.start.Given as goal
 
-abbrev pub invariant-loop-left : goal.invariant-loop-left
-invariant-loop-left l = Left (λ i. true) l.self.layers.shape.props l.initial.left l.left × OfLabel l.self.firsts l.self.layers.shape.props l.initial.left l.t
-
-abbrev pub decreases-loop-left : goal.decreases-loop-left
-decreases-loop-left l = l.left
+abbrev pub invariant-loop-p : goal.invariant-loop-p
+invariant-loop-p l = Left (λ i. true) l.self.layers.shape.props l.fn.goal.0 l.p-iterator.0 × OfLabel l.self.firsts l.self.layers.shape.props l.fn.goal.0 l.t
