@@ -7,7 +7,7 @@ ghost use Rattle.graph.specs.Limits.{max_depth};
 ghost use Rattle.graph.specs.Format.{shape_in};
 ghost use Rattle.graph.specs.File.{Taken};
 ghost use Rattle.graph.specs.Build.{build_for, looks_for, counted};
-ghost use Rattle.build.specs.Rooms.{build_verdict, Labels, Graph, Rooms};
+ghost use Rattle.build.specs.Rooms.{build_verdict, Empty, Labels, Graph};
 
 use crate::BuildAnswer;
 use crate::copies::copy_rest;
@@ -19,6 +19,7 @@ use graph::layout::word_count;
 use graph::limits::MAX_EFFECTS;
 use graph::refusal::Check;
 use layers::start::start;
+use together::effects::{Effects, Frame, Layer, Tables};
 use words::sets::{Set, States};
 use words::tables::{ROW, TABLE};
 
@@ -27,7 +28,6 @@ fn build_in(
     file: &[u8],
     c: Counts,
     depth: usize,
-    labels: &mut [u64],
     words: &mut [u64],
     needs: &mut [u32],
     adds: &mut [u32],
@@ -35,16 +35,12 @@ fn build_in(
     owners: &mut [u8],
     adders: &mut [u64],
     interferers: &mut [u64],
-    live: &mut [u64],
-    t: &mut [u64],
-    r: &mut [u64],
-    mates: &mut [u64],
-    besides: &mut [u64],
-    spare: &mut [u64],
+    layer: &mut Layer,
+    tables: &mut Tables,
 ) -> usize
     requires taken { Taken file.now c × (depth ≤ max_depth) × (word_count (shape_in c) depth ≤ length words.old) }
-    requires rooms { Rooms c needs.old adds.old dels.old owners.old adders.old interferers.old labels.old live.old t.old r.old mates.old besides.old spare.old }
-    ensures { Graph file.now c depth labels.old words.old result words.new }
+    requires rooms { Empty c needs.old adds.old dels.old owners.old adders.old interferers.old }
+    ensures { Graph file.now c depth layer.old.labels words.old result words.new }
 {
     read_problem(
         file,
@@ -56,31 +52,30 @@ fn build_in(
         &mut *adders,
         &mut *interferers,
     );
-    let n = c.props;
-    let width = width_for(n);
     let span = width_for(c.effects);
-    start(&mut *words, &mut *t, &*labels, &*spare, n, width);
-    let steps = steps_until(
-        &mut *words,
-        n,
-        &needs[..],
-        &adds[..],
-        &dels[..],
-        &adders[..],
-        &interferers[..],
-        States::first(c.states).0,
-        many_pairs(&interferers[..], span),
-        width,
+    let frame = Frame {
+        props: c.props,
+        width: width_for(c.props),
         span,
-        depth,
-        labels,
-        live,
-        t,
-        r,
-        mates,
-        besides,
-        spare,
+        all: States::first(c.states).0,
+        many: many_pairs(&interferers[..], span),
+    };
+    start(
+        &mut *words,
+        &mut layer.t[..],
+        &layer.labels[..],
+        &tables.spare[..],
+        frame.props,
+        frame.width,
     );
+    let effects = Effects {
+        needs: &needs[..],
+        adds: &adds[..],
+        dels: &dels[..],
+        interferers: &interferers[..],
+        adders: &adders[..],
+    };
+    let steps = steps_until(&mut *words, effects, frame, depth, layer, tables);
     copy_rest(words, c.shape(), steps.done, depth);
     steps.looked
 }
@@ -98,18 +93,21 @@ fn build_words(file: &[u8], c: Counts, depth: usize, labels: [u64; ROW], words: 
     let mut owners = [0u8; MAX_EFFECTS];
     let mut adders = [0u64; ROW];
     let mut interferers = [0u64; ROW];
-    let mut row = labels;
-    let mut live = [0u64; ROW];
-    let mut t = [0u64; TABLE];
-    let mut r = [0u64; TABLE];
-    let mut mates = [0u64; TABLE];
-    let mut besides = [0u64; TABLE];
-    let mut spare = [0u64; TABLE];
+    let mut layer = Layer {
+        labels,
+        t: [0u64; TABLE],
+    };
+    let mut tables = Tables {
+        live: [0u64; ROW],
+        r: [0u64; TABLE],
+        mates: [0u64; TABLE],
+        besides: [0u64; TABLE],
+        spare: [0u64; TABLE],
+    };
     build_in(
         file,
         c,
         depth,
-        &mut row[..],
         words,
         &mut needs[..e],
         &mut adds[..e],
@@ -117,12 +115,8 @@ fn build_words(file: &[u8], c: Counts, depth: usize, labels: [u64; ROW], words: 
         &mut owners[..e],
         &mut adders[..p],
         &mut interferers[..e],
-        &mut live[..],
-        &mut t[..],
-        &mut r[..],
-        &mut mates[..],
-        &mut besides[..],
-        &mut spare[..],
+        &mut layer,
+        &mut tables,
     )
 }
 
