@@ -27,17 +27,14 @@ fn put_pairs(words: &mut [u64], to: usize, n: usize, labels: &[u64], t: &[u64])
     let mut at = to;
     for p in 0..n {
         let left = n - 1 - p;
+        let end = at + left;
         put_apart(
-            &mut *words,
-            at,
+            &mut words[at..end],
             labels[p],
-            labels,
-            p + 1,
-            t,
-            p * ROW + p + 1,
-            left,
+            &labels[p + 1..],
+            &t[p * ROW + p + 1..],
         );
-        at += left;
+        at = end;
     }
 }
 
@@ -53,31 +50,22 @@ fn put_rows(
     requires { Labelled n a labels.now × (to + (pairs a + a * n) ≤ length words.old) }
     ensures { (result ≡ to + (pairs a + a * n)) × (words.new ≡ put_at to (run_over a (effect_row n a tables.now.live labels.now tables.now.mates tables.now.r)) words.old) }
 {
+    let live = &tables.live[..];
+    let mates = &tables.mates[..];
+    let r = &tables.r[..];
     let mut at = to;
     for i in 0..a {
-        let own = tables.live[i];
-        let left = a - 1 - i;
+        let own = live[i];
+        let with_props = at + (a - 1 - i);
+        let end = with_props + n;
         put_apart(
-            &mut *words,
-            at,
+            &mut words[at..with_props],
             own,
-            &tables.live[..],
-            i + 1,
-            &tables.mates[..],
-            i * ROW + i + 1,
-            left,
+            &live[i + 1..],
+            &mates[i * ROW + i + 1..],
         );
-        put_apart(
-            &mut *words,
-            at + left,
-            own,
-            labels,
-            0,
-            &tables.r[..],
-            i * ROW,
-            n,
-        );
-        at += left + n;
+        put_apart(&mut words[with_props..end], own, labels, &r[i * ROW..]);
+        at = end;
     }
     at
 }

@@ -153,6 +153,10 @@ put_part at n xs w p long e =
     ap (λ (l : List ℕ). take at w ++ (l ++ drop (at + n - at) (drop at w))) e
     ∙ ap (λ (l : List ℕ). take at w ++ (xs ++ l)) (drop-drop (at + n - at) at w ∙ ap (λ (x : ℕ). drop x w) here)
 
+-- a word of what is lent by &w[at..]
+pub tail_word : (at : ℕ) (w : List ℕ) (k : ℕ) → get_or (take (length w - at) (drop at w)) k 0 ≡ get_or w (at + k) 0
+tail_word at w k = ap (λ (l : List ℕ). get_or l k 0) (tail_all at w) ∙ get_or-drop at w k 0
+
 -- the words of a list, one by one
 pub list_all : {n : ℕ} (l : List ℕ) → length l ≡ n → list_over n (λ k. get_or l k 0) ≡ l
 list_all l e = ap (λ (x : ℕ). list_over x (λ k. get_or l k 0)) (sym e) ∙ list_over_self
