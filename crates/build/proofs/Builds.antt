@@ -142,11 +142,11 @@ layers_put D n start depth all l w₀ w₁ w₂ room q el e₁ e₂ =
 
 -- ---- the same, whatever actions the lists tell
 
-pub record Stepping (n width span depth all : ℕ) (needs adds dels adders interferers labels₀ t₀ w₀ : List ℕ) (k at looked : ℕ) (w labels live t r mates besides spare : List ℕ) : Type 0 where
+pub record Stepping (n width span depth all : ℕ) (needs adds dels adders interferers labels₀ t₀ w₀ : List ℕ) (k at looked : ℕ) (w labels t : List ℕ) : Type 0 where
   pub within : k ≤ depth
   pub few : looked ≤ k * most_of_step
   pub place : at ≡ size n + k * (size (length needs + n) + size n)
-  pub lent : Lent n width span depth needs adds dels adders interferers labels live t r mates besides spare w
+  pub lent : Lent n width span depth needs adders w
   pub long : length w ≡ length w₀
   pub going : (A : Actions) → Told A n needs adds adders interferers → Deletes A dels → Tells A all labels₀ t₀
       → Going A all (layer_by (domain A).props (cell t₀)) depth w₀ k at looked w labels t
@@ -157,10 +157,10 @@ pub told_sizes : (A : Actions) (n : ℕ) (needs adds adders interferers : List �
 unfolding domain
 told_sizes A n needs adds adders interferers told = (ap₂ (λ (x y : ℕ). size (x + y)) told.effects told.props, ap size told.props)
 
-pub stepping_none : (n width span depth all at : ℕ) (needs adds dels adders interferers labels t w live r mates besides spare : List ℕ)
-    → Lent n width span depth needs adds dels adders interferers labels live t r mates besides spare w → at ≡ size n
-    → Stepping n width span depth all needs adds dels adders interferers labels t w 0 at 0 w labels live t r mates besides spare
-stepping_none n width span depth all at needs adds dels adders interferers labels t w live r mates besides spare lent q = record {
+pub stepping_none : (n width span depth all at : ℕ) (needs adds dels adders interferers labels t w : List ℕ)
+    → Lent n width span depth needs adders w → at ≡ size n
+    → Stepping n width span depth all needs adds dels adders interferers labels t w 0 at 0 w labels t
+stepping_none n width span depth all at needs adds dels adders interferers labels t w lent q = record {
   within = omega arith;
   few = omega arith;
   place = omega (arith, zero-mul (size (length needs + n) + size n));
@@ -172,18 +172,16 @@ stepping_none n width span depth all at needs adds dels adders interferers label
       (going_none A all depth w labels t (omega (arith, lent.fits, q)) is);
 }
 
-module _ {n width span depth all : ℕ} {needs adds dels adders interferers labels₀ t₀ w₀ : List ℕ} {k at looked : ℕ} {w labels live t r mates besides spare : List ℕ}
-    (s : Stepping n width span depth all needs adds dels adders interferers labels₀ t₀ w₀ k at looked w labels live t r mates besides spare) (h : k < depth) where
+module _ {n width span depth all : ℕ} {needs adds dels adders interferers labels₀ t₀ w₀ : List ℕ} {k at looked : ℕ} {w labels t : List ℕ}
+    (s : Stepping n width span depth all needs adds dels adders interferers labels₀ t₀ w₀ k at looked w labels t) (h : k < depth) where
   -- the next step has room
   pub room : at + (size (length needs + n) + size n) ≤ length w
   room = omega (arith, s.place, s.lent.fits, suc-mul k (size (length needs + n) + size n), mul-le-mul_right (size (length needs + n) + size n) h)
 
   pub ready : (act : ℕ) → act ≡ size (length needs + n)
-      → Ready n width span act needs adds dels adders interferers labels live t r mates besides spare (take (length w - at) (drop at w))
+      → Ready n width span act needs adders (take (length w - at) (drop at w))
   ready act e = record {
     mating = s.lent.mating;
-    labels_long = s.lent.labels_long;
-    t_long = s.lent.t_long;
     place = e;
     room = omega (arith, room, tail_length at w (omega (arith, room)));
   }
@@ -195,41 +193,22 @@ module _ {n width span depth all : ℕ} {needs adds dels adders interferers labe
     (let few : depth - (k + 1) ≤ max_depth = omega (arith, s.lent.deep) in mul-le-mul few most),
   )
 
-  module _ (labels' live' t' r' mates' besides' spare' p : List ℕ) (still : Bool) (looks : ℕ)
+  module _ (labels' t' p : List ℕ) (still : Bool) (looks : ℕ)
       (did : (A : Actions) → Told A n needs adds adders interferers → Deletes A dels → Tells A all labels t
       → Stepped A all t labels' t' (take (length w - at) (drop at w)) p still looks) (most : looks ≤ most_of_step) where
     further : (A : Actions) → Told A n needs adds adders interferers → at + (size (domain A).vertices + size (domain A).props) ≤ length w₀
     further A told = let (a, b) = told_sizes A n needs adds adders interferers told in omega (arith, room, s.long)
 
     pub stepping_more : (far : ℕ) → far ≡ size (length needs + n) + size n → length p ≡ length (take (length w - at) (drop at w))
-        → length labels' ≡ length labels → length live' ≡ length live → length t' ≡ length t → length r' ≡ length r → length mates' ≡ length mates
-        → length besides' ≡ length besides → length spare' ≡ length spare
-        → Stepping n width span depth all needs adds dels adders interferers labels₀ t₀ w₀ (k + 1) (at + far) (looked + looks) (put_mid at (length w - at) w p) labels' live' t' r' mates' besides' spare'
-    stepping_more far ef lp ll lv lt lr lm lb ls =
-        let m = s.lent.mating in
+        → Stepping n width span depth all needs adds dels adders interferers labels₀ t₀ w₀ (k + 1) (at + far) (looked + looks) (put_mid at (length w - at) w p) labels' t'
+    stepping_more far ef lp =
         let lw : length (put_mid at (length w - at) w p) ≡ length w = same_len_mid at (length w - at) w p lp in
         record {
           within = omega arith;
           few = (looks_fit looks most).0;
           place = omega (arith, s.place, ef, suc-mul k (size (length needs + n) + size n), ap (λ (x : ℕ). x * (size (length needs + n) + size n)) (add-one k));
           lent = record {
-            mating = record {
-              wide = m.wide;
-              spans = m.spans;
-              adds_long = m.adds_long;
-              dels_long = m.dels_long;
-              adders_long = m.adders_long;
-              adders_inside = m.adders_inside;
-              interferers_long = m.interferers_long;
-              interferers_inside = m.interferers_inside;
-              live_long = lv ∙ m.live_long;
-              r_long = lr ∙ m.r_long;
-              mates_long = lm ∙ m.mates_long;
-              besides_long = lb ∙ m.besides_long;
-              spare_long = ls ∙ m.spare_long;
-            };
-            labels_long = ll ∙ s.lent.labels_long;
-            t_long = lt ∙ s.lent.t_long;
+            mating = s.lent.mating;
             deep = s.lent.deep;
             fits = omega (arith, s.lent.fits, lw);
           };
@@ -248,8 +227,8 @@ module _ {n width span depth all : ℕ} {needs adds dels adders interferers labe
         let g = s.going A told del is in
         ended_rest g labels' t' p still looks h (further A told) (did A told del g.tells) e
 
-pub stepping_all : {n width span depth all : ℕ} {needs adds dels adders interferers labels₀ t₀ w₀ : List ℕ} {k at looked : ℕ} {w labels live t r mates besides spare : List ℕ}
-    → Stepping n width span depth all needs adds dels adders interferers labels₀ t₀ w₀ k at looked w labels live t r mates besides spare → depth ≤ k
+pub stepping_all : {n width span depth all : ℕ} {needs adds dels adders interferers labels₀ t₀ w₀ : List ℕ} {k at looked : ℕ} {w labels t : List ℕ}
+    → Stepping n width span depth all needs adds dels adders interferers labels₀ t₀ w₀ k at looked w labels t → depth ≤ k
     → (A : Actions) → Told A n needs adds adders interferers → Deletes A dels → Tells A all labels₀ t₀
     → Ended (domain A) all (layer_by (domain A).props (cell t₀)) depth w₀ depth looked w
 stepping_all s h A told del is = ended_all (s.going A told del is) h

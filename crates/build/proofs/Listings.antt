@@ -27,6 +27,7 @@ use Rattle.rules.specs.Layer.{size, stride, word_count}
 use Rattle.rules.proofs.Layouts.{count_stride}
 use Rattle.graph.specs.Format.{actions_of, shape_in}
 use Rattle.graph.specs.File.{Taken}
+use Rattle.together.specs.Effects.{Effecting}
 use Rattle.build.specs.Rooms.{Read}
 use Rattle.graph.specs.declared.format.Counts.{Counts}
 
@@ -142,6 +143,25 @@ module _ (file : List ℕ) (c : Counts) (needs adds dels owners adders interfere
 
   pub interferers_same : length interferers ≡ length needs
   interferers_same = ap length is.interferers_are ∙ length_list_over (length needs) _
+
+  -- what holds of the lists together
+  pub effecting : Effecting needs adds dels interferers adders
+  unfolding actions_of
+  effecting =
+      let le : c.props ≤ row_length = omega (arith, taken.ranged.props) in
+      record {
+        few = omega (arith, needs_count, few);
+        needs_inside = λ i h. lt_of_lt_of_le (needs_inside i h) (pow_mono le);
+        adds_long = adds_same;
+        dels_long = dels_same;
+        dels_inside = λ i h.
+            let k : i < c.effects = omega (arith, dels_same, needs_count) in
+            subst (λ (x : ℕ). x < 2 ^ row_length) (sym (del_is i k)) (lt_of_lt_of_le (taken.del i k) (pow_mono le));
+        interferers_long = interferers_same;
+        interferers_inside = interferers_inside;
+        adders_few = omega (arith, adders_count, le);
+        adders_inside = adders_inside;
+      }
 
   -- the words of the graph, as the steps count them
   pub steps_fit : (depth len : ℕ) → word_count (shape_in c) depth ≤ len → size c.props + depth * (size (length needs + c.props) + size c.props) ≤ len

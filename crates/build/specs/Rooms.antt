@@ -4,7 +4,7 @@ use Rattle.rules.specs.Lists.{list_over}
 use Rattle.rules.specs.Domain.{condition}
 use Rattle.rules.specs.Shared.{start_label}
 use Rattle.words.specs.Memory.{put_at}
-use Rattle.words.specs.Rows.{row_length, table_length, columns_of}
+use Rattle.words.specs.Rows.{row_length, columns_of}
 use Rattle.together.specs.Interference.{interferers_of}
 use Rattle.graph.specs.Format.{actions_of}
 use Rattle.graph.specs.Build.{graph_for, looks_for, Counted}
@@ -42,14 +42,3 @@ Labels c starts labels = labels ≡ list_over row_length (start_label c.states s
 abbrev pub Graph : List ℕ → Counts → ℕ → List ℕ → List ℕ → ℕ → List ℕ → Type 0
 Graph file c depth labels w₀ looked w =
     (starts : ℕ → ℕ) → Labels c starts labels → (w ≡ put_at 0 (graph_for file c starts depth) w₀) × (looked ≡ looks_for file c starts depth)
-
--- what the code asks of all memory that a build lends
-pub record Rooms (c : Counts) (needs adds dels owners adders interferers labels live t r mates besides spare : List ℕ) : Type 0 where
-  pub lists : Empty c needs adds dels owners adders interferers
-  pub labels_long : length labels ≡ row_length
-  pub live_long : length live ≡ row_length
-  pub t_long : length t ≡ table_length
-  pub r_long : length r ≡ table_length
-  pub mates_long : length mates ≡ table_length
-  pub besides_long : length besides ≡ table_length
-  pub spare_long : length spare ≡ table_length

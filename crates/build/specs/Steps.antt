@@ -7,7 +7,6 @@ use Rattle.rules.specs.Layer.{size, word_count}
 use Rattle.rules.specs.Shared.{prop_from}
 use Rattle.rules.specs.Scan.{looks_from}
 use Rattle.words.specs.Memory.{put_at}
-use Rattle.words.specs.Rows.{row_length, table_length}
 use Rattle.layers.specs.Step.{Mating, step_words}
 use Rattle.graph.specs.Limits.{max_depth}
 use Rattle.graph.specs.Checks.{Small}
@@ -20,11 +19,9 @@ pub record Ended (D : Domain) (all : ℕ) (l : List ℕ) (depth : ℕ) (w₀ : L
   pub rests : t < depth → (0 < t) × (prop_from D all l (t - 1) ≡ prop_from D all l t)
   pub looks : looked ≡ looks_from D all l depth
 
--- what the code asks of the lists and tables of a step, and of the memory
-pub record Lent (n width span depth : ℕ) (needs adds dels adders interferers labels live t r mates besides spare words : List ℕ) : Type 0 where
-  pub mating : Mating n width span needs adds dels adders interferers live r mates besides spare
-  pub labels_long : length labels ≡ row_length
-  pub t_long : length t ≡ table_length
+-- what the code asks of the lists of a step, and of the memory
+pub record Lent (n width span depth : ℕ) (needs adders words : List ℕ) : Type 0 where
+  pub mating : Mating n width span needs adders
   pub deep : depth ≤ max_depth
   pub fits : size n + depth * (size (length needs + n) + size n) ≤ length words
 

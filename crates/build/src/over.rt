@@ -6,7 +6,7 @@ ghost use Rattle.graph.specs.Verdict.{laid, verdict_by};
 ghost use Rattle.graph.specs.Limits.{max_depth};
 ghost use Rattle.graph.specs.Format.{shape_in};
 ghost use Rattle.graph.specs.Build.{build_for, looks_for, counted};
-ghost use Rattle.build.specs.Rooms.{counted_words, Labels, Graph, Rooms};
+ghost use Rattle.build.specs.Rooms.{counted_words, Empty, Labels, Graph};
 
 use crate::Built;
 use crate::copies::copy_rest;
@@ -18,6 +18,7 @@ use graph::limits::MAX_EFFECTS;
 use graph::refusal::Refusal;
 use graph::view::View;
 use layers::start::start;
+use together::effects::{Effects, Frame, Layer, Tables};
 use words::sets::{Set, States};
 use words::tables::{ROW, TABLE};
 
@@ -25,7 +26,6 @@ use words::tables::{ROW, TABLE};
 fn build_in(
     file: &View<'_>,
     depth: usize,
-    labels: &mut [u64],
     words: &mut [u64],
     needs: &mut [u32],
     adds: &mut [u32],
@@ -33,16 +33,12 @@ fn build_in(
     owners: &mut [u8],
     adders: &mut [u64],
     interferers: &mut [u64],
-    live: &mut [u64],
-    t: &mut [u64],
-    r: &mut [u64],
-    mates: &mut [u64],
-    besides: &mut [u64],
-    spare: &mut [u64],
+    layer: &mut Layer,
+    tables: &mut Tables,
 ) -> usize
     requires fits { (depth ≤ max_depth) × (word_count (shape_in file.now.counts) depth ≤ length words.old) }
-    requires rooms { Rooms file.now.counts needs.old adds.old dels.old owners.old adders.old interferers.old labels.old live.old t.old r.old mates.old besides.old spare.old }
-    ensures { Graph file.now.bytes.now file.now.counts depth labels.old words.old result words.new }
+    requires rooms { Empty file.now.counts needs.old adds.old dels.old owners.old adders.old interferers.old }
+    ensures { Graph file.now.bytes.now file.now.counts depth layer.old.labels words.old result words.new }
 {
     read_problem(
         file,
@@ -53,31 +49,30 @@ fn build_in(
         &mut *adders,
         &mut *interferers,
     );
-    let n = file.counts.props;
-    let width = width_for(n);
     let span = width_for(file.counts.effects);
-    start(&mut *words, &mut *t, &*labels, &*spare, n, width);
-    let steps = steps_until(
-        &mut *words,
-        n,
-        &needs[..],
-        &adds[..],
-        &dels[..],
-        &adders[..],
-        &interferers[..],
-        States::first(file.counts.states).0,
-        many_pairs(&interferers[..], span),
-        width,
+    let frame = Frame {
+        props: file.counts.props,
+        width: width_for(file.counts.props),
         span,
-        depth,
-        labels,
-        live,
-        t,
-        r,
-        mates,
-        besides,
-        spare,
+        all: States::first(file.counts.states).0,
+        many: many_pairs(&interferers[..], span),
+    };
+    start(
+        &mut *words,
+        &mut layer.t[..],
+        &layer.labels[..],
+        &tables.spare[..],
+        frame.props,
+        frame.width,
     );
+    let effects = Effects {
+        needs: &needs[..],
+        adds: &adds[..],
+        dels: &dels[..],
+        interferers: &interferers[..],
+        adders: &adders[..],
+    };
+    let steps = steps_until(&mut *words, effects, frame, depth, layer, tables);
     copy_rest(words, file.counts.shape(), steps.done, depth);
     steps.looked
 }
@@ -95,17 +90,20 @@ fn build_words(file: &View<'_>, depth: usize, labels: [u64; ROW], words: &mut [u
     let mut owners = [0u8; MAX_EFFECTS];
     let mut adders = [0u64; ROW];
     let mut interferers = [0u64; ROW];
-    let mut row = labels;
-    let mut live = [0u64; ROW];
-    let mut t = [0u64; TABLE];
-    let mut r = [0u64; TABLE];
-    let mut mates = [0u64; TABLE];
-    let mut besides = [0u64; TABLE];
-    let mut spare = [0u64; TABLE];
+    let mut layer = Layer {
+        labels,
+        t: [0u64; TABLE],
+    };
+    let mut tables = Tables {
+        live: [0u64; ROW],
+        r: [0u64; TABLE],
+        mates: [0u64; TABLE],
+        besides: [0u64; TABLE],
+        spare: [0u64; TABLE],
+    };
     build_in(
         file,
         depth,
-        &mut row[..],
         words,
         &mut needs[..e],
         &mut adds[..e],
@@ -113,12 +111,8 @@ fn build_words(file: &View<'_>, depth: usize, labels: [u64; ROW], words: &mut [u
         &mut owners[..e],
         &mut adders[..p],
         &mut interferers[..e],
-        &mut live[..],
-        &mut t[..],
-        &mut r[..],
-        &mut mates[..],
-        &mut besides[..],
-        &mut spare[..],
+        &mut layer,
+        &mut tables,
     )
 }
 

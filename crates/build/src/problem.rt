@@ -7,7 +7,7 @@ ghost use Rattle.graph.specs.Format.{actions_of};
 ghost use Rattle.build.specs.Rooms.{Empty, Read};
 
 use graph::view::View;
-use together::interference::interferer_sets;
+use together::interference::{Owned, interferer_sets};
 use words::columns::columns;
 use words::parts::PART;
 use words::tables::ROW;
@@ -52,13 +52,13 @@ pub fn read_problem(
 {
     read_effects(file, &mut *needs, &mut *adds, &mut *dels, &mut *owners);
     columns(&mut *adders, &adds[..]);
-    interferer_sets(
-        &needs[..],
-        &adds[..],
-        &dels[..],
-        &owners[..],
-        &mut *interferers,
-    );
+    let sets = Owned {
+        needs: &needs[..],
+        adds: &adds[..],
+        dels: &dels[..],
+        owners: &owners[..],
+    };
+    interferer_sets(sets, interferers);
 }
 
 // How many effects interfere, counted both ways.

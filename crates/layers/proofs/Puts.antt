@@ -1,11 +1,12 @@
 -- Rows of mutex words, one behind the other.
 -- Assumes nothing.
 use Prim.Native.Nat.{ℕ, zero, suc, ◌+◌, ◌-◌, ◌*◌, ◌/◌, ◌≤◌, ◌<◌}
-use mathlib.Core.Path.{◌≡◌, sym, ap, ap₂, ◌∙◌}
+use mathlib.Core.Path.{◌≡◌, sym, ap, ap₂, subst, ◌∙◌}
 use mathlib.Core.List.{List, ◌++◌, append_assoc}
 use native.Mathlib.Omega.{arith}
 use native.Mathlib.Nat.{suc-mul, zero-mul, sub-zero, mul-le-mul_right, zero-add, suc-add}
-use lib.ListN.{length, get_or, take, length-append}
+use borrow.Rule.Slice.PartMut.{put_mid}
+use lib.ListN.{length, get_or, take, drop, length-append, length-drop}
 use lib.Seq.{ext_get_or, get_or-take, length-take-le}
 use Rattle.rules.specs.Word.{common, without}
 use Rattle.rules.specs.Lists.{list_over, run_over}
@@ -14,8 +15,22 @@ use Rattle.rules.specs.Together.{layer_by}
 use Rattle.rules.proofs.Layers.{length_list_over, get_d_list_over, list_over_eq, layer_eq, size_pairs, pairs_suc, length_rows, pairs_row, pairs_sub}
 use Rattle.words.specs.Memory.{put_at}
 use Rattle.words.specs.Rows.{row_length, cell}
-use Rattle.words.proofs.Writes.{Runs, run_more, put_put, put_behind}
+use Rattle.words.proofs.Writes.{Runs, run_more, put_put, put_behind, put_part}
 use Rattle.layers.specs.Write.{apart, Diagonal, effect_row, action_words}
+
+-- ---- words that are written into a lent part
+
+pub apart_put : (at end n own : ℕ) (w : List ℕ) {out : List ℕ} (f f' g g' : ℕ → ℕ) → end ≡ at + n → end ≤ length w
+    → out ≡ list_over (length (take (end - at) (drop at w))) (λ k. without (common own (f k)) (g k)) → ((k : ℕ) → f k ≡ f' k) → ((k : ℕ) → g k ≡ g' k)
+    → put_mid at (end - at) w out ≡ put_at at (list_over n (λ k. without (common own (f' k)) (g' k))) w
+apart_put at end n own w {out} f f' g g' to room e ef eg =
+    let size : end - at ≡ n = omega arith in
+    let long : length (take (end - at) (drop at w)) ≡ n =
+    ap (λ (x : ℕ). length (take x (drop at w))) size ∙ length-take-le n (drop at w) (omega (arith, length-drop at w)) in
+    ap (λ (x : ℕ). put_mid at (x - at) w out) to
+    ∙ put_part at n (list_over n (λ k. without (common own (f' k)) (g' k))) w out (length_list_over n _)
+    (e ∙ ap (λ (x : ℕ). list_over x (λ k. without (common own (f k)) (g k))) long
+    ∙ list_over_eq (λ k h. ap₂ (λ (x y : ℕ). without (common own x) y) (ef k) (eg k)))
 
 -- ---- the pairs of n elements: p rows are written, up to `at`
 
@@ -52,8 +67,8 @@ module _ (n a : ℕ) (live labels mates r : List ℕ) where
 
     pub rows_more : {w₁ w' : List ℕ} → i < a
         → w₁ ≡ put_at at (list_over (a - 1 - i) (λ k. without (common (get_or live i 0) (get_or live (i + 1 + k) 0)) (get_or mates (i * row_length + i + 1 + k) 0))) w
-        → w' ≡ put_at (at + (a - 1 - i)) (list_over n (λ q. without (common (get_or live i 0) (get_or labels (0 + q) 0)) (get_or r (i * row_length + q) 0))) w₁
-        → Runs (effect_row n a live labels mates r) to a w₀ (i + 1) (at + ((a - 1 - i) + n)) w'
+        → w' ≡ put_at (at + (a - 1 - i)) (list_over n (λ q. without (common (get_or live i 0) (get_or labels q 0)) (get_or r (i * row_length + q) 0))) w₁
+        → Runs (effect_row n a live labels mates r) to a w₀ (i + 1) (at + (a - 1 - i) + n) w'
     unfolding effect_row apart cell
     rows_more {w₁} {w'} h e₁ e₂ =
         let xs = list_over (a - 1 - i) (λ k. without (common (get_or live i 0) (get_or live (i + 1 + k) 0)) (get_or mates (i * row_length + (i + 1 + k)) 0)) in
@@ -63,11 +78,10 @@ module _ (n a : ℕ) (live labels mates r : List ℕ) where
         e₁ ∙ ap (λ (l : List ℕ). put_at at l w) (list_over_eq (λ k g.
         let q : i * row_length + i + 1 + k ≡ i * row_length + (i + 1 + k) = omega arith in
         ap (λ (x : ℕ). without (common (get_or live i 0) (get_or live (i + 1 + k) 0)) (get_or mates x 0)) q)) in
-        let f₂ : w' ≡ put_at (at + (a - 1 - i)) ys w₁ =
-        e₂ ∙ ap (λ (l : List ℕ). put_at (at + (a - 1 - i)) l w₁) (list_over_eq (λ q g.
-        ap (λ (x : ℕ). without (common (get_or live i 0) (get_or labels x 0)) (get_or r (i * row_length + q) 0)) (omega arith))) in
-        run_more ((a - 1 - i) + n) s h (rows_room h) (row_length_lem i)
-        (f₂ ∙ ap₂ (λ (x : ℕ) (l : List ℕ). put_at (at + x) ys l) (sym lx) f₁ ∙ put_put at xs w (omega (arith, s.long, rows_room h)) ys)
+        let regroup : at + ((a - 1 - i) + n) ≡ at + (a - 1 - i) + n = omega arith in
+        subst (λ (x : ℕ). Runs (effect_row n a live labels mates r) to a w₀ (i + 1) x w') regroup
+        (run_more ((a - 1 - i) + n) s h (rows_room h) (row_length_lem i)
+        (e₂ ∙ ap₂ (λ (x : ℕ) (l : List ℕ). put_at (at + x) ys l) (sym lx) f₁ ∙ put_put at xs w (omega (arith, s.long, rows_room h)) ys))
 
     pub rows_end : a ≤ i → at ≡ to + (pairs a + a * n)
     unfolding pairs

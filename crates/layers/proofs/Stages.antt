@@ -35,6 +35,7 @@ use lib.Dec.{eqb}
 use borrow.Author.Tests.{eqb-true}
 use Rattle.scans.specs.Pairs.{Alike, table_looks}
 use Rattle.scans.specs.Ends.{Turns, Finished}
+use Rattle.together.specs.Effects.{Effecting}
 use Rattle.together.specs.Cells.{Width, Span, label_for, row_for, with_prop, with_effect, independent_of, with_independent, row_in, mate_of, beside_for}
 use Rattle.layers.specs.Write.{apart, effect_row, action_words}
 use Rattle.layers.proofs.Looks.{Shown, looks_told, alike_told}
@@ -385,8 +386,8 @@ admit_made A all n width needs adds adders interferers labels t live live' r' to
     ready = sets_of_lem A n width needs adds adders interferers told wide
 
 pub step_made : (A : Actions) (all n width span at fresh looked : ℕ)
-    (needs adds dels adders interferers labels live t r mates besides spare w live' r' mates' besides' cut w₁ spare' labels' t' p : List ℕ)
-    → Ready n width span at needs adds dels adders interferers labels live t r mates besides spare w → Told A n needs adds adders interferers → Deletes A dels → Tells A all labels t
+    (needs adds dels adders interferers labels live t w live' r' mates' besides' cut w₁ spare' labels' t' p : List ℕ)
+    → Ready n width span at needs adders w → Effecting needs adds dels interferers adders → length live ≡ row_length → Told A n needs adds adders interferers → Deletes A dels → Tells A all labels t
     → live' ≡ put_at 0 (list_over (length needs) (λ i. label_for all t (get_or needs i 0))) live
     → ((i q : ℕ) → i < length needs → q < width → cell r' i q ≡ row_for all labels t (get_or needs i 0) q)
     → ((A : Actions) (all : ℕ) (labels t : List ℕ) → Told A n needs adds adders interferers → Deletes A dels → Tells A all labels t
@@ -397,8 +398,8 @@ pub step_made : (A : Actions) (all n width span at fresh looked : ℕ)
     → (Turns (length adders) t → Finished (length adders) spare' t labels' t' (take (length w₁ - at) (drop at w₁)) p fresh)
     → (Alike adders live' mates' cut besides' spare' → looked ≡ table_looks (length adders) adders labels' live' mates' cut)
     → Stepped A all t labels' t' w (put_mid at (length w₁ - at) w₁ p) (eqb fresh 0) looked
-step_made A all n width span at fresh looked needs adds dels adders interferers labels live t r mates besides spare w
-    live' r' mates' besides' cut w₁ spare' labels' t' p ready told del is el cells mate cuts e₁ gathered finish sees =
+step_made A all n width span at fresh looked needs adds dels adders interferers labels live t w
+    live' r' mates' besides' cut w₁ spare' labels' t' p ready lists live_long told del is el cells mate cuts e₁ gathered finish sees =
     record {
       next = nx;
       is = unfold step_words in back;
@@ -409,14 +410,14 @@ step_made A all n width span at fresh looked needs adds dels adders interferers 
     sets = sets_of_lem A n width needs adds adders interferers told ready.mating.wide
 
     adm : Admitted A all labels t live' r'
-    adm = admit_made A all n width needs adds adders interferers labels t live live' r' told ready.mating.wide is ready.mating.live_long el cells
+    adm = admit_made A all n width needs adds adders interferers labels t live live' r' told ready.mating.wide is live_long el cells
 
     mat : Mated A all t mates' besides'
     mat = mate A all labels t told del is adm
 
     kept : Kept A all t cut
     kept i q h k =
-        cuts i q (omega (arith, subst (λ (x : ℕ). i < x) told.effects h, ready.mating.dels_long)) (omega (arith, sets.props))
+        cuts i q (omega (arith, subst (λ (x : ℕ). i < x) told.effects h, lists.dels_long)) (omega (arith, sets.props))
         ∙ kept_told A all sets labels t is dels live' r' adm del i q h k
 
     shown : Shown A all t live' cut mates' besides'

@@ -7,7 +7,7 @@ use Rattle.rules.specs.Shared.{start_label, action_layer, next_layer}
 use Rattle.rules.specs.Together.{layer_by, Consistent, beside}
 use Rattle.rules.specs.Scan.{step_looks}
 use Rattle.words.specs.Memory.{put_at}
-use Rattle.words.specs.Rows.{row_length, table_length, cell, InParts, Inside}
+use Rattle.words.specs.Rows.{row_length, table_length, cell, InParts}
 use Rattle.scans.specs.Pairs.{most_looks}
 use Rattle.together.specs.Cells.{Width, Span, row_for}
 
@@ -52,20 +52,10 @@ pub record Mated (A : Actions) (all : ℕ) (t mates besides : List ℕ) : Type 0
   pub with_adders_lem : (i p : ℕ) → i < A.effects → p < A.props → cell besides i p ≡ beside (domain A) (over_of A all t) i p
 
 -- what the code asks that finds them
-pub record Mating (n width span : ℕ) (needs adds dels adders interferers live r mates besides spare : List ℕ) : Type 0 where
+pub record Mating (n width span : ℕ) (needs adders : List ℕ) : Type 0 where
   pub wide : Width n width needs
   pub spans : Span span needs
-  pub adds_long : length adds ≡ length needs
-  pub dels_long : length dels ≡ length needs
   pub adders_long : length adders ≡ n
-  pub adders_inside : Inside row_length adders
-  pub interferers_long : length interferers ≡ length needs
-  pub interferers_inside : Inside row_length interferers
-  pub live_long : length live ≡ row_length
-  pub r_long : length r ≡ table_length
-  pub mates_long : length mates ≡ table_length
-  pub besides_long : length besides ≡ table_length
-  pub spare_long : length spare ≡ table_length
 
 -- the table of the next proposition layer; where nothing changed, it is the layer before
 pub record Next (A : Actions) (all : ℕ) (t labels' t' : List ℕ) (still : Bool) : Type 0 where
@@ -74,10 +64,8 @@ pub record Next (A : Actions) (all : ℕ) (t labels' t' : List ℕ) (still : Boo
   pub rests : still ≡ true → layer_by (domain A).props (cell t') ≡ layer_by (domain A).props (cell t)
 
 -- what it asks of a whole step: `at` is where the proposition layer goes behind the action layer
-pub record Ready (n width span at : ℕ) (needs adds dels adders interferers labels live t r mates besides spare words : List ℕ) : Type 0 where
-  pub mating : Mating n width span needs adds dels adders interferers live r mates besides spare
-  pub labels_long : length labels ≡ row_length
-  pub t_long : length t ≡ table_length
+pub record Ready (n width span at : ℕ) (needs adders words : List ℕ) : Type 0 where
+  pub mating : Mating n width span needs adders
   pub place : at ≡ size (length needs + n)
   pub room : at + size n ≤ length words
 

@@ -31,8 +31,7 @@ action_words n a live labels t mates r =
     ++ (run_over a (effect_row n a live labels mates r) ++ run_over n (row_of n (apart labels t)))
 
 -- labels of a effects and n propositions, in rows
-pub record Labelled (n a : ℕ) (live labels : List ℕ) : Type 0 where
+pub record Labelled (n a : ℕ) (labels : List ℕ) : Type 0 where
   pub props : n ≤ row_length
   pub effects : a ≤ row_length
-  pub live_long : length live ≡ row_length
   pub labels_long : length labels ≡ row_length

@@ -7,6 +7,7 @@ ghost use Rattle.words.specs.Memory.{put_at};
 ghost use Rattle.words.specs.Rows.{row_length, table_length, cell};
 ghost use Rattle.layers.specs.Write.{apart, Diagonal, Laid, effect_row, action_words, Labelled};
 
+use together::effects::{Layer, Tables};
 use words::tables::{ROW, put_apart};
 
 // Words from `to` on.
@@ -26,17 +27,14 @@ fn put_pairs(words: &mut [u64], to: usize, n: usize, labels: &[u64], t: &[u64])
     let mut at = to;
     for p in 0..n {
         let left = n - 1 - p;
+        let end = at + left;
         put_apart(
-            &mut *words,
-            at,
+            &mut words[at..end],
             labels[p],
-            labels,
-            p + 1,
-            t,
-            p * ROW + p + 1,
-            left,
+            &labels[p + 1..],
+            &t[p * ROW + p + 1..],
         );
-        at += left;
+        at = end;
     }
 }
 
@@ -46,29 +44,28 @@ fn put_rows(
     to: usize,
     n: usize,
     a: usize,
-    live: &[u64],
     labels: &[u64],
-    mates: &[u64],
-    r: &[u64],
+    tables: &Tables,
 ) -> usize
-    requires { Labelled n a live.now labels.now × (length mates.now ≡ table_length) × (length r.now ≡ table_length) × (to + (pairs a + a * n) ≤ length words.old) }
-    ensures { (result ≡ to + (pairs a + a * n)) × (words.new ≡ put_at to (run_over a (effect_row n a live.now labels.now mates.now r.now)) words.old) }
+    requires { Labelled n a labels.now × (to + (pairs a + a * n) ≤ length words.old) }
+    ensures { (result ≡ to + (pairs a + a * n)) × (words.new ≡ put_at to (run_over a (effect_row n a tables.now.live labels.now tables.now.mates tables.now.r)) words.old) }
 {
+    let live = &tables.live[..];
+    let mates = &tables.mates[..];
+    let r = &tables.r[..];
     let mut at = to;
     for i in 0..a {
-        let left = a - 1 - i;
+        let own = live[i];
+        let with_props = at + (a - 1 - i);
+        let end = with_props + n;
         put_apart(
-            &mut *words,
-            at,
-            live[i],
-            live,
-            i + 1,
-            mates,
-            i * ROW + i + 1,
-            left,
+            &mut words[at..with_props],
+            own,
+            &live[i + 1..],
+            &mates[i * ROW + i + 1..],
         );
-        put_apart(&mut *words, at + left, live[i], labels, 0, r, i * ROW, n);
-        at += left + n;
+        put_apart(&mut words[with_props..end], own, labels, &r[i * ROW..]);
+        at = end;
     }
     at
 }
@@ -83,21 +80,12 @@ pub fn put_props(words: &mut [u64], n: usize, labels: &[u64], t: &[u64])
 }
 
 // The action layer, at the front.
-pub fn put_actions(
-    words: &mut [u64],
-    n: usize,
-    a: usize,
-    live: &[u64],
-    labels: &[u64],
-    t: &[u64],
-    mates: &[u64],
-    r: &[u64],
-)
-    requires { Labelled n a live.now labels.now × (length t.now ≡ table_length) × (length mates.now ≡ table_length) × (length r.now ≡ table_length) × (size (a + n) ≤ length words.old) }
-    ensures { words.new ≡ put_at 0 (action_words n a live.now labels.now t.now mates.now r.now) words.old }
+pub fn put_actions(words: &mut [u64], n: usize, a: usize, layer: &Layer, tables: &Tables)
+    requires { (n ≤ row_length) × (a ≤ row_length) × (size (a + n) ≤ length words.old) }
+    ensures { words.new ≡ put_at 0 (action_words n a tables.now.live layer.now.labels layer.now.t tables.now.mates tables.now.r) words.old }
 {
-    put_words(&mut *words, 0, &live[..a]);
-    put_words(&mut *words, a, &labels[..n]);
-    let at = put_rows(&mut *words, a + n, n, a, live, labels, mates, r);
-    put_pairs(words, at, n, labels, t);
+    put_words(&mut *words, 0, &tables.live[..a]);
+    put_words(&mut *words, a, &layer.labels[..n]);
+    let at = put_rows(&mut *words, a + n, n, a, &layer.labels[..], tables);
+    put_pairs(words, at, n, &layer.labels[..], &layer.t[..]);
 }

@@ -48,7 +48,6 @@ pub record Finished (n : ℕ) (spare t labels' t' words words' : List ℕ) (fres
   pub still : fresh ≡ 0 → (p q : ℕ) → p < n → q < n → cell t' p q ≡ cell t p q
 
 -- what it asks of the table, of its labels, and of what is joined to it
-pub record Laid (labels t spare : List ℕ) : Type 0 where
+pub record Laid (labels t : List ℕ) : Type 0 where
   pub labels_long : length labels ≡ row_length
   pub t_long : length t ≡ table_length
-  pub spare_long : length spare ≡ table_length

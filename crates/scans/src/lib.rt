@@ -13,6 +13,7 @@ ghost use Rattle.words.specs.Rows.{row_length, table_length, cell, both_ways, In
 ghost use Rattle.scans.specs.Pairs as P;
 ghost use Rattle.scans.specs.Ends as E;
 
+use together::effects::{Layer, Tables};
 use words::members::{Members, single};
 use words::tables::ROW;
 
@@ -69,8 +70,7 @@ fn with_last(left: u64, looked: usize) -> usize
 
 // Looks at the pairs of each effect of `lower` with what adds q, rising, until nothing is left. A row that leaves something is counted at once.
 fn look_rows(
-    besides: &[u64],
-    mates: &[u64],
+    tables: &Tables,
     q: usize,
     lower: u64,
     upper: u64,
@@ -78,9 +78,9 @@ fn look_rows(
     both: u64,
     before: usize,
 ) -> Seen
-    requires { (length besides.now ≡ table_length) × (length mates.now ≡ table_length) × (q < row_length) × (lower < 2 ^ row_length) × (upper < 2 ^ row_length) × (size ≡ ones upper + 1) × (before ≤ row_length) }
-    ensures { ((r : List ℕ) → P.Beside mates.now r besides.now lower upper q → P.Parted mates.now lower upper both
-        → S.scan_of row_length lower (P.row_looks mates.now r upper q) (S.scan_at both before) ≡ S.scan_at result.left result.looked) × (result.looked ≤ 2048) }
+    requires { (q < row_length) × (lower < 2 ^ row_length) × (upper < 2 ^ row_length) × (size ≡ ones upper + 1) × (before ≤ row_length) }
+    ensures { ((r : List ℕ) → P.Beside tables.now.mates r tables.now.besides lower upper q → P.Parted tables.now.mates lower upper both
+        → S.scan_of row_length lower (P.row_looks tables.now.mates r upper q) (S.scan_at both before) ≡ S.scan_at result.left result.looked) × (result.looked ≤ 2048) }
 {
     let mut left = both;
     let mut looked = before;
@@ -88,9 +88,16 @@ fn look_rows(
         if left == 0 {
             return Seen { left, looked };
         }
-        let after = left ^ (left & besides[v * ROW + q]);
+        let after = left ^ (left & tables.besides[v * ROW + q]);
         if after == 0 {
-            let seen = look_at(mates, v * ROW, 1, all_but(upper, v), left, looked);
+            let seen = look_at(
+                &tables.mates[..],
+                v * ROW,
+                1,
+                all_but(upper, v),
+                left,
+                looked,
+            );
             return Seen {
                 left: 0,
                 looked: with_last(seen.left, seen.looked),
@@ -110,28 +117,16 @@ fn scan_pair(
     lower: u64,
     upper: u64,
     size: usize,
-    live: &[u64],
-    mates: &[u64],
-    r: &[u64],
-    besides: &[u64],
+    tables: &Tables,
 ) -> usize
-    requires { (length live.now ≡ row_length) × (length mates.now ≡ table_length) × (length r.now ≡ table_length) × (length besides.now ≡ table_length) × (p < row_length) × (q < row_length) × (lower < 2 ^ row_length) × (upper < 2 ^ row_length) × (size ≡ ones upper + 1) }
-    ensures { (P.Beside mates.now r.now besides.now lower upper q
-        → ((v : ℕ) → So (W.bit v lower) → cell mates.now v v ≡ get_or live.now v 0)
-        → result ≡ P.with_last (P.before_last live.now mates.now r.now lower upper p q both)) × (result ≤ P.most_looks) }
+    requires { (p < row_length) × (q < row_length) × (lower < 2 ^ row_length) × (upper < 2 ^ row_length) × (size ≡ ones upper + 1) }
+    ensures { (P.Beside tables.now.mates tables.now.r tables.now.besides lower upper q
+        → ((v : ℕ) → So (W.bit v lower) → cell tables.now.mates v v ≡ get_or tables.now.live v 0)
+        → result ≡ P.with_last (P.before_last tables.now.live tables.now.mates tables.now.r lower upper p q both)) × (result ≤ P.most_looks) }
 {
-    let ones = look_at(live, 0, 1, lower & upper, both, 0);
-    let rows = look_rows(
-        besides,
-        mates,
-        q,
-        lower,
-        upper,
-        size,
-        ones.left,
-        ones.looked,
-    );
-    let last = look_at(r, p, ROW, upper, rows.left, rows.looked);
+    let ones = look_at(&tables.live[..], 0, 1, lower & upper, both, 0);
+    let rows = look_rows(tables, q, lower, upper, size, ones.left, ones.looked);
+    let last = look_at(&tables.r[..], p, ROW, upper, rows.left, rows.looked);
     with_last(last.left, last.looked)
 }
 
@@ -144,14 +139,11 @@ fn pair_looks(
     shown: u64,
     adders: &[u64],
     sizes: &[usize],
-    live: &[u64],
-    mates: &[u64],
-    r: &[u64],
-    besides: &[u64],
+    tables: &Tables,
 ) -> usize
-    requires { P.Tables live.now mates.now r.now besides.now × P.Listed adders.now sizes.now × (p < length adders.now) × (q < length adders.now) }
-    ensures { ((spare : List ℕ) → P.Alike adders.now live.now mates.now r.now besides.now spare → shown ≡ both_ways spare p q
-        → result ≡ P.with_last (P.before_last live.now mates.now r.now (get_or adders.now p 0) (get_or adders.now q 0) p q both)) × (result ≤ P.most_looks) }
+    requires { P.Listed adders.now sizes.now × (p < length adders.now) × (q < length adders.now) }
+    ensures { ((spare : List ℕ) → P.Alike adders.now tables.now.live tables.now.mates tables.now.r tables.now.besides spare → shown ≡ both_ways spare p q
+        → result ≡ P.with_last (P.before_last tables.now.live tables.now.mates tables.now.r (get_or adders.now p 0) (get_or adders.now q 0) p q both)) × (result ≤ P.most_looks) }
 {
     if both == 0 {
         return 0;
@@ -159,9 +151,7 @@ fn pair_looks(
     if both ^ (both & shown) != 0 {
         return sizes[p] * sizes[q];
     }
-    scan_pair(
-        p, q, both, adders[p], adders[q], sizes[q], live, mates, r, besides,
-    )
+    scan_pair(p, q, both, adders[p], adders[q], sizes[q], tables)
 }
 
 // What changed in the table, and how many looks were made.
@@ -199,30 +189,26 @@ fn finish_row(
     sizes: &[usize],
     labels: &[u64],
     t: &mut [u64],
-    live: &[u64],
-    mates: &[u64],
-    r: &[u64],
-    besides: &[u64],
-    spare: &[u64],
+    tables: &Tables,
 ) -> Done
-    requires { P.Tables live.now mates.now r.now besides.now × P.Listed adders.now sizes.now × E.Laid labels.now t.old spare.now × (p < length adders.now) × (at + length adders.now ≤ length words.old) }
-    ensures { E.Crossed p (length adders.now) spare.now t.old t.new result.fresh
-        × (words.new ≡ put_at (at + p + 1) (row_of (length adders.now) (E.apart_by labels.now spare.now t.old) p) words.old)
-        × (P.Alike adders.now live.now mates.now r.now besides.now spare.now
-        → result.looked ≡ P.row_count (length adders.now) adders.now labels.now live.now mates.now r.now p) × (result.looked ≤ row_length * P.most_looks) }
+    requires { P.Listed adders.now sizes.now × E.Laid labels.now t.old × (p < length adders.now) × (at + length adders.now ≤ length words.old) }
+    ensures { E.Crossed p (length adders.now) tables.now.spare t.old t.new result.fresh
+        × (words.new ≡ put_at (at + p + 1) (row_of (length adders.now) (E.apart_by labels.now tables.now.spare t.old) p) words.old)
+        × (P.Alike adders.now tables.now.live tables.now.mates tables.now.r tables.now.besides tables.now.spare
+        → result.looked ≡ P.row_count (length adders.now) adders.now labels.now tables.now.live tables.now.mates tables.now.r p) × (result.looked ≤ row_length * P.most_looks) }
 {
     let mut fresh = 0;
     let mut looked = 0;
     for q in p + 1..adders.len() {
         let both = labels[p] & labels[q];
-        let shown = spare[p * ROW + q] | spare[q * ROW + p];
+        let shown = tables.spare[p * ROW + q] | tables.spare[q * ROW + p];
         let old = t[p * ROW + q];
         let word = shown | old;
         fresh = fresh | (word ^ old);
         t[p * ROW + q] = word;
         t[q * ROW + p] = word;
         words[at + q] = both ^ (both & word);
-        looked += pair_looks(p, q, both, shown, adders, sizes, live, mates, r, besides);
+        looked += pair_looks(p, q, both, shown, adders, sizes, tables);
     }
     Done { fresh, looked }
 }
@@ -234,17 +220,13 @@ fn finish_rows(
     sizes: &[usize],
     labels: &[u64],
     t: &mut [u64],
-    live: &[u64],
-    mates: &[u64],
-    r: &[u64],
-    besides: &[u64],
-    spare: &[u64],
+    tables: &Tables,
 ) -> Done
-    requires { P.Tables live.now mates.now r.now besides.now × P.Listed adders.now sizes.now × E.Laid labels.now t.old spare.now × (size (length adders.now) ≤ length words.old) }
-    ensures { E.Joined (length adders.now) (length adders.now) spare.now t.old t.new result.fresh
-        × (words.new ≡ put_at (length adders.now) (run_over (length adders.now) (row_of (length adders.now) (E.apart_by labels.now spare.now t.old))) words.old)
-        × (P.Alike adders.now live.now mates.now r.now besides.now spare.now
-        → result.looked ≡ P.table_looks (length adders.now) adders.now labels.now live.now mates.now r.now) × (result.looked ≤ row_length * (row_length * P.most_looks)) }
+    requires { P.Listed adders.now sizes.now × E.Laid labels.now t.old × (size (length adders.now) ≤ length words.old) }
+    ensures { E.Joined (length adders.now) (length adders.now) tables.now.spare t.old t.new result.fresh
+        × (words.new ≡ put_at (length adders.now) (run_over (length adders.now) (row_of (length adders.now) (E.apart_by labels.now tables.now.spare t.old))) words.old)
+        × (P.Alike adders.now tables.now.live tables.now.mates tables.now.r tables.now.besides tables.now.spare
+        → result.looked ≡ P.table_looks (length adders.now) adders.now labels.now tables.now.live tables.now.mates tables.now.r) × (result.looked ≤ row_length * (row_length * P.most_looks)) }
 {
     let mut fresh = 0;
     let mut looked = 0;
@@ -258,11 +240,7 @@ fn finish_rows(
             sizes,
             labels,
             &mut *t,
-            live,
-            mates,
-            r,
-            besides,
-            spare,
+            tables,
         );
         fresh = fresh | row.fresh;
         looked += row.looked;
@@ -282,38 +260,30 @@ fn count_adders(sizes: &mut [usize], adders: &[u64])
 }
 
 // The end of a step, in one pass over the pairs: the table, its labels and the words become those of the next proposition layer, and the looks are counted.
-// `adders` has the effects that add each proposition, `spare` what these are together with; the other tables are what the step found.
-pub fn finish(
-    words: &mut [u64],
-    adders: &[u64],
-    labels: &mut [u64],
-    t: &mut [u64],
-    live: &[u64],
-    mates: &[u64],
-    r: &[u64],
-    besides: &[u64],
-    spare: &[u64],
-) -> Done
-    requires { P.Tables live.now mates.now r.now besides.now × E.Laid labels.old t.old spare.now × (length adders.now ≤ row_length) × Inside row_length adders.now × (size (length adders.now) ≤ length words.old) }
-    ensures { (E.Turns (length adders.now) t.old
-        → E.Finished (length adders.now) spare.now t.old labels.new t.new words.old words.new result.fresh)
-        × (P.Alike adders.now live.now mates.now r.now besides.now spare.now
-        → result.looked ≡ P.table_looks (length adders.now) adders.now labels.new live.now mates.now r.now) × (result.looked ≤ row_length * (row_length * P.most_looks)) }
+// `adders` has the effects that add each proposition; `spare` of the tables what these are together with, the others what the step found.
+pub fn finish(words: &mut [u64], adders: &[u64], layer: &mut Layer, tables: &Tables) -> Done
+    requires { (length adders.now ≤ row_length) × Inside row_length adders.now × (size (length adders.now) ≤ length words.old) }
+    ensures { (E.Turns (length adders.now) layer.old.t
+        → E.Finished (length adders.now) tables.now.spare layer.old.t layer.new.labels layer.new.t words.old words.new result.fresh)
+        × (P.Alike adders.now tables.now.live tables.now.mates tables.now.r tables.now.besides tables.now.spare
+        → result.looked ≡ P.table_looks (length adders.now) adders.now layer.new.labels tables.now.live tables.now.mates tables.now.r) × (result.looked ≤ row_length * (row_length * P.most_looks)) }
 {
     let mut sizes = [0usize; ROW];
     count_adders(&mut sizes[..], adders);
-    let fresh = new_labels(&mut *words, adders.len(), &mut *labels, &mut *t, spare);
+    let fresh = new_labels(
+        &mut *words,
+        adders.len(),
+        &mut layer.labels[..],
+        &mut layer.t[..],
+        &tables.spare[..],
+    );
     let rows = finish_rows(
         words,
         adders,
         &sizes[..],
-        &*labels,
-        t,
-        live,
-        mates,
-        r,
-        besides,
-        spare,
+        &layer.labels[..],
+        &mut layer.t[..],
+        tables,
     );
     Done {
         fresh: fresh | rows.fresh,

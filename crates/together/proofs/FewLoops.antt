@@ -81,17 +81,17 @@ pub record Fews (i set : ℕ) (needs adds live row mates₀ beside₀ : List ℕ
   pub with_each : Puts (with_independent needs live row i) row_length set mates₀ left mates
   pub with_adders_lem : Lanes (λ p left w. Members (adding i needs adds live row p) (get_or beside₀ p 0) row_length set left w) row_length left beside
 
-module _ {i set : ℕ} {needs adds live row : List ℕ} (asks : Independent i set needs adds live row) where
+module _ {i set : ℕ} {needs adds live row : List ℕ} (many : length needs ≤ row_length) (asks : Independent i set (length needs) live row) where
   pub fews_none : {mates beside : List ℕ} → length mates ≡ row_length → length beside ≡ row_length → Fews i set needs adds live row mates beside set mates beside
   fews_none m b = record {
     inside = asks.others;
     with_each = record { long = m; is = λ k h. refl };
-    with_adders_lem = record { long = b; is = λ p h. members_none (lt_of_lt_of_le asks.others (pow_mono asks.few)) };
+    with_adders_lem = record { long = b; is = λ p h. members_none (lt_of_lt_of_le asks.others (pow_mono many)) };
   }
 
   module _ {mates₀ beside₀ mates beside : List ℕ} {left : ℕ} (s : Fews i set needs adds live row mates₀ beside₀ left mates beside) where
     pub fews_lowest : 0 < left → count_trailing_zeros word_width left < length needs
-    fews_lowest some = lowest_lt (length needs) left (omega (arith, asks.few)) s.inside some
+    fews_lowest some = lowest_lt (length needs) left (omega (arith, many)) s.inside some
 
     independent_is : (j : ℕ) {named both : ℕ} → named ≡ get_or needs j 0 → both ≡ meet_of (length row) named (λ q. get_or row q 0) (common (get_or live i 0) (get_or live j 0))
         → both ≡ with_independent needs live row i j
@@ -105,9 +105,9 @@ module _ {i set : ℕ} {needs adds live row : List ℕ} (asks : Independent i se
         → left' ≡ without left (single (count_trailing_zeros word_width left)) → Fews i set needs adds live row mates₀ beside₀ left' (L.set mates j both) beside'
     unfolding label_in adding
     fews_more {j} {named} {both} {added} {left'} {beside'} some e need met add spread g =
-        let few : length needs ≤ word_width = omega (arith, asks.few) in
+        let few : length needs ≤ word_width = omega (arith, many) in
         let is : both ≡ with_independent needs live row i j = independent_is j need met in
-        let low : j < row_length = omega (arith, asks.few, fews_lowest some) in
+        let low : j < row_length = omega (arith, many, fews_lowest some) in
         record {
           inside = subst (λ (x : ℕ). x < 2 ^ length needs) (sym g) (without_lt (length needs) _ s.inside);
           with_each = puts_more s.with_each low (ap (λ (x : ℕ). bit x left) e ∙ lowest_in (length needs) left few s.inside some) is

@@ -28,10 +28,9 @@ pub record Row (i width need : ℕ) (r labels t : List ℕ) : Type 0 where
   pub t_long : length t ≡ table_length
 
 -- and those of all effects
-pub record Admitting (n width : ℕ) (needs labels t r live : List ℕ) : Type 0 where
-  pub wide : Width n width needs
-  pub labels_long : length labels ≡ row_length
-  pub t_long : length t ≡ table_length
+pub record Admitting (width : ℕ) (needs r live : List ℕ) : Type 0 where
+  pub parts : InParts width
+  pub inside : Inside width needs
   pub r_long : length r ≡ table_length
   pub live_long : length live ≡ row_length
 
@@ -72,11 +71,9 @@ unfoldable pub with_independent : List ℕ → List ℕ → List ℕ → ℕ →
 with_independent needs live row i j = meet_of row_length (get_or needs j 0) (λ q. get_or row q 0) (common (get_or live i 0) (get_or live j 0))
 
 -- what the code asks that pairs the effects by rows
-pub record Pairing (span : ℕ) (needs interferers live turned mates : List ℕ) : Type 0 where
-  pub spans : Span span needs
-  pub needs_inside : Inside row_length needs
-  pub interferers_long : length interferers ≡ length needs
-  pub interferers_inside : Inside row_length interferers
+pub record Pairing (span effects : ℕ) (live turned mates : List ℕ) : Type 0 where
+  pub parts : InParts span
+  pub few : effects ≤ span
   pub live_long : length live ≡ row_length
   pub turned_long : length turned ≡ table_length
   pub mates_long : length mates ≡ table_length
@@ -90,24 +87,11 @@ pub record Joining (to table sets : List ℕ) (width : ℕ) : Type 0 where
   pub parts : InParts width
 
 -- what it asks of effect i and a set of others, one by one
-pub record Independent (i set : ℕ) (needs adds live row : List ℕ) : Type 0 where
-  pub few : length needs ≤ row_length
-  pub adds_long : length adds ≡ length needs
+pub record Independent (i set effects : ℕ) (live row : List ℕ) : Type 0 where
   pub live_long : length live ≡ row_length
   pub row_long : length row ≡ row_length
-  pub own : i < length needs
-  pub others : set < 2 ^ length needs
-  pub needs_inside : Inside row_length needs
-
--- the same with the interferers, for effect i and all that are independent of it
-pub record Lists (i : ℕ) (needs adds interferers live row : List ℕ) : Type 0 where
-  pub few : length needs ≤ row_length
-  pub adds_long : length adds ≡ length needs
-  pub interferers_long : length interferers ≡ length needs
-  pub live_long : length live ≡ row_length
-  pub row_long : length row ≡ row_length
-  pub own : i < length needs
-  pub needs_inside : Inside row_length needs
+  pub own : i < effects
+  pub others : set < 2 ^ effects
 
 -- the row of effect i with all effects
 unfoldable pub mates_of : List ℕ → List ℕ → List ℕ → List ℕ → ℕ → List ℕ → List ℕ
@@ -120,20 +104,9 @@ beside_of needs adds interferers live row i beside =
     list_over row_length (λ p. union (union (get_or beside p 0) (join_of row_length (independent_of needs interferers i) (λ j. keep (bit p (get_or adds j 0)) (with_independent needs live row i j))))
     (keep (bit p (get_or adds i 0)) (get_or live i 0)))
 
--- what it asks of all effects, one by one
 -- the first n rows of a table are empty
 abbrev pub EmptyRows : ℕ → List ℕ → Type 0
 EmptyRows n table = (i k : ℕ) → i < n → k < row_length → cell table i k ≡ 0
-
-pub record Fewing (n width : ℕ) (needs adds dels interferers live r mates besides : List ℕ) : Type 0 where
-  pub wide : Width n width needs
-  pub adds_long : length adds ≡ length needs
-  pub dels_long : length dels ≡ length needs
-  pub interferers_long : length interferers ≡ length needs
-  pub live_long : length live ≡ row_length
-  pub r_long : length r ≡ table_length
-  pub mates_long : length mates ≡ table_length
-  pub besides_long : length besides ≡ table_length
 
 -- row i of a table
 unfoldable pub row_in : List ℕ → ℕ → List ℕ

@@ -5,6 +5,7 @@ ghost use Rattle.words.specs.Memory.{put_at};
 ghost use Rattle.words.specs.Rows.{Source, cell};
 ghost use Rattle.together.specs.Cells.{Row, RowPut, Admitting, label_for, row_for};
 
+use crate::effects::{Effects, Layer};
 use words::members::{lowest, meet_at, others};
 use words::parts::meet_row;
 use words::tables::ROW;
@@ -46,20 +47,26 @@ fn admit_row(
 
 // All effects, one after the other.
 pub fn admit(
-    needs: &[u32],
+    effects: Effects,
     all: u64,
-    labels: &[u64],
-    t: &[u64],
+    layer: &Layer,
     r: &mut [u64],
     live: &mut [u64],
-    n: usize,
     width: usize,
 )
-    requires { Admitting n width needs.now labels.now t.now r.old live.old }
-    ensures { (live.new ≡ put_at 0 (list_over (length needs.now) (λ i. label_for all t.now (get_or needs.now i 0))) live.old)
-        × ((i q : ℕ) → i < length needs.now → q < width → cell r.new i q ≡ row_for all labels.now t.now (get_or needs.now i 0) q) }
+    requires { Admitting width effects.needs.now r.old live.old }
+    ensures { (live.new ≡ put_at 0 (list_over (length effects.entry.needs.now) (λ i. label_for all layer.now.t (get_or effects.entry.needs.now i 0))) live.old)
+        × ((i q : ℕ) → i < length effects.entry.needs.now → q < width → cell r.new i q ≡ row_for all layer.now.labels layer.now.t (get_or effects.entry.needs.now i 0) q) }
 {
-    for (i, need) in needs.iter().enumerate() {
-        live[i] = admit_row(&mut *r, i, u64::from(*need), all, labels, t, width);
+    for (i, need) in effects.needs.iter().enumerate() {
+        live[i] = admit_row(
+            &mut *r,
+            i,
+            u64::from(*need),
+            all,
+            &layer.labels[..],
+            &layer.t[..],
+            width,
+        );
     }
 }

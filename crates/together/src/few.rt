@@ -4,9 +4,12 @@ ghost use Rattle.rules.specs.Test.{choose};
 ghost use Rattle.rules.specs.Word as W;
 ghost use Rattle.rules.specs.Over.{keep, join_of};
 ghost use Rattle.rules.specs.Lists.{list_over};
+ghost use Rattle.words.specs.Memory.{put_at};
 ghost use Rattle.words.specs.Rows.{row_length, cell, Target, Source, InParts};
-ghost use Rattle.together.specs.Cells.{RowPut, Independent, Lists, EmptyRows, Fewing, with_independent, mates_of, beside_of, mate_of, beside_for};
+ghost use Rattle.together.specs.Kept.{Kept};
+ghost use Rattle.together.specs.Cells.{RowPut, Independent, EmptyRows, with_independent, mates_of, beside_of, mate_of, beside_for};
 
+use crate::effects::{Effects, Tables};
 use words::columns::spread;
 use words::members::{Members, meet_at, single};
 use words::parts::join_row;
@@ -18,53 +21,49 @@ use words::tables::{ROW, clear_cells};
 fn few_row(
     i: usize,
     set: u64,
-    needs: &[u32],
-    adds: &[u32],
+    effects: Effects,
     live: &[u64],
     row: &[u64],
     mates: &mut [u64],
     beside: &mut [u64],
 )
-    requires { Independent i set needs.now adds.now live.now row.now × (length mates.old ≡ row_length) × (length beside.old ≡ row_length) }
-    ensures { (mates.new ≡ list_over row_length (λ j. choose (W.bit j set) (with_independent needs.now live.now row.now i j) (get_or mates.old j 0)))
-        × (beside.new ≡ list_over row_length (λ p. W.union (get_or beside.old p 0) (join_of row_length set (λ j. keep (W.bit p (get_or adds.now j 0)) (with_independent needs.now live.now row.now i j))))) }
+    requires { Independent i set (length effects.needs.now) live.now row.now × (length mates.old ≡ row_length) × (length beside.old ≡ row_length) }
+    ensures { (mates.new ≡ list_over row_length (λ j. choose (W.bit j set) (with_independent effects.entry.needs.now live.now row.now i j) (get_or mates.old j 0)))
+        × (beside.new ≡ list_over row_length (λ p. W.union (get_or beside.old p 0) (join_of row_length set (λ j. keep (W.bit p (get_or effects.entry.adds.now j 0)) (with_independent effects.entry.needs.now live.now row.now i j))))) }
 {
     for j in Members(set) {
-        let both = meet_at(row, u64::from(needs[j]), live[i] & live[j]);
+        let both = meet_at(row, u64::from(effects.needs[j]), live[i] & live[j]);
         mates[j] = both;
-        spread(&mut *beside, Props(adds[j]), both);
+        spread(&mut *beside, Props(effects.adds[j]), both);
     }
 }
 
 // Effect i with those independent of it and with itself, which adds what it adds.
 fn few_effect(
     i: usize,
-    needs: &[u32],
-    adds: &[u32],
-    interferers: &[u64],
+    effects: Effects,
     live: &[u64],
     row: &[u64],
     mates: &mut [u64],
     beside: &mut [u64],
 )
-    requires { Lists i needs.now adds.now interferers.now live.now row.now × (length mates.old ≡ row_length) × (length beside.old ≡ row_length) }
-    ensures { (mates.new ≡ mates_of needs.now interferers.now live.now row.now i mates.old)
-        × (beside.new ≡ beside_of needs.now adds.now interferers.now live.now row.now i beside.old) }
+    requires { (i < length effects.needs.now) × (length live.now ≡ row_length) × (length row.now ≡ row_length) × (length mates.old ≡ row_length) × (length beside.old ≡ row_length) }
+    ensures { (mates.new ≡ mates_of effects.entry.needs.now effects.entry.interferers.now live.now row.now i mates.old)
+        × (beside.new ≡ beside_of effects.entry.needs.now effects.entry.adds.now effects.entry.interferers.now live.now row.now i beside.old) }
 {
-    let all = States::first(needs.len()).0;
-    let independent = all ^ (all & (interferers[i] | single(i)));
+    let all = States::first(effects.needs.len()).0;
+    let independent = all ^ (all & (effects.interferers[i] | single(i)));
     few_row(
         i,
         independent,
-        needs,
-        adds,
+        effects,
         live,
         row,
         &mut *mates,
         &mut *beside,
     );
     mates[i] = live[i];
-    spread(&mut *beside, Props(adds[i]), live[i]);
+    spread(&mut *beside, Props(effects.adds[i]), live[i]);
 }
 
 // Copies row i, without the words that a set names.
@@ -77,32 +76,29 @@ fn keep_row(besides: &mut [u64], i: usize, r: &[u64], del: u64, width: usize)
 }
 
 // All effects, into rows of empty words; none is beside what it deletes.
-fn few_effects(
-    needs: &[u32],
-    adds: &[u32],
-    dels: &[u32],
-    interferers: &[u64],
-    live: &[u64],
-    r: &[u64],
-    mates: &mut [u64],
-    besides: &mut [u64],
-    n: usize,
-    width: usize,
-)
-    requires { Fewing n width needs.now adds.now dels.now interferers.now live.now r.now mates.old besides.old × EmptyRows (length needs.now) mates.old }
-    ensures { ((i j : ℕ) → i < length needs.now → j < row_length → cell mates.new i j ≡ mate_of needs.now interferers.now live.now r.now i j)
-        × ((i p : ℕ) → i < length needs.now → p < width → cell besides.new i p ≡ beside_for needs.now adds.now dels.now interferers.now live.now r.now i p) }
+fn few_effects(effects: Effects, tables: &mut Tables, width: usize)
+    requires { InParts width × EmptyRows (length effects.needs.now) tables.old.mates }
+    ensures { Kept tables.old tables.new
+        × ((i j : ℕ) → i < length effects.entry.needs.now → j < row_length → cell tables.new.mates i j ≡ mate_of effects.entry.needs.now effects.entry.interferers.now tables.new.live tables.new.r i j)
+        × ((i p : ℕ) → i < length effects.entry.needs.now → p < width → cell tables.new.besides i p ≡ beside_for effects.entry.needs.now effects.entry.adds.now effects.entry.dels.now effects.entry.interferers.now tables.new.live tables.new.r i p) }
 {
-    for i in 0..needs.len() {
-        keep_row(&mut *besides, i, r, u64::from(dels[i]), width);
+    for i in 0..effects.needs.len() {
+        keep_row(
+            &mut tables.besides[..],
+            i,
+            &tables.r[..],
+            u64::from(effects.dels[i]),
+            width,
+        );
         let at = i * ROW;
         let end = at + ROW;
+        let r = &tables.r[..];
+        let mates = &mut tables.mates[..];
+        let besides = &mut tables.besides[..];
         few_effect(
             i,
-            needs,
-            adds,
-            interferers,
-            live,
+            effects,
+            &tables.live[..],
             &r[at..end],
             &mut mates[at..end],
             &mut besides[at..end],
@@ -110,35 +106,21 @@ fn few_effects(
     }
 }
 
-// The same into any table.
-pub fn few(
-    needs: &[u32],
-    adds: &[u32],
-    dels: &[u32],
-    interferers: &[u64],
-    live: &[u64],
-    r: &[u64],
-    mates: &mut [u64],
-    besides: &mut [u64],
-    n: usize,
-    width: usize,
-)
-    requires { Fewing n width needs.now adds.now dels.now interferers.now live.now r.now mates.old besides.old }
-    ensures { ((i j : ℕ) → i < length needs.now → j < row_length → cell mates.new i j ≡ mate_of needs.now interferers.now live.now r.now i j)
-        × ((i p : ℕ) → i < length needs.now → p < width → cell besides.new i p ≡ beside_for needs.now adds.now dels.now interferers.now live.now r.now i p) }
+// Empty words at the front.
+fn clear(words: &mut [u64], count: usize)
+    requires { count ≤ length words.old }
+    ensures { words.new ≡ put_at 0 (list_over count (λ i. 0)) words.old }
 {
-    let used = needs.len() * ROW;
-    mates[..used].fill(0);
-    few_effects(
-        needs,
-        adds,
-        dels,
-        interferers,
-        live,
-        r,
-        mates,
-        besides,
-        n,
-        width,
-    );
+    words[..count].fill(0);
+}
+
+// The same into any tables.
+pub fn few(effects: Effects, tables: &mut Tables, width: usize)
+    requires { InParts width }
+    ensures { Kept tables.old tables.new
+        × ((i j : ℕ) → i < length effects.entry.needs.now → j < row_length → cell tables.new.mates i j ≡ mate_of effects.entry.needs.now effects.entry.interferers.now tables.new.live tables.new.r i j)
+        × ((i p : ℕ) → i < length effects.entry.needs.now → p < width → cell tables.new.besides i p ≡ beside_for effects.entry.needs.now effects.entry.adds.now effects.entry.dels.now effects.entry.interferers.now tables.new.live tables.new.r i p) }
+{
+    clear(&mut tables.mates[..], effects.needs.len() * ROW);
+    few_effects(effects, tables, width);
 }

@@ -10,61 +10,65 @@ ghost use Rattle.together.specs.Interference as I;
 use words::members::single;
 use words::sets::{Props, Set};
 
+// The sets of the effects, and the numbers of the actions whose effects these are.
+#[derive(Clone, Copy)]
+pub struct Owned<'a> {
+    pub needs: &'a [u32],
+    pub adds: &'a [u32],
+    pub dels: &'a [u32],
+    pub owners: &'a [u8],
+    ghost listed: { I.Listed needs.now adds.now dels.now owners.now },
+}
+
 // Whether i deletes something that j needs or adds.
-fn clobbers(needs: &[u32], adds: &[u32], dels: &[u32], i: usize, j: usize) -> bool
-    requires { (i < length dels.now) × (j < length needs.now) × (j < length adds.now) }
-    ensures { result ≡ I.clobbers_in needs.now adds.now dels.now i j }
+fn clobbers(sets: Owned, i: usize, j: usize) -> bool
+    requires { (i < length sets.needs.now) × (j < length sets.needs.now) }
+    ensures { result ≡ I.clobbers_in sets.entry.needs.now sets.entry.adds.now sets.entry.dels.now i j }
 {
-    let used = Props(needs[j]).union(Props(adds[j]));
-    Props(dels[i]).meets(used)
+    let used = Props(sets.needs[j]).union(Props(sets.adds[j]));
+    Props(sets.dels[i]).meets(used)
 }
 
 // Whether one of the two does.
-fn either_clobbers(needs: &[u32], adds: &[u32], dels: &[u32], i: usize, j: usize) -> bool
-    requires { (i < length needs.now) × (j < length needs.now) × (length adds.now ≡ length needs.now) × (length dels.now ≡ length needs.now) }
-    ensures { result ≡ (I.clobbers_in needs.now adds.now dels.now i j or I.clobbers_in needs.now adds.now dels.now j i) }
+fn either_clobbers(sets: Owned, i: usize, j: usize) -> bool
+    requires { (i < length sets.needs.now) × (j < length sets.needs.now) }
+    ensures { result ≡ (I.clobbers_in sets.entry.needs.now sets.entry.adds.now sets.entry.dels.now i j or I.clobbers_in sets.entry.needs.now sets.entry.adds.now sets.entry.dels.now j i) }
 {
-    clobbers(needs, adds, dels, i, j) || clobbers(needs, adds, dels, j, i)
+    clobbers(sets, i, j) || clobbers(sets, j, i)
 }
 
 // Just j where it interferes with i, else no effect. Whose effects they are is looked at last, only where it matters.
-fn interferer(needs: &[u32], adds: &[u32], dels: &[u32], owners: &[u8], i: usize, j: usize) -> u64
-    requires { I.Listed needs.now adds.now dels.now owners.now × (length needs.now ≤ row_length) × (i < length needs.now) × (j < length needs.now) }
-    ensures { result ≡ keep (I.interfere_in needs.now adds.now dels.now owners.now i j) (W.single j) }
+fn interferer(sets: Owned, i: usize, j: usize) -> u64
+    requires { (length sets.needs.now ≤ row_length) × (i < length sets.needs.now) × (j < length sets.needs.now) }
+    ensures { result ≡ keep (I.interfere_in sets.entry.needs.now sets.entry.adds.now sets.entry.dels.now sets.entry.owners.now i j) (W.single j) }
 {
-    if !either_clobbers(needs, adds, dels, i, j) {
+    if !either_clobbers(sets, i, j) {
         return 0;
     }
-    if owners[i] == owners[j] {
+    if sets.owners[i] == sets.owners[j] {
         return 0;
     }
     single(j)
 }
 
 // The effects with which i interferes.
-fn interferers_of(needs: &[u32], adds: &[u32], dels: &[u32], owners: &[u8], i: usize) -> u64
-    requires { I.Listed needs.now adds.now dels.now owners.now × (length needs.now ≤ row_length) × (i < length needs.now) }
-    ensures { result ≡ I.interferers_of needs.now adds.now dels.now owners.now i }
+fn interferers_of(sets: Owned, i: usize) -> u64
+    requires { (length sets.needs.now ≤ row_length) × (i < length sets.needs.now) }
+    ensures { result ≡ I.interferers_of sets.entry.needs.now sets.entry.adds.now sets.entry.dels.now sets.entry.owners.now i }
 {
     let mut joined = 0;
-    for j in 0..needs.len() {
-        joined |= interferer(needs, adds, dels, owners, i, j);
+    for j in 0..sets.needs.len() {
+        joined |= interferer(sets, i, j);
     }
     joined
 }
 
-// `owners` are the numbers of the actions whose effects these are.
-pub fn interferer_sets(
-    needs: &[u32],
-    adds: &[u32],
-    dels: &[u32],
-    owners: &[u8],
-    interferers: &mut [u64],
-)
-    requires { I.Listed needs.now adds.now dels.now owners.now × (length needs.now ≤ row_length) × (length interferers.old ≡ length needs.now) }
-    ensures { interferers.new ≡ list_over (length needs.now) (I.interferers_of needs.now adds.now dels.now owners.now) }
+// Of each effect those with which it interferes.
+pub fn interferer_sets(sets: Owned, interferers: &mut [u64])
+    requires { (length sets.needs.now ≤ row_length) × (length interferers.old ≡ length sets.needs.now) }
+    ensures { interferers.new ≡ list_over (length sets.entry.needs.now) (I.interferers_of sets.entry.needs.now sets.entry.adds.now sets.entry.dels.now sets.entry.owners.now) }
 {
-    for (i, set) in interferers.iter_mut().enumerate() {
-        *set = interferers_of(needs, adds, dels, owners, i);
+    for (i, found) in interferers.iter_mut().enumerate() {
+        *found = interferers_of(sets, i);
     }
 }

@@ -3,6 +3,7 @@
 
 pub mod admit;
 pub mod cut;
+pub mod effects;
 pub mod few;
 pub mod interference;
 pub mod pairs;

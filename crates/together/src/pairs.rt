@@ -5,22 +5,16 @@ ghost use Rattle.rules.specs.Over.{join_of};
 ghost use Rattle.words.specs.Rows.{row_length, table_length, cell};
 ghost use Rattle.together.specs.Cells.{Pairing, Joining, with_effect};
 
+use crate::effects::Effects;
 use words::parts::{gather_row, join_row, meet_row};
 use words::tables::{ROW, clear_cells};
 
 // An effect with itself is there where it is; with one that it interferes with nowhere.
-pub fn pairs(
-    needs: &[u32],
-    interferers: &[u64],
-    live: &[u64],
-    turned: &[u64],
-    mates: &mut [u64],
-    span: usize,
-)
-    requires { Pairing span needs.now interferers.now live.now turned.now mates.old }
-    ensures { (i j : ℕ) → i < length needs.now → j < span → cell mates.new i j ≡ with_effect needs.now interferers.now live.now turned.now i j }
+pub fn pairs(effects: Effects, live: &[u64], turned: &[u64], mates: &mut [u64], span: usize)
+    requires { Pairing span (length effects.needs.now) live.now turned.now mates.old }
+    ensures { (i j : ℕ) → i < length effects.entry.needs.now → j < span → cell mates.new i j ≡ with_effect effects.entry.needs.now effects.entry.interferers.now live.now turned.now i j }
 {
-    for (i, need) in needs.iter().enumerate() {
+    for (i, need) in effects.needs.iter().enumerate() {
         meet_row(
             &mut *mates,
             i,
@@ -30,7 +24,7 @@ pub fn pairs(
             span,
             u64::from(*need),
         );
-        clear_cells(&mut *mates, i, interferers[i]);
+        clear_cells(&mut *mates, i, effects.interferers[i]);
         mates[i * ROW + i] = live[i];
     }
 }

@@ -1,16 +1,17 @@
 -- Tables of words: a row that is written, rows filled one after the other, cells emptied.
 -- Assumes nothing.
-use Prim.Native.Nat.{ℕ, ◌+◌, ◌*◌, ◌^◌, ◌≤◌, ◌<◌}
+use Prim.Native.Nat.{ℕ, ◌+◌, ◌-◌, ◌*◌, ◌^◌, ◌≤◌, ◌<◌}
 use mathlib.Core.Path.{◌≡◌, refl, sym, ap, ap₂, subst, ◌∙◌}
 use mathlib.Core.Bool.{Bool, So}
 use mathlib.Core.Logic.{⊎_elim}
 use mathlib.Core.List.{List, ◌++◌}
-use native.Mathlib.Nat.{add-zero, zero-add, mod-eq_of_lt}
+use native.Mathlib.Nat.{zero-add, mod-eq_of_lt}
 use native.Mathlib.Omega.{arith}
 use lib.Bits.{and_mask}
 use lib.Count.{count_trailing_zeros}
-use lib.ListN.{length, get_or, set, length-set}
-use lib.Seq.{get_or-set_same, get_or-set_other}
+use borrow.Rule.Slice.PartMut.{put_mid}
+use lib.ListN.{length, get_or, take, drop, set, length-set, length-drop}
+use lib.Seq.{get_or-set_same, get_or-set_other, get_or-take, get_or-drop, length-take-le}
 use Rattle.rules.specs.Test.{◌and◌, fails, choose, same}
 use Rattle.rules.specs.Word.{bit, common, without, single, first}
 use Rattle.rules.specs.Lists.{list_over}
@@ -19,11 +20,11 @@ use Rattle.rules.proofs.Overs.{below_suc}
 use Rattle.rules.proofs.Tests.{choose_held, choose_failed, and_of, and_left, and_right, fails_of, fails_at, holds_or, test_eq, same_of, same_at}
 use Rattle.rules.proofs.Words.{bit_zero, no_bit_zero, without_lt}
 use Rattle.words.specs.Memory.{put_at}
-use Rattle.words.specs.Rows.{row_length, part_length, table_length, cell, Target, InParts}
+use Rattle.words.specs.Rows.{row_length, part_length, table_length, cell, InParts}
 use Rattle.words.specs.Width.{word_width}
 use Rattle.words.proofs.MemberLoops.{lowest_in, lowest_lt}
 use Rattle.words.proofs.Spreads.{bit_left, stays}
-use Rattle.words.proofs.Writes.{put_length, put_word, put_put, put_below, put_above, put_over, put_same}
+use Rattle.words.proofs.Writes.{put_length, put_word, put_put, put_below, put_above, put_over, put_same, put_inside}
 
 -- word k from column `col` on of row i, by its place
 pub cell_at : (table : List ℕ) (i col k : ℕ) {at : ℕ} → at ≡ i * row_length + col → get_or table (at + k) 0 ≡ cell table i (col + k)
@@ -65,28 +66,50 @@ module _ (row m : ℕ) (f : ℕ → ℕ) (w : List ℕ) (whole : length w ≡ ta
       (λ le. put_above (row * row_length) (list_over m f) w room (i * row_length + j) (omega (arith, length_list_over m f)))
       (which i row)
 
+-- ---- a row that is lent, from its first word to that of the next row
+
+module _ (row : ℕ) (w : List ℕ) (whole : length w ≡ table_length) (h : row < row_length) where
+  count : row * row_length + row_length - row * row_length ≡ row_length
+  count = omega arith
+
+  pub lent_length : length (take (row * row_length + row_length - row * row_length) (drop (row * row_length) w)) ≡ row_length
+  lent_length = ap (λ (x : ℕ). length (take x (drop (row * row_length) w))) count
+      ∙ length-take-le row_length (drop (row * row_length) w) (omega (arith, length-drop (row * row_length) w))
+
+  pub lent_word : (k : ℕ) → k < row_length → get_or (take (row * row_length + row_length - row * row_length) (drop (row * row_length) w)) k 0 ≡ cell w row k
+  unfolding cell
+  lent_word k l = ap (λ (x : ℕ). get_or (take x (drop (row * row_length) w)) k 0) count
+      ∙ get_or-take row_length (drop (row * row_length) w) k 0 l ∙ get_or-drop (row * row_length) w k 0
+
+  -- and comes back with words put at its front
+  pub lent_put : {width : ℕ} (f : ℕ → ℕ) {p : List ℕ} → InParts width
+      → p ≡ put_at 0 (list_over width f) (take (row * row_length + row_length - row * row_length) (drop (row * row_length) w))
+      → put_mid (row * row_length) (row * row_length + row_length - row * row_length) w p ≡ put_at (row * row_length) (list_over width f) w
+  lent_put {width} f {p} parts e =
+      let few : width ≤ row_length = ⊎_elim (λ q. omega arith) (λ q. omega arith) parts in
+      put_inside (row * row_length) row_length (list_over width f) w p (omega (arith, length_list_over width f)) (omega arith) e
+
 -- ---- a row of one part or two, that is put by parts
 
-module _ (row : ℕ) {w w₁ : List ℕ} (t : Target w row) where
-  module _ (g : ℕ → ℕ) (e : w₁ ≡ put_at (row * row_length + 0) (list_over part_length (λ k. g (0 + k))) w) where
-    first_part : w₁ ≡ put_at (row * row_length) (list_over part_length g) w
-    first_part = e ∙ ap₂ (λ (x : ℕ) (l : List ℕ). put_at x l w) (add-zero (row * row_length)) (list_over_eq (λ k h. ap g (zero-add k)))
+module _ (w : List ℕ) {w₁ : List ℕ} (whole : length w ≡ row_length) (g : ℕ → ℕ) (e : w₁ ≡ put_at 0 (list_over part_length (λ k. g (0 + k))) w) where
+  first_part : w₁ ≡ put_at 0 (list_over part_length g) w
+  first_part = e ∙ ap (λ (l : List ℕ). put_at 0 l w) (list_over_eq (λ k h. ap g (zero-add k)))
 
-    pub row_narrow : (width : ℕ) → InParts width → width ≤ part_length → w₁ ≡ put_at (row * row_length) (list_over width g) w
-    row_narrow width parts h =
-        let one : width ≡ part_length = ⊎_elim (λ q. q) (λ q. absurd (omega arith)) parts in
-        first_part ∙ ap (λ (n : ℕ). put_at (row * row_length) (list_over n g) w) (sym one)
+  pub row_narrow : (width : ℕ) → InParts width → width ≤ part_length → w₁ ≡ put_at 0 (list_over width g) w
+  row_narrow width parts h =
+      let one : width ≡ part_length = ⊎_elim (λ q. q) (λ q. absurd (omega arith)) parts in
+      first_part ∙ ap (λ (n : ℕ). put_at 0 (list_over n g) w) (sym one)
 
-    -- the second part is made while the first is put already
-    pub row_wide : (width : ℕ) {w₂ : List ℕ} {g₂ : ℕ → ℕ} → InParts width → part_length < width → ((k : ℕ) → g₂ k ≡ g (part_length + k))
-        → w₂ ≡ put_at (row * row_length + part_length) (list_over part_length g₂) w₁ → w₂ ≡ put_at (row * row_length) (list_over width g) w
-    row_wide width {w₂} {g₂} parts h same_words d =
-        let two : width ≡ row_length = ⊎_elim (λ q. absurd (omega arith)) (λ q. q) parts in
-        let l : length (list_over part_length g) ≡ part_length = length_list_over part_length g in
-        d ∙ ap₂ (λ (x : ℕ) (v : List ℕ). put_at (row * row_length + x) (list_over part_length g₂) v) (sym l) first_part
-        ∙ put_put (row * row_length) (list_over part_length g) w (omega arith) (list_over part_length g₂)
-        ∙ ap (λ (v : List ℕ). put_at (row * row_length) (list_over part_length g ++ v) w) (list_over_eq (λ k h. same_words k))
-        ∙ ap (λ (v : List ℕ). put_at (row * row_length) v w) (sym (list_append part_length part_length g) ∙ ap (λ (n : ℕ). list_over n g) (sym two))
+  -- the second part is made while the first is put already
+  pub row_wide : (width : ℕ) {w₂ : List ℕ} {g₂ : ℕ → ℕ} → InParts width → part_length < width → ((k : ℕ) → g₂ k ≡ g (part_length + k))
+      → w₂ ≡ put_at part_length (list_over part_length g₂) w₁ → w₂ ≡ put_at 0 (list_over width g) w
+  row_wide width {w₂} {g₂} parts h same_words d =
+      let two : width ≡ row_length = ⊎_elim (λ q. absurd (omega arith)) (λ q. q) parts in
+      let l : length (list_over part_length g) ≡ part_length = length_list_over part_length g in
+      d ∙ ap₂ (λ (x : ℕ) (v : List ℕ). put_at x (list_over part_length g₂) v) (sym (zero-add (length (list_over part_length g)) ∙ l)) first_part
+      ∙ put_put 0 (list_over part_length g) w (omega (arith, l)) (list_over part_length g₂)
+      ∙ ap (λ (v : List ℕ). put_at 0 (list_over part_length g ++ v) w) (list_over_eq (λ k h. same_words k))
+      ∙ ap (λ (v : List ℕ). put_at 0 v w) (sym (list_append part_length part_length g) ∙ ap (λ (n : ℕ). list_over n g) (sym two))
 
 -- ---- a table filled row by row: i rows are filled, with f row by row
 

@@ -11,6 +11,7 @@ use lib.ListN.{length, get_or, take, drop, set, length-append, length-drop, leng
 use lib.Seq.{get_or-take, get_or-drop, take_at, drop_at, take_all, take-take, drop-drop, length-take-le, take-append-le, take-add, take-set-le, drop-set-lt, ext_get_or, set_split}
 use Rattle.rules.specs.Lists.{list_over, run_over}
 use Rattle.rules.proofs.Layers.{length_list_over, get_d_list_over, list_over_eq, list_over_self}
+use Rattle.std.proofs.lemmas.List.{drop-append-le}
 use Rattle.words.specs.Memory.{put_at}
 
 -- memories with the same front have the same words and parts there
@@ -152,6 +153,25 @@ put_part at n xs w p long e =
     let here : at + (at + n - at) ≡ at + length xs = omega arith in
     ap (λ (l : List ℕ). take at w ++ (l ++ drop (at + n - at) (drop at w))) e
     ∙ ap (λ (l : List ℕ). take at w ++ (xs ++ l)) (drop-drop (at + n - at) at w ∙ ap (λ (x : ℕ). drop x w) here)
+
+-- words put at the front of a lent part
+pub put_inside : (at n : ℕ) (xs w p : List ℕ) → length xs ≤ n → at + n ≤ length w → p ≡ put_at 0 xs (take (at + n - at) (drop at w))
+    → put_mid at (at + n - at) w p ≡ put_at at xs w
+unfolding put_at
+put_inside at n xs w p few room e =
+    let m : at + n - at ≡ n = omega arith in
+    let d = drop at w in
+    let back : drop (length xs) (take n d) ++ drop n d ≡ drop (length xs) d =
+    sym (drop-append-le (length xs) (take n d) (drop n d) (omega (arith, length-take-le n d (omega (arith, length-drop at w))))) ∙ ap (drop (length xs)) (take-append-drop n d) in
+    ap (λ (l : List ℕ). take at w ++ (l ++ drop (at + n - at) d)) e
+    ∙ ap (λ (x : ℕ). take at w ++ ((xs ++ drop (0 + length xs) (take x d)) ++ drop x d)) m
+    ∙ ap (λ (x : ℕ). take at w ++ ((xs ++ drop x (take n d)) ++ drop n d)) (zero-add (length xs))
+    ∙ ap (λ (l : List ℕ). take at w ++ l) (append_assoc xs (drop (length xs) (take n d)) (drop n d) ∙ ap (λ (l : List ℕ). xs ++ l) back)
+    ∙ ap (λ (l : List ℕ). take at w ++ (xs ++ l)) (drop-drop (length xs) at w)
+
+-- a word of what is lent by &w[at..]
+pub tail_word : (at : ℕ) (w : List ℕ) (k : ℕ) → get_or (take (length w - at) (drop at w)) k 0 ≡ get_or w (at + k) 0
+tail_word at w k = ap (λ (l : List ℕ). get_or l k 0) (tail_all at w) ∙ get_or-drop at w k 0
 
 -- the words of a list, one by one
 pub list_all : {n : ℕ} (l : List ℕ) → length l ≡ n → list_over n (λ k. get_or l k 0) ≡ l

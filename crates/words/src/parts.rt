@@ -92,45 +92,41 @@ fn fold_parts<F: Fold>(part: &mut [u64], table: &[u64], col: usize, named: u64)
     }
 }
 
-// Part `col` of row `row`: the words of `start` from `at` on cut to `own`, with the named rows.
+// Part `col` of a row: that of `start` cut to `own`, with the named rows.
 fn fold_cols<F: Fold>(
-    dest: &mut [u64],
-    row: usize,
+    row: &mut [u64],
     start: &[u64],
-    at: usize,
     own: u64,
     table: &[u64],
     col: usize,
     named: u64,
 )
     requires laws { FoldLaws F.op F.over }
-    requires room { Target dest.old row × (at + row_length ≤ length start.now) × Source table.now named × (col + part_length ≤ row_length) }
-    ensures { dest.new ≡ put_at (row * row_length + col) (list_over part_length (λ k. F.over named (λ i. cell table.now i (col + k)) (common (get_or start.now (at + (col + k)) 0) own))) dest.old }
+    requires room { (length row.old ≡ row_length) × (row_length ≤ length start.now) × Source table.now named × (col + part_length ≤ row_length) }
+    ensures { row.new ≡ put_at col (list_over part_length (λ k. F.over named (λ i. cell table.now i (col + k)) (common (get_or start.now (col + k) 0) own))) row.old }
 {
     let mut part = [0u64; PART];
-    take_part(&mut part[..], start, at + col, own);
+    take_part(&mut part[..], start, col, own);
     fold_parts::<F>(&mut part[..], table, col, named);
-    put_part(dest, row * ROW + col, &part[..]);
+    put_part(row, col, &part[..]);
 }
 
-// Row `row` of a table. `width` is PART or ROW.
+// The first `width` words of a row. `width` is PART or ROW.
 fn fold_row<F: Fold>(
-    dest: &mut [u64],
-    row: usize,
+    row: &mut [u64],
     start: &[u64],
-    at: usize,
     own: u64,
     table: &[u64],
     width: usize,
     named: u64,
 )
     requires laws { FoldLaws F.op F.over }
-    requires room { Target dest.old row × (at + row_length ≤ length start.now) × Source table.now named × InParts width }
-    ensures { dest.new ≡ put_at (row * row_length) (list_over width (λ k. F.over named (λ i. cell table.now i k) (common (get_or start.now (at + k) 0) own))) dest.old }
+    requires room { (length row.old ≡ row_length) × (row_length ≤ length start.now) × Source table.now named × InParts width }
+    ensures { row.new ≡ put_at 0 (list_over width (λ k. F.over named (λ i. cell table.now i k) (common (get_or start.now k 0) own))) row.old }
 {
-    fold_cols::<F>(&mut *dest, row, start, at, own, table, 0, named);
+    fold_cols::<F>(&mut *row, start, own, table, 0, named);
     if PART < width {
-        fold_cols::<F>(dest, row, start, at, own, table, PART, named);
+        fold_cols::<F>(row, start, own, table, PART, named);
     }
 }
 
@@ -158,7 +154,9 @@ pub fn meet_row(
     ensures { dest.new ≡ put_at (row * row_length) (list_over width (λ k. meet_of row_length named (λ i. cell table.now i k) (common (get_or start.now k 0) own))) dest.old }
 {
     let rows = rows_for(own, named);
-    fold_row::<Meet>(dest, row, start, 0, own, table, width, rows);
+    let at = row * ROW;
+    let end = at + ROW;
+    fold_row::<Meet>(&mut dest[at..end], start, own, table, width, rows);
 }
 
 // Row `row` of a table: that of `from`, joined with the named rows of another.
@@ -166,7 +164,9 @@ pub fn join_row(dest: &mut [u64], row: usize, from: &[u64], table: &[u64], width
     requires { Target dest.old row × (length from.now ≡ table_length) × Source table.now named × InParts width }
     ensures { dest.new ≡ put_at (row * row_length) (list_over width (λ k. union (cell from.now row k) (join_of row_length named (λ i. cell table.now i k)))) dest.old }
 {
-    fold_row::<Join>(dest, row, from, row * ROW, ALL, table, width, named);
+    let at = row * ROW;
+    let end = at + ROW;
+    fold_row::<Join>(&mut dest[at..end], &from[at..end], ALL, table, width, named);
 }
 
 // Row `row` of a table: the named rows of another, joined; they begin with no word of any.
@@ -174,5 +174,7 @@ pub fn gather_row(dest: &mut [u64], row: usize, table: &[u64], width: usize, nam
     requires { Target dest.old row × Source table.now named × InParts width }
     ensures { dest.new ≡ put_at (row * row_length) (list_over width (λ k. join_of row_length named (λ i. cell table.now i k))) dest.old }
 {
-    fold_row::<Join>(dest, row, table, 0, 0, table, width, named);
+    let at = row * ROW;
+    let end = at + ROW;
+    fold_row::<Join>(&mut dest[at..end], table, 0, table, width, named);
 }

@@ -13,23 +13,14 @@ pub const ROW: usize = 32;
 
 pub const TABLE: usize = 1024;
 
-// Words of a layer: what a row of labels shares with a word, without what a table has there.
-pub fn put_apart(
-    out: &mut [u64],
-    to: usize,
-    own: u64,
-    labels: &[u64],
-    from: usize,
-    table: &[u64],
-    at: usize,
-    n: usize,
-)
-    requires { (to + n ≤ length out.old) × (from + n ≤ length labels.now) × (at + n ≤ length table.now) }
-    ensures { out.new ≡ put_at to (list_over n (λ k. without (common own (get_or labels.now (from + k) 0)) (get_or table.now (at + k) 0))) out.old }
+// Words of a layer: what each of some labels shares with a word, without what a table has there.
+pub fn put_apart(out: &mut [u64], own: u64, labels: &[u64], table: &[u64])
+    requires { (length out.old ≤ length labels.now) × (length out.old ≤ length table.now) }
+    ensures { out.new ≡ list_over (length out.old) (λ k. without (common own (get_or labels.now k 0)) (get_or table.now k 0)) }
 {
-    for k in 0..n {
-        let both = own & labels[from + k];
-        out[to + k] = both ^ (both & table[at + k]);
+    for (k, word) in out.iter_mut().enumerate() {
+        let both = own & labels[k];
+        *word = both ^ (both & table[k]);
     }
 }
 

@@ -11,15 +11,15 @@ use Rattle.scans.proofs.scan_pair.Goals as goal
 
 pub look_at-ones-requires : goal.look_at-ones-requires
 look_at-ones-requires c =
-    (common_lt row_length c.args.upper c.requires.6, λ i l. omega (arith, c.requires.0), omega arith)
+    (common_lt row_length c.args.upper c.requires.2, λ i l. omega arith, omega arith)
 
 pub returns : goal.returns
 returns c =
     let a = c.args in (
-      λ b own. c.with_last.ensures ∙ sym (ap with_last (parts_are a.live.now a.mates.now a.r.now a.lower a.upper a.p a.q a.both
+      λ b own. c.with_last.ensures ∙ sym (ap with_last (parts_are a.tables.now.live a.tables.now.mates a.tables.now.r a.lower a.upper a.p a.q a.both
           c.look_at-ones.ensures.0
-          (c.look_rows-rows.ensures.0 a.r.now b
-          (ones_parted a.live.now a.mates.now a.lower a.upper a.both c.requires.6 own c.look_at-ones.ensures.0))
+          (c.look_rows-rows.ensures.0 a.tables.now.r b
+          (ones_parted a.tables.now.live a.tables.now.mates a.lower a.upper a.both c.requires.2 own c.look_at-ones.ensures.0))
           c.look_at-last.ensures.0)),
       omega (
         arith,

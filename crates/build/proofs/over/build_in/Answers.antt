@@ -8,7 +8,7 @@ use Rattle.rules.specs.Layer.{size, word_count}
 use Rattle.together.proofs.Rows.{parts_le}
 use Rattle.graph.specs.Checks.{Small}
 use Rattle.graph.proofs.Ladder.{small_of}
-use Rattle.build.proofs.Listings.{wide_for, spans_for, adders_inside, interferers_inside, adds_same, dels_same, adders_count, interferers_same, steps_fit}
+use Rattle.build.proofs.Listings.{wide_for, spans_for, effecting, adders_count, interferers_same, steps_fit}
 use Rattle.build.proofs.Whole.{graph_made}
 use Rattle.build.proofs.over.build_in.Goals as goal
 use Rattle.build.proofs.over.build_in.Goals.{After-read_problem}
@@ -21,17 +21,18 @@ fits c = omega (
       c.args.depth _ c.requires.fits.1,
 )
 
-pub width_for-width-requires : goal.width_for-width-requires
-width_for-width-requires c = omega (arith, c.args.file.now.taken.ranged.props)
-
 pub width_for-span-requires : goal.width_for-span-requires
 width_for-span-requires c = omega (arith, c.args.file.now.taken.ranged.effects)
 
 pub start-requires : goal.start-requires
 start-requires c =
-    let rooms = c.requires.rooms in
-    let w = c.width_for-width.ensures in
-    (record { parts = w.0; props = w.1; labels_long = rooms.labels_long; t_long = rooms.t_long; spare_long = rooms.spare_long }, fits (goal.at.start-requires c).After-read_problem)
+    let w = c.width_for.ensures in (
+      record { parts = w.0; props = w.1; labels_long = omega arith; t_long = omega arith; spare_long = omega arith },
+      fits (goal.at.start-requires c).After-read_problem,
+    )
+
+pub width_for-requires : goal.width_for-requires
+width_for-requires c = omega (arith, c.args.file.now.taken.ranged.props)
 
 pub first-requires : goal.first-requires
 first-requires c = c.args.file.now.taken.ranged.states
@@ -49,30 +50,20 @@ many_pairs-requires c =
       parts_le s.0,
     )
 
+pub invariant_of-effects : goal.invariant_of-effects
+invariant_of-effects c = record { listed = effecting c.args.file.now.bytes.now c.args.file.now.counts _ _ _ _ _ _ c.args.file.now.taken c.read_problem.ensures }
+
 pub steps_until-steps-requires : goal.steps_until-steps-requires
 steps_until-steps-requires c =
-    let rooms = c.requires.rooms in
     let is = c.read_problem.ensures in
-    let w = c.width_for-width.ensures in
+    let w = c.width_for.ensures in
     let s = c.width_for-span.ensures in
     record {
       mating = record {
         wide = wide_for c.args.file.now.bytes.now c.args.file.now.counts _ _ _ _ _ _ c.args.file.now.taken is _ w.0 w.1;
         spans = spans_for c.args.file.now.bytes.now c.args.file.now.counts _ _ _ _ _ _ c.args.file.now.taken is _ s.0 s.1;
-        adds_long = adds_same c.args.file.now.bytes.now c.args.file.now.counts _ _ _ _ _ _ c.args.file.now.taken is;
-        dels_long = dels_same c.args.file.now.bytes.now c.args.file.now.counts _ _ _ _ _ _ c.args.file.now.taken is;
         adders_long = adders_count c.args.file.now.bytes.now c.args.file.now.counts _ _ _ _ _ _ c.args.file.now.taken is;
-        adders_inside = adders_inside c.args.file.now.bytes.now c.args.file.now.counts _ _ _ _ _ _ c.args.file.now.taken is;
-        interferers_long = interferers_same c.args.file.now.bytes.now c.args.file.now.counts _ _ _ _ _ _ c.args.file.now.taken is;
-        interferers_inside = interferers_inside c.args.file.now.bytes.now c.args.file.now.counts _ _ _ _ _ _ c.args.file.now.taken is;
-        live_long = rooms.live_long;
-        r_long = rooms.r_long;
-        mates_long = rooms.mates_long;
-        besides_long = rooms.besides_long;
-        spare_long = rooms.spare_long;
       };
-      labels_long = rooms.labels_long;
-      t_long = c.start.auto.t ∙ rooms.t_long;
       deep = c.requires.fits.0;
       fits = omega (
         arith,
@@ -81,9 +72,6 @@ steps_until-steps-requires c =
         c.start.auto.words,
       );
     }
-
-pub shape-requires : goal.shape-requires
-shape-requires c = c.args.file.now.taken.ranged
 
 pub copy_rest-requires : goal.copy_rest-requires
 copy_rest-requires c =
@@ -94,9 +82,6 @@ copy_rest-requires c =
       some = c.steps_until-steps.ensures.1;
       fits = omega (arith, c.requires.fits.1, ap (λ (S : Shape). word_count S c.args.depth) c.shape.ensures, c.start.auto.words, c.steps_until-steps.auto.words);
     }
-
-pub shape_of-labels : goal.shape_of-labels
-shape_of-labels c = c.steps_until-steps.auto.labels
 
 pub shape_of-words : goal.shape_of-words
 shape_of-words c = c.copy_rest.auto.words ∙ c.steps_until-steps.auto.words ∙ c.start.auto.words
@@ -119,8 +104,8 @@ shape_of-adders c = c.read_problem.auto.adders
 pub shape_of-interferers : goal.shape_of-interferers
 shape_of-interferers c = c.read_problem.auto.interferers
 
-pub shape_of-t : goal.shape_of-t
-shape_of-t c = c.steps_until-steps.auto.t ∙ c.start.auto.t
+pub shape-requires : goal.shape-requires
+shape-requires c = c.args.file.now.taken.ranged
 
 pub returns : goal.returns
 returns c =

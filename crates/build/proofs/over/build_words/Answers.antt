@@ -1,5 +1,5 @@
 -- It lends its arrays, the lists cut to size.
-use mathlib.Core.Path.{refl, sym, ap, ◌∙◌}
+use mathlib.Core.Path.{sym, ap, ◌∙◌}
 use Prim.Native.Nat.{ℕ}
 use native.Mathlib.Omega.{arith}
 use lib.ListN.{replicate}
@@ -23,29 +23,20 @@ slice_bounds-build_in-end-5 c = sym (length-take-le _ _ (omega arith))
 pub slice_bounds-build_in-end-6 : goal.slice_bounds-build_in-end-6
 slice_bounds-build_in-end-6 c = sym (length-take-le _ _ (omega arith))
 
-pub slice_bounds-build_in-end-7 : goal.slice_bounds-build_in-end-7
-slice_bounds-build_in-end-7 c = sym (length-take-le _ _ (omega arith))
+pub slice_bounds-build_in-end : goal.slice_bounds-build_in-end
+slice_bounds-build_in-end c = sym (length-take-le _ _ (omega arith))
 
 pub build_in-requires : goal.build_in-requires
 build_in-requires c = let few = length-take-le {A = ℕ} c.args.file.now.counts.props (replicate 32 0) c.args.file.now.taken.ranged.props in record {
   fits = (c.requires.0, c.requires.1);
   rooms = record {
-    lists = record {
-      needs_long = length-take-le _ _ (omega arith);
-      adds_long = length-take-le _ _ (omega arith);
-      dels_long = length-take-le _ _ (omega arith);
-      owners_long = length-take-le _ _ (omega arith);
-      adders_long = few;
-      interferers_long = length-take-le _ _ (omega arith);
-      no_adders = zeros c.args.file.now.counts.props 32 c.args.file.now.taken.ranged.props ∙ ap (λ (x : ℕ). list_over x (λ p. 0)) (sym few);
-    };
-    labels_long = c.requires.2;
-    live_long = refl;
-    t_long = refl;
-    r_long = refl;
-    mates_long = refl;
-    besides_long = refl;
-    spare_long = refl;
+    needs_long = length-take-le _ _ (omega arith);
+    adds_long = length-take-le _ _ (omega arith);
+    dels_long = length-take-le _ _ (omega arith);
+    owners_long = length-take-le _ _ (omega arith);
+    adders_long = few;
+    interferers_long = length-take-le _ _ (omega arith);
+    no_adders = zeros c.args.file.now.counts.props 32 c.args.file.now.taken.ranged.props ∙ ap (λ (x : ℕ). list_over x (λ p. 0)) (sym few);
   };
 }
 

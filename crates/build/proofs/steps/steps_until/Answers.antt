@@ -1,4 +1,4 @@
-use mathlib.Core.Path.{◌≡◌, sym, ◌∙◌}
+use mathlib.Core.Path.{◌≡◌, ◌∙◌}
 use Prim.Native.Nat.{◌-◌, ◌+◌, ◌*◌, ◌≤◌}
 use native.Mathlib.Nat.{add_comm, mul-le-mul_right}
 use native.Mathlib.Omega.{arith}
@@ -26,7 +26,7 @@ stride-apart-requires c = let w = c.requires.mating.wide in
 
 -- from one step to the next
 far_is : (c : After-stride-apart) → let a = c.args in
-    c.stride-apart.result ≡ size (length a.needs.now + a.n) + size a.n
+    c.stride-apart.result ≡ size (length a.effects.needs.now + a.frame.props) + size a.frame.props
 unfolding stride
 far_is c = c.stride-apart.ensures.0 ∙ add_comm _ _
 
@@ -35,9 +35,12 @@ layer_size-at-requires c = let w = c.requires.mating.wide in
     omega (arith, w.props, parts_le w.parts)
 
 pub loop-k-init : goal.loop-k-init
-loop-k-init c = let a = c.args in
-    stepping_none a.n a.width a.span a.depth a.all _ a.needs.now a.adds.now a.dels.now a.adders.now a.interferers.now a.labels.now a.t.now a.words.now
-    a.live.now a.r.now a.mates.now a.besides.now a.spare.now c.requires c.layer_size-at.ensures.0
+loop-k-init c =
+    let a = c.args in
+    let e = a.effects in
+    let f = a.frame in
+    stepping_none f.props f.width f.span a.depth f.all _ e.needs.now e.adds.now e.dels.now e.adders.now e.interferers.now a.layer.now.labels a.layer.now.t a.words.now
+    c.requires c.layer_size-at.ensures.0
 
 pub offset_bounds-words-at : goal.offset_bounds-words-at
 offset_bounds-words-at c = omega (arith, room c.loop-k.invariant c.loop-k-test.true)
@@ -79,33 +82,11 @@ overflow_add-result-then-did-2 c = omega (arith, sums (goal.at.overflow_add-resu
 pub shape_of-words-then-did : goal.shape_of-words-then-did
 shape_of-words-then-did c = same_len_mid c.loop-k.at (length c.loop-k.words - c.loop-k.at) c.loop-k.words c.step-did.new.words c.step-did.auto.words ∙ c.loop-k.invariant.long
 
-pub shape_of-labels-then-did : goal.shape_of-labels-then-did
-shape_of-labels-then-did c = c.step-did.auto.labels ∙ c.loop-k.invariant.lent.labels_long ∙ sym c.requires.labels_long
-
-pub shape_of-live-then-did : goal.shape_of-live-then-did
-shape_of-live-then-did c = c.step-did.auto.live ∙ c.loop-k.invariant.lent.mating.live_long ∙ sym c.requires.mating.live_long
-
-pub shape_of-t-then-did : goal.shape_of-t-then-did
-shape_of-t-then-did c = c.step-did.auto.t ∙ c.loop-k.invariant.lent.t_long ∙ sym c.requires.t_long
-
-pub shape_of-r-then-did : goal.shape_of-r-then-did
-shape_of-r-then-did c = c.step-did.auto.r ∙ c.loop-k.invariant.lent.mating.r_long ∙ sym c.requires.mating.r_long
-
-pub shape_of-mates-then-did : goal.shape_of-mates-then-did
-shape_of-mates-then-did c = c.step-did.auto.mates ∙ c.loop-k.invariant.lent.mating.mates_long ∙ sym c.requires.mating.mates_long
-
-pub shape_of-besides-then-did : goal.shape_of-besides-then-did
-shape_of-besides-then-did c = c.step-did.auto.besides ∙ c.loop-k.invariant.lent.mating.besides_long ∙ sym c.requires.mating.besides_long
-
-pub shape_of-spare-then-did : goal.shape_of-spare-then-did
-shape_of-spare-then-did c = c.step-did.auto.spare ∙ c.loop-k.invariant.lent.mating.spare_long ∙ sym c.requires.mating.spare_long
-
 pub returns-then-did : goal.returns-then-did
 returns-then-did c = let did = c.step-did in (
   omega (arith, c.loop-k-test.true),
   λ h. omega arith,
-  stepping_rest c.loop-k.invariant c.loop-k-test.true did.new.labels did.new.live did.new.t did.new.r did.new.mates did.new.besides did.new.spare
-      did.new.words _ _ did.ensures.1 did.ensures.0 c.if-did.true,
+  stepping_rest c.loop-k.invariant c.loop-k-test.true did.new.layer.labels did.new.layer.t did.new.words _ _ did.ensures.1 did.ensures.0 c.if-did.true,
 )
 
 pub overflow_add-at : goal.overflow_add-at
@@ -119,33 +100,10 @@ loop-k-smaller c = omega (arith, c.loop-k-test.true)
 
 pub loop-k-preserved : goal.loop-k-preserved
 loop-k-preserved c = let did = c.step-did in
-    stepping_more c.loop-k.invariant c.loop-k-test.true did.new.labels did.new.live did.new.t did.new.r did.new.mates did.new.besides did.new.spare
-    did.new.words _ _ did.ensures.1 did.ensures.0 _ (omega (arith, far_is (goal.at.loop-k-preserved c).After-stride-apart)) did.auto.words did.auto.labels did.auto.live did.auto.t did.auto.r
-    did.auto.mates did.auto.besides did.auto.spare
+    stepping_more c.loop-k.invariant c.loop-k-test.true did.new.layer.labels did.new.layer.t did.new.words _ _ did.ensures.1 did.ensures.0 _ (omega (arith, far_is (goal.at.loop-k-preserved c).After-stride-apart)) did.auto.words
 
 pub shape_of-words : goal.shape_of-words
 shape_of-words c = c.loop-k.invariant.long
-
-pub shape_of-labels : goal.shape_of-labels
-shape_of-labels c = c.loop-k.invariant.lent.labels_long ∙ sym c.requires.labels_long
-
-pub shape_of-live : goal.shape_of-live
-shape_of-live c = c.loop-k.invariant.lent.mating.live_long ∙ sym c.requires.mating.live_long
-
-pub shape_of-t : goal.shape_of-t
-shape_of-t c = c.loop-k.invariant.lent.t_long ∙ sym c.requires.t_long
-
-pub shape_of-r : goal.shape_of-r
-shape_of-r c = c.loop-k.invariant.lent.mating.r_long ∙ sym c.requires.mating.r_long
-
-pub shape_of-mates : goal.shape_of-mates
-shape_of-mates c = c.loop-k.invariant.lent.mating.mates_long ∙ sym c.requires.mating.mates_long
-
-pub shape_of-besides : goal.shape_of-besides
-shape_of-besides c = c.loop-k.invariant.lent.mating.besides_long ∙ sym c.requires.mating.besides_long
-
-pub shape_of-spare : goal.shape_of-spare
-shape_of-spare c = c.loop-k.invariant.lent.mating.spare_long ∙ sym c.requires.mating.spare_long
 
 pub returns : goal.returns
 returns c = (omega arith, λ h. absurd (omega arith), stepping_all c.loop-k.invariant c.loop-k-test.false)

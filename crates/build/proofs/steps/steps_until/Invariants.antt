@@ -4,4 +4,7 @@ use Rattle.build.proofs.steps.steps_until.Given as goal
 
 abbrev pub invariant-loop-k : goal.invariant-loop-k
 invariant-loop-k l =
-    Stepping l.n l.width l.span l.depth l.all l.needs l.adds l.dels l.adders l.interferers l.initial.labels l.initial.t l.initial.words l.k l.at l.looked l.words l.labels l.live l.t l.r l.mates l.besides l.spare
+    let e = l.effects in
+    let f = l.frame in
+    Stepping f.props f.width f.span l.depth f.all e.needs.now e.adds.now e.dels.now e.adders.now e.interferers.now l.initial.layer.labels l.initial.layer.t l.initial.words
+    l.k l.at l.looked l.words l.layer.labels l.layer.t

@@ -10,30 +10,30 @@ use Rattle.together.proofs.admit.admit.Goals as goal
 
 pub loop-i-init : goal.loop-i-init
 loop-i-init c =
-    (list_none (omega (arith, parts_le c.requires.wide.parts)), rows_none (omega arith))
+    (list_none (omega (arith, parts_le c.requires.parts)), rows_none (omega arith))
 
 pub admit_row-requires : goal.admit_row-requires
 admit_row-requires c =
-    let inside = parts_le c.requires.wide.parts in record {
-      parts = c.requires.wide.parts;
+    let inside = parts_le c.requires.parts in record {
+      parts = c.requires.parts;
       inside = omega arith;
-      needs = inside_lt c.args.width c.args.needs.now c.loop-i.i c.requires.wide.inside c.requires.wide.props (omega arith)
+      needs = inside_lt {n = c.args.width} c.args.width c.args.effects.needs.now c.loop-i.i c.requires.inside (omega arith) (omega arith)
           c.from.ensures;
       r_long = c.loop-i.invariant.1.long;
-      labels_long = c.requires.labels_long;
-      t_long = c.requires.t_long;
+      labels_long = omega arith;
+      t_long = omega arith;
     }
 
 pub bounds-live-i : goal.bounds-live-i
-bounds-live-i c = omega (arith, c.loop-i.invariant.0.long, parts_le c.requires.wide.parts)
+bounds-live-i c = omega (arith, c.loop-i.invariant.0.long, parts_le c.requires.parts)
 
 pub loop-i-preserved : goal.loop-i-preserved
 loop-i-preserved c =
     let a = c.args in (
       list_more c.loop-i.invariant.0 c.loop-i-test.true (sym (zero-add _))
-          (c.admit_row.ensures.0 ∙ ap (label_for a.all a.t.now) c.from.ensures),
-      rows_row c.loop-i.invariant.1 c.requires.wide.parts (omega (arith, c.admit_row.auto.r, c.loop-i.invariant.1.long)) c.admit_row.ensures.1
-          (λ k h. ap (λ (x : ℕ). row_for a.all a.labels.now a.t.now x k) c.from.ensures),
+          (c.admit_row.ensures.0 ∙ ap (label_for a.all a.layer.now.t) c.from.ensures),
+      rows_row c.loop-i.invariant.1 c.requires.parts (omega (arith, c.admit_row.auto.r, c.loop-i.invariant.1.long)) c.admit_row.ensures.1
+          (λ k h. ap (λ (x : ℕ). row_for a.all a.layer.now.labels a.layer.now.t x k) c.from.ensures),
     )
 
 pub shape_of-live : goal.shape_of-live

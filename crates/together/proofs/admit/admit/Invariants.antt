@@ -7,4 +7,4 @@ use Rattle.together.proofs.admit.admit.Given as goal
 
 abbrev pub invariant-loop-i : goal.invariant-loop-i
 invariant-loop-i l =
-    Lists (λ i'. label_for l.all l.t (get_or l.needs i' 0)) 0 (length l.needs) l.initial.live l.i l.live × Rows (λ i'. row_for l.all l.labels l.t (get_or l.needs i' 0)) l.width l.i l.r
+    Lists (λ i'. label_for l.all l.layer.t (get_or l.effects.needs.now i' 0)) 0 (length l.effects.needs.now) l.initial.live l.i l.live × Rows (λ i'. row_for l.all l.layer.labels l.layer.t (get_or l.effects.needs.now i' 0)) l.width l.i l.r

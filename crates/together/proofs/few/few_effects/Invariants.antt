@@ -1,6 +1,10 @@
 -- The loop takes one effect after the other.
+use Rattle.together.specs.Kept.{Kept}
 use Rattle.together.proofs.FewLoops.{Effects}
 use Rattle.together.proofs.few.few_effects.Given as goal
 
 abbrev pub invariant-loop-i : goal.invariant-loop-i
-invariant-loop-i l = Effects l.needs l.adds l.dels l.interferers l.live l.r l.width l.i l.mates l.besides
+invariant-loop-i l =
+    let e = l.effects in
+    let t = l.tables in
+    Kept l.initial.tables t × Effects e.needs.now e.adds.now e.dels.now e.interferers.now t.live t.r l.width l.i t.mates t.besides

@@ -8,36 +8,36 @@ use Rattle.together.proofs.FewLoops.{fews_none, fews_lowest, fews_more, fews_don
 use Rattle.together.proofs.few.few_row.Goals as goal
 
 pub loop-j-init : goal.loop-j-init
-loop-j-init c = rw c.into_iter-j-iterator.ensures.into_iter_gives (fews_none c.requires.0 c.requires.1 c.requires.2)
+loop-j-init c = rw c.into_iter-j-iterator.ensures.into_iter_gives (fews_none c.args.effects.listed.few c.requires.0 c.requires.1 c.requires.2)
 
 -- a member is the number of an effect
-pub bounds-needs-j : goal.bounds-needs-j
-bounds-needs-j c =
+pub bounds-effects-j : goal.bounds-effects-j
+bounds-effects-j c =
     let t = c.in-Some.ensures.steps in
-    omega (arith, t.is, fews_lowest c.requires.0 c.loop-j.invariant t.some)
+    omega (arith, t.is, fews_lowest c.args.effects.listed.few c.requires.0 c.loop-j.invariant t.some)
 
 pub bounds-live-j : goal.bounds-live-j
 bounds-live-j c =
     let t = c.in-Some.ensures.steps in
-    omega (arith, t.is, fews_lowest c.requires.0 c.loop-j.invariant t.some, c.requires.0.few, c.requires.0.live_long)
+    omega (arith, t.is, fews_lowest c.args.effects.listed.few c.requires.0 c.loop-j.invariant t.some, c.args.effects.listed.few, c.requires.0.live_long)
 
 pub bounds-mates-j : goal.bounds-mates-j
 bounds-mates-j c =
     let t = c.in-Some.ensures.steps in
-    omega (arith, t.is, fews_lowest c.requires.0 c.loop-j.invariant t.some, c.requires.0.few, c.loop-j.invariant.with_each.long)
+    omega (arith, t.is, fews_lowest c.args.effects.listed.few c.requires.0 c.loop-j.invariant t.some, c.args.effects.listed.few, c.loop-j.invariant.with_each.long)
 
-pub bounds-adds-j : goal.bounds-adds-j
-bounds-adds-j c =
+pub bounds-effects-j-in-loop-j : goal.bounds-effects-j-in-loop-j
+bounds-effects-j-in-loop-j c =
     let t = c.in-Some.ensures.steps in
-    omega (arith, t.is, fews_lowest c.requires.0 c.loop-j.invariant t.some, c.requires.0.adds_long)
+    omega (arith, t.is, fews_lowest c.args.effects.listed.few c.requires.0 c.loop-j.invariant t.some, c.args.effects.listed.adds_long)
 
 pub meet_at-both-requires : goal.meet_at-both-requires
 meet_at-both-requires c =
     let t = c.in-Some.ensures.steps in
-    let member : c.in-Some.j < length c.args.needs.now = omega (arith, t.is, fews_lowest c.requires.0 c.loop-j.invariant t.some) in (
+    let member : c.in-Some.j < length c.args.effects.needs.now = omega (arith, t.is, fews_lowest c.args.effects.listed.few c.requires.0 c.loop-j.invariant t.some) in (
       omega arith,
       subst (λ (n : ℕ). c.from.result < 2 ^ n) (sym c.requires.0.row_long)
-          (inside_lt {n = row_length} row_length c.args.needs.now c.in-Some.j c.requires.0.needs_inside (omega arith) member c.from.ensures),
+          (inside_lt {n = row_length} row_length c.args.effects.needs.now c.in-Some.j c.args.effects.listed.needs_inside (omega arith) member c.from.ensures),
     )
 
 pub spread-requires : goal.spread-requires
@@ -46,7 +46,7 @@ spread-requires c = omega (arith, c.loop-j.invariant.with_adders_lem.long)
 pub loop-j-preserved : goal.loop-j-preserved
 loop-j-preserved c =
     let t = c.in-Some.ensures.steps in
-    fews_more c.requires.0 c.loop-j.invariant t.some t.is c.from.ensures c.meet_at-both.ensures refl c.spread.ensures t.others
+    fews_more c.args.effects.listed.few c.requires.0 c.loop-j.invariant t.some t.is c.from.ensures c.meet_at-both.ensures refl c.spread.ensures t.others
 
 pub shape_of-mates : goal.shape_of-mates
 shape_of-mates c = c.loop-j.invariant.with_each.long ∙ sym c.requires.1

@@ -9,5 +9,5 @@ use Rattle.together.proofs.interference.clobbers.Goals as goal
 pub returns : goal.returns
 unfolding clobbers_in
 returns c =
-    c.meets.ensures ∙ ap (λ (x : ℕ). meets (get_or c.args.dels.now
+    c.meets.ensures ∙ ap (λ (x : ℕ). meets (get_or c.args.sets.dels.now
     c.args.i 0) x) c.union-used.ensures

@@ -11,9 +11,9 @@ unfolding keep interfere_in
 returns-then-not-either_clobbers c = sym (choose_failed _ _ (fails_of (λ t.
     fails_at (is_fails (sym c.either_clobbers.ensures ∙ c.if-not-either_clobbers.true)) (and_right _ t))))
 
-pub returns-then-owners-i : goal.returns-then-owners-i
+pub returns-then-sets-i : goal.returns-then-sets-i
 unfolding keep interfere_in
-returns-then-owners-i c = sym (choose_failed _ _ (fails_of (λ t. fails_at (and_left _ t) (same_of (omega arith)))))
+returns-then-sets-i c = sym (choose_failed _ _ (fails_of (λ t. fails_at (and_left _ t) (same_of (omega arith)))))
 
 pub returns : goal.returns
 unfolding keep interfere_in

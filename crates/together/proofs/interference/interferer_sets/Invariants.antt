@@ -5,4 +5,4 @@ use Rattle.words.proofs.Writes.{Lists}
 use Rattle.together.proofs.interference.interferer_sets.Given as goal
 
 abbrev pub invariant-loop-i : goal.invariant-loop-i
-invariant-loop-i l = Lists (interferers_of l.needs l.adds l.dels l.owners) 0 (length l.needs) l.initial.interferers l.i l.interferers
+invariant-loop-i l = Lists (interferers_of l.sets.needs.now l.sets.adds.now l.sets.dels.now l.sets.owners.now) 0 (length l.sets.needs.now) l.initial.interferers l.i l.interferers

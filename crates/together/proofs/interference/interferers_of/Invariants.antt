@@ -8,4 +8,4 @@ use Rattle.together.proofs.interference.interferers_of.Given as goal
 
 abbrev pub invariant-loop-j : goal.invariant-loop-j
 invariant-loop-j l =
-    Joins (λ w'. keep (interfere_in l.needs l.adds l.dels l.owners l.i w') (single w')) (length l.needs) l.j l.joined
+    Joins (λ w'. keep (interfere_in l.sets.needs.now l.sets.adds.now l.sets.dels.now l.sets.owners.now l.i w') (single w')) (length l.sets.needs.now) l.j l.joined

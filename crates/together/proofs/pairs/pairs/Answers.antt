@@ -7,26 +7,26 @@ use Rattle.together.proofs.Rows.{parts_le, inside_lt, rows_row, pairs_put}
 use Rattle.together.proofs.pairs.pairs.Goals as goal
 
 pub loop-i-init : goal.loop-i-init
-loop-i-init c = (parts_le c.requires.spans.parts, rows_none (omega arith))
+loop-i-init c = (parts_le c.requires.parts, rows_none (omega arith))
 
 pub meet_row-requires : goal.meet_row-requires
 meet_row-requires c = (
   record { whole = c.loop-i.invariant.1.long; inside = omega arith },
   c.requires.live_long,
-  record { whole = c.requires.turned_long; inside = inside_lt {n = row_length} row_length c.args.needs.now c.loop-i.i c.requires.needs_inside (omega arith) (omega arith) c.from.ensures },
-  c.requires.spans.parts,
+  record { whole = c.requires.turned_long; inside = inside_lt {n = row_length} row_length c.args.effects.needs.now c.loop-i.i c.args.effects.listed.needs_inside (omega arith) (omega arith) c.from.ensures },
+  c.requires.parts,
 )
 
 pub clear_cells-requires : goal.clear_cells-requires
 clear_cells-requires c =
-    (omega arith, omega arith, c.requires.interferers_inside c.loop-i.i (omega arith))
+    (omega arith, omega arith, c.args.effects.listed.interferers_inside c.loop-i.i (omega arith))
 
 pub loop-i-preserved : goal.loop-i-preserved
 loop-i-preserved c =
     let a = c.args in (
       c.loop-i.invariant.0,
-      rows_row c.loop-i.invariant.1 c.requires.spans.parts (length-set c.clear_cells.new.table _ _ ∙ omega arith)
-          (pairs_put a.needs.now a.interferers.now a.live.now a.turned.now c.requires.spans.parts (omega arith) c.loop-i.invariant.1.long (omega arith) (omega arith)
+      rows_row c.loop-i.invariant.1 c.requires.parts (length-set c.clear_cells.new.table _ _ ∙ omega arith)
+          (pairs_put a.effects.needs.now a.effects.interferers.now a.live.now a.turned.now c.requires.parts (omega arith) c.loop-i.invariant.1.long (omega arith) (omega arith)
           c.from.ensures c.meet_row.ensures c.clear_cells.ensures) (λ k h. refl),
     )
 
