@@ -20,8 +20,9 @@ use Rattle.graph.specs.Format.{plain, actions_of}
 use Rattle.graph.specs.File.{Taken}
 use Rattle.graph.specs.declared.format.Counts.{Counts}
 use Rattle.run.specs.Course.{leaves_of, brings_of, further, tried_on, course_at, lack_at, still, still_at, Tables, Walks}
-use Rattle.run.specs.declared.step.Tried.{Tried}
-use Rattle.run.specs.declared.step.Tried.TheVariants as tried
+use Rattle.std.specs.Prelude.{Result, Ok, Err}
+use Rattle.run.specs.declared.step.Made.{Made}
+use Rattle.run.specs.declared.step.Unmade.{Unmade}
 
 -- ---- one step
 
@@ -49,8 +50,8 @@ stills_le leave bring list w (suc i) =
 
 -- what a step that was tried on the word answers
 module _ (w need leave bring : ℕ) where
-  pub tried_made : {left next : ℕ} → tried_on w need leave bring ≡ tried.Made left next
-      → (common w need ≡ 0) × (left ≡ common w leave) × (next ≡ further leave bring w)
+  pub tried_made : {made : Made} → tried_on w need leave bring ≡ Ok made
+      → (common w need ≡ 0) × (made.left ≡ common w leave) × (made.course ≡ further leave bring w)
   unfolding tried_on
   tried_made e = ⊎_elim
       (λ t. let k = sym (choose_held _ t) ∙ e in (same_at t, cc, cc))
@@ -58,9 +59,9 @@ module _ (w need leave bring : ℕ) where
       (holds_or (same (common w need) 0))
 
   -- it was not made
-  pub tried_off : {r : Tried} → r ≡ tried_on w need leave bring → ((left next : ℕ) → r ≡ tried.Made left next → ⊥) → common w need ≡ 0 → ⊥
+  pub tried_off : {r : Result Made Unmade} → r ≡ tried_on w need leave bring → ((made : Made) → r ≡ Ok made → ⊥) → common w need ≡ 0 → ⊥
   unfolding tried_on
-  tried_off {r} e p z = p _ _ (e ∙ choose_held _ (same_of z))
+  tried_off {r} e p z = p _ (e ∙ choose_held _ (same_of z))
 
 -- ---- the loop: the last step made is not counted yet
 

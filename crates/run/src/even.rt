@@ -8,17 +8,10 @@ ghost use Rattle.run.specs.Course.{Known};
 ghost use Rattle.run.specs.Even as E;
 ghost use Rattle.run.specs.Even.{Foretold, TriedEvenly, Listed, GoesOn};
 
-use crate::step::{ALL, Tried, Walked, change_of, counted};
+use crate::step::{ALL, Made, Unmade, Walked, counted, still};
 use graph::file::byte;
 use words::members::{lowest, others};
 use words::sets::PROP_WIDTH;
-
-// What the word tells of the effects of a step: that this goes of it; or that some effect may fire in a part of the set, which it does not tell.
-#[derive(Clone, Copy)]
-pub enum Even {
-    Goes(u64),
-    Partly,
-}
 
 // Whether an effect with this antecedent may fire in a part of the set: some state lacks some of it, and each of it is had by some.
 fn untold(course: u64, when: u64) -> bool
@@ -41,8 +34,8 @@ fn gone_by(course: u64, when: u64, goes: u64) -> u64
     0
 }
 
-// Of the effects in the word `by`.
-fn foretell(by: u64, when: &[u64], goes: &[u64], course: u64) -> Even
+// What goes of the word by the effects in the word `by`; or none of it is known, since some effect may fire in a part of the set.
+fn foretell(by: u64, when: &[u64], goes: &[u64], course: u64) -> Option<u64>
     requires { (by < 2 ^ length when.now) × (length goes.now ≡ length when.now) × (length when.now ≤ max_effects) }
     ensures { Foretold when.now goes.now by course result }
 {
@@ -51,29 +44,32 @@ fn foretell(by: u64, when: &[u64], goes: &[u64], course: u64) -> Even
     while 0 < left {
         let e = lowest(left);
         if untold(course, when[e]) {
-            return Even::Partly;
+            return None;
         }
         all = all | gone_by(course, when[e], goes[e]);
         left = others(left);
     }
-    Even::Goes(all)
+    Some(all)
 }
 
 // A step of the effects in the word `by`. Of the deletes only those count that nothing adds; what goes of one half of the word comes to the other.
-fn step_evenly(course: u64, need: u64, by: u64, when: &[u64], goes: &[u64]) -> Tried
+fn step_evenly(course: u64, need: u64, by: u64, when: &[u64], goes: &[u64]) -> Result<Made, Unmade>
     requires { (by < 2 ^ length when.now) × (length goes.now ≡ length when.now) × (length when.now ≤ max_effects) }
     ensures { TriedEvenly when.now goes.now by need course result }
 {
     if course & need != 0 {
-        return Tried::Missing;
+        return Err(Unmade::Missing);
     }
     let even = foretell(by, when, goes, course);
-    let Even::Goes(all) = even else {
-        return Tried::Partly;
+    let Some(all) = even else {
+        return Err(Unmade::Partly);
     };
     let gone = all ^ (all & (all << PROP_WIDTH));
     let left = course & (ALL - gone);
-    Tried::Made(left, left | ((gone >> PROP_WIDTH) | (gone << PROP_WIDTH)))
+    Ok(Made {
+        left,
+        course: left | ((gone >> PROP_WIDTH) | (gone << PROP_WIDTH)),
+    })
 }
 
 // The steps of a list, on from where others led: up to the first that lacks its precondition or has an effect that may fire in a part of the set, or through
@@ -95,21 +91,21 @@ pub fn walk_evenly(
     while i < list.len() {
         let a = byte(list, i);
         let did = step_evenly(course, needs[a], owned[a], when, goes);
-        let Tried::Made(left, next) = did else {
+        let Ok(made) = did else {
             return Walked {
-                course: course,
+                course,
                 made: i,
-                idle: idle,
+                idle,
             };
         };
-        idle = counted(idle, change_of(course, left));
-        course = next;
+        idle = counted(idle, still(course, made.left));
+        course = made.course;
         i += 1;
     }
     Walked {
-        course: course,
+        course,
         made: i,
-        idle: idle,
+        idle,
     }
 }
 

@@ -12,7 +12,6 @@ ghost use Rattle.words.specs.Rows.{row_length};
 ghost use Rattle.words.specs.Memory.{put_at};
 ghost use Rattle.graph.specs.Limits.{max_effects};
 ghost use Rattle.graph.specs.Format.{actions_of};
-ghost use Rattle.graph.specs.File.{Taken};
 ghost use Rattle.run.specs.Fire as F;
 ghost use Rattle.run.specs.Course.{Known};
 ghost use Rattle.run.specs.Fire.{Empty, effects_of, Rooms, set_in, fired_by, of_effect, join_fired, of_effects, removed_by, joined_by, applied_in, stepped_in};
@@ -22,20 +21,19 @@ ghost use Rattle.run.specs.Even.{Listed, Tells};
 use crate::even::walk_evenly;
 use crate::step::{Walked, brings, leaves};
 use graph::file::byte;
-use graph::format::Counts;
-use graph::read::{added, antecedent, deleted, owner, precondition};
+use graph::view::View;
 use words::columns::spread;
 use words::members::{lowest, meet_at, others, single};
 use words::sets::{PROP_WIDTH, Props, States, wide};
 use words::tables::ROW;
 
 // The effects of each action, in a row of empty words.
-pub fn read_owned(file: &[u8], c: Counts, owned: &mut [u64])
-    requires { Taken file.now c × Empty owned.old }
-    ensures { owned.new ≡ list_over row_length (effects_of (actions_of file.now c)) }
+pub fn read_owned(file: &View<'_>, owned: &mut [u64])
+    requires { Empty owned.old }
+    ensures { owned.new ≡ list_over row_length (effects_of (actions_of file.now.bytes.now file.now.counts)) }
 {
-    for e in 0..c.effects {
-        let a = owner(file, c, e);
+    for e in 0..file.counts.effects {
+        let a = file.owner(e);
         owned[a] = owned[a] | single(e);
     }
 }
@@ -122,14 +120,14 @@ pub struct Fired {
 }
 
 // The same with one effect more, which fires in the states t.
-fn with_effect(did: Fired, file: &[u8], c: Counts, e: usize, t: u64, set: States) -> Fired
-    requires { Taken file.now c × (e < c.effects) }
-    ensures { result ≡ join_fired did (of_effect (actions_of file.now c) set.0 e t) }
+fn with_effect(did: Fired, file: &View<'_>, e: usize, t: u64, set: States) -> Fired
+    requires { (e < file.now.counts.effects) }
+    ensures { result ≡ join_fired did (of_effect (actions_of file.now.bytes.now file.now.counts) set.0 e t) }
 {
     if t == set.0 {
         return Fired {
-            del: did.del | deleted(file, c, e),
-            add: did.add | added(file, c, e),
+            del: did.del | file.deleted(e),
+            add: did.add | file.added(e),
             some: did.some,
         };
     }
@@ -145,18 +143,17 @@ fn with_effect(did: Fired, file: &[u8], c: Counts, e: usize, t: u64, set: States
 
 // In what states of the set each effect of the word `by` fires, and what they do by that.
 fn fire(
-    file: &[u8],
-    c: Counts,
+    file: &View<'_>,
     by: u64,
     set: States,
     course: u64,
     labels: &[u64],
     fired: &mut [u64],
 ) -> Fired
-    requires { Taken file.now c × (by < 2 ^ c.effects) × (length labels.now ≡ row_length) × (length fired.old ≡ max_effects)
+    requires { (by < 2 ^ file.now.counts.effects) × (length labels.now ≡ row_length) × (length fired.old ≡ max_effects)
         × (course ≡ F.course_in set.0 (settled set.0 course labels.now)) }
-    ensures { (result ≡ of_effects (actions_of file.now c) set.0 by (settled set.0 course labels.now))
-        × (fired.new ≡ fired_by (actions_of file.now c) set.0 by (settled set.0 course labels.now) fired.old) }
+    ensures { (result ≡ of_effects (actions_of file.now.bytes.now file.now.counts) set.0 by (settled set.0 course labels.now))
+        × (fired.new ≡ fired_by (actions_of file.now.bytes.now file.now.counts) set.0 by (settled set.0 course labels.now) fired.old) }
 {
     let mut left = by;
     let mut did = Fired {
@@ -166,9 +163,9 @@ fn fire(
     };
     while 0 < left {
         let e = lowest(left);
-        let t = firing(labels, set, course, antecedent(file, c, e));
+        let t = firing(labels, set, course, file.antecedent(e));
         fired[e] = t;
-        did = with_effect(did, file, c, e, t, set);
+        did = with_effect(did, file, e, t, set);
         left = others(left);
     }
     did
@@ -191,27 +188,27 @@ fn strip(row: &mut [u64], set: Props, t: u64)
 }
 
 // Removes the deletes of these effects, each in the states in which it fires.
-fn remove_deletes(file: &[u8], c: Counts, by: u64, fired: &[u64], labels: &mut [u64])
-    requires { Taken file.now c × (by < 2 ^ c.effects) × (length fired.now ≡ max_effects) × (length labels.old ≡ row_length) }
-    ensures { labels.new ≡ removed_by (actions_of file.now c) by fired.now labels.old }
+fn remove_deletes(file: &View<'_>, by: u64, fired: &[u64], labels: &mut [u64])
+    requires { (by < 2 ^ file.now.counts.effects) × (length fired.now ≡ max_effects) × (length labels.old ≡ row_length) }
+    ensures { labels.new ≡ removed_by (actions_of file.now.bytes.now file.now.counts) by fired.now labels.old }
 {
     let mut left = by;
     while 0 < left {
         let e = lowest(left);
-        strip(&mut *labels, Props(deleted(file, c, e)), fired[e]);
+        strip(&mut *labels, Props(file.deleted(e)), fired[e]);
         left = others(left);
     }
 }
 
 // Joins the adds of these effects, each in the states in which it fires.
-fn join_adds(file: &[u8], c: Counts, by: u64, fired: &[u64], labels: &mut [u64])
-    requires { Taken file.now c × (by < 2 ^ c.effects) × (length fired.now ≡ max_effects) × (length labels.old ≡ row_length) }
-    ensures { labels.new ≡ joined_by (actions_of file.now c) by fired.now labels.old }
+fn join_adds(file: &View<'_>, by: u64, fired: &[u64], labels: &mut [u64])
+    requires { (by < 2 ^ file.now.counts.effects) × (length fired.now ≡ max_effects) × (length labels.old ≡ row_length) }
+    ensures { labels.new ≡ joined_by (actions_of file.now.bytes.now file.now.counts) by fired.now labels.old }
 {
     let mut left = by;
     while 0 < left {
         let e = lowest(left);
-        spread(&mut *labels, Props(added(file, c, e)), fired[e]);
+        spread(&mut *labels, Props(file.added(e)), fired[e]);
         left = others(left);
     }
 }
@@ -272,8 +269,7 @@ fn remember(labels: &[u64], before: &mut [u64])
 // These effects in every state of the set: each fires by what held before them all, all deletes are removed, then all adds joined. Those that fire in every
 // state of the set are done at once. Where some fire in some states only, the rows before and after are compared: a delete and an add may cancel out.
 fn apply(
-    file: &[u8],
-    c: Counts,
+    file: &View<'_>,
     by: u64,
     set: States,
     course: u64,
@@ -281,30 +277,29 @@ fn apply(
     before: &mut [u64],
     fired: &mut [u64],
 ) -> Stepped
-    requires { Taken file.now c × (by < 2 ^ c.effects) × (length labels.old ≡ row_length) × (length before.old ≡ row_length)
+    requires { (by < 2 ^ file.now.counts.effects) × (length labels.old ≡ row_length) × (length before.old ≡ row_length)
         × (length fired.old ≡ max_effects) × (course ≡ F.course_in set.0 (settled set.0 course labels.old)) }
     ensures { (settled set.0 (next_of course result) labels.new
-        ≡ applied_in (actions_of file.now c) set.0 by (settled set.0 course labels.old))
+        ≡ applied_in (actions_of file.now.bytes.now file.now.counts) set.0 by (settled set.0 course labels.old))
         × (result ≡ told set.0 (settled set.0 course labels.old)
-        (applied_in (actions_of file.now c) set.0 by (settled set.0 course labels.old))) }
+        (applied_in (actions_of file.now.bytes.now file.now.counts) set.0 by (settled set.0 course labels.old))) }
 {
-    let did = fire(file, c, by, set, course, &*labels, &mut *fired);
+    let did = fire(file, by, set, course, &*labels, &mut *fired);
     if did.some == 0 {
         return apply_evenly(course, Props(did.del), Props(did.add));
     }
     settle(&mut *labels, set, course);
     remember(&*labels, &mut *before);
     strip(&mut *labels, Props(did.del).without(Props(did.add)), set.0);
-    remove_deletes(file, c, did.some, &*fired, &mut *labels);
+    remove_deletes(file, did.some, &*fired, &mut *labels);
     spread(&mut *labels, Props(did.add), set.0);
-    join_adds(file, c, did.some, &*fired, &mut *labels);
+    join_adds(file, did.some, &*fired, &mut *labels);
     tell(&*before, &*labels, set)
 }
 
 // An action in every state of the set, or in none, where some state of the set lacks its precondition.
 fn step_effects(
-    file: &[u8],
-    c: Counts,
+    file: &View<'_>,
     a: usize,
     set: States,
     course: u64,
@@ -313,85 +308,24 @@ fn step_effects(
     before: &mut [u64],
     fired: &mut [u64],
 ) -> Stepped
-    requires { Rooms file.now c owned.now labels.old before.old fired.old × (a < c.actions)
+    requires { Rooms file.now.bytes.now file.now.counts owned.now labels.old before.old fired.old × (a < file.now.counts.actions)
         × (course ≡ F.course_in set.0 (settled set.0 course labels.old)) }
-    ensures { (result ≡ answer_in (actions_of file.now c) set.0 a (settled set.0 course labels.old))
+    ensures { (result ≡ answer_in (actions_of file.now.bytes.now file.now.counts) set.0 a (settled set.0 course labels.old))
         × (settled set.0 (next_of course result) labels.new
-        ≡ choose (ready_in (actions_of file.now c) set.0 a (settled set.0 course labels.old))
-        (stepped_in (actions_of file.now c) set.0 a (settled set.0 course labels.old))
+        ≡ choose (ready_in (actions_of file.now.bytes.now file.now.counts) set.0 a (settled set.0 course labels.old))
+        (stepped_in (actions_of file.now.bytes.now file.now.counts) set.0 a (settled set.0 course labels.old))
         (settled set.0 course labels.old)) }
 {
-    if course & wide(precondition(file, c, a)) != 0 {
+    if course & wide(file.precondition(a)) != 0 {
         return Stepped::Missing;
     }
-    apply(file, c, owned[a], set, course, labels, before, fired)
-}
-
-// How many steps were made, and how many of them changed no state of the set.
-#[derive(Clone, Copy)]
-pub struct Gone {
-    pub made: usize,
-    pub idle: usize,
-}
-
-// The steps of a list, up to the first that lacks its precondition, or through all of them.
-pub fn walk_effects(
-    file: &[u8],
-    c: Counts,
-    set: States,
-    list: &[u8],
-    owned: &[u64],
-    labels: &mut [u64],
-    before: &mut [u64],
-    fired: &mut [u64],
-) -> Gone
-    requires { Rooms file.now c owned.now labels.old before.old fired.old × Known c.actions list.now }
-    ensures { (result.made ≡ first_lack (actions_of file.now c) set.0 list.now labels.old)
-        × (result.idle ≡ idle_at (actions_of file.now c) set.0 list.now labels.old result.made)
-        × (labels.new ≡ labels_at (actions_of file.now c) set.0 list.now labels.old result.made) }
-{
-    let mut course = course_of(&*labels, set);
-    let mut idle = 0;
-    let mut i = 0;
-    while i < list.len() {
-        let a = byte(list, i);
-        let did = step_effects(
-            file,
-            c,
-            a,
-            set,
-            course,
-            owned,
-            &mut *labels,
-            &mut *before,
-            &mut *fired,
-        );
-        i += 1;
-        if let Stepped::Unchanged = did {
-            idle += 1;
-            continue;
-        }
-        let Stepped::Changed(next) = did else {
-            settle(&mut *labels, set, course);
-            return Gone {
-                made: i - 1,
-                idle: idle,
-            };
-        };
-        course = next;
-    }
-    settle(&mut *labels, set, course);
-    Gone {
-        made: i,
-        idle: idle,
-    }
+    apply(file, owned[a], set, course, labels, before, fired)
 }
 
 // The steps of a list, on from where the word alone led: up to the first that lacks its precondition, or through all of them. Behind a step that changed
 // something the word leads on, as far as it does.
 pub fn walk_effects_on(
-    file: &[u8],
-    c: Counts,
+    file: &View<'_>,
     set: States,
     list: &[u8],
     needs: &[u64],
@@ -402,13 +336,13 @@ pub fn walk_effects_on(
     labels: &mut [u64],
     before: &mut [u64],
     fired: &mut [u64],
-) -> Gone
-    requires { Rooms file.now c owned.now labels.old before.old fired.old × (0 < set.0)
-        × Listed needs.now owned.now when.now goes.now list.now × Tells (actions_of file.now c) needs.now owned.now when.now goes.now
-        × Stepping (actions_of file.now c) set.0 list.now labels.old (settled set.0 from.course labels.old) from.made from.course from.idle }
-    ensures { (result.made ≡ first_lack (actions_of file.now c) set.0 list.now labels.old)
-        × (result.idle ≡ idle_at (actions_of file.now c) set.0 list.now labels.old result.made)
-        × (labels.new ≡ labels_at (actions_of file.now c) set.0 list.now labels.old result.made) }
+) -> Walked
+    requires { Rooms file.now.bytes.now file.now.counts owned.now labels.old before.old fired.old × (0 < set.0)
+        × Listed needs.now owned.now when.now goes.now list.now × Tells (actions_of file.now.bytes.now file.now.counts) needs.now owned.now when.now goes.now
+        × Stepping (actions_of file.now.bytes.now file.now.counts) set.0 list.now labels.old (settled set.0 from.course labels.old) from.made from.course from.idle }
+    ensures { (result.made ≡ first_lack (actions_of file.now.bytes.now file.now.counts) set.0 list.now labels.old)
+        × (result.idle ≡ idle_at (actions_of file.now.bytes.now file.now.counts) set.0 list.now labels.old result.made)
+        × (labels.new ≡ labels_at (actions_of file.now.bytes.now file.now.counts) set.0 list.now labels.old result.made) }
 {
     let mut course = from.course;
     let mut idle = from.idle;
@@ -417,7 +351,6 @@ pub fn walk_effects_on(
         let a = byte(list, i);
         let did = step_effects(
             file,
-            c,
             a,
             set,
             course,
@@ -433,9 +366,10 @@ pub fn walk_effects_on(
         }
         let Stepped::Changed(next) = did else {
             settle(&mut *labels, set, course);
-            return Gone {
+            return Walked {
+                course,
                 made: i - 1,
-                idle: idle,
+                idle,
             };
         };
         let ahead = walk_evenly(
@@ -447,7 +381,7 @@ pub fn walk_effects_on(
             Walked {
                 course: next,
                 made: i,
-                idle: idle,
+                idle,
             },
         );
         course = ahead.course;
@@ -455,9 +389,10 @@ pub fn walk_effects_on(
         i = ahead.made;
     }
     settle(&mut *labels, set, course);
-    Gone {
+    Walked {
+        course,
         made: i,
-        idle: idle,
+        idle,
     }
 }
 

@@ -13,7 +13,7 @@ use Rattle.run.proofs.run_evenly_in.Goals.{After-read_effects, After-walk_evenly
 -- what was read tells the file's actions
 tells : (c : After-read_effects) →
     let a = c.args in
-    Tells (actions_of a.file.now a.c) c.read_needs.new.needs c.read_owned.new.owned
+    Tells (actions_of a.file.now.bytes.now a.file.now.counts) c.read_needs.new.needs c.read_owned.new.owned
     c.read_effects.new.when c.read_effects.new.goes
 tells c =
     tells_of c.requires.0.taken c.read_needs.ensures c.read_owned.ensures c.read_effects.ensures.0 c.read_effects.ensures.1
@@ -21,7 +21,7 @@ tells c =
 -- and where it led
 led : (c : After-walk_evenly-led) →
     let a = c.args in
-    Led a.file.now a.c a.set.0 a.list.now c.read_needs.new.needs c.read_owned.new.owned
+    Led a.file.now.bytes.now a.file.now.counts a.set.0 a.list.now c.read_needs.new.needs c.read_owned.new.owned
     c.read_effects.new.when c.read_effects.new.goes c.walk_evenly-led.result
 led c = led_of c.requires.0 ((tells_of c.requires.0.taken c.read_needs.ensures c.read_owned.ensures c.read_effects.ensures.0 c.read_effects.ensures.1)) c.start_course.ensures c.walk_evenly-led.ensures
 
@@ -42,7 +42,7 @@ pub run_rows-requires : goal.run_rows-requires
 run_rows-requires c = (c.requires.0, led (goal.at.run_rows-requires c).After-walk_evenly-led)
 
 pub lay-requires : goal.lay-requires
-lay-requires c = let p = c.requires.0 in (p.taken, p.some, p.fits)
+lay-requires c = let p = c.requires.0 in (p.some, p.fits)
 
 pub returns : goal.returns
 returns c =

@@ -10,7 +10,7 @@ use Rattle.run.proofs.run_in.Goals as goal
 use Rattle.run.proofs.run_in.Goals.{After-read_steps}
 
 words : (c : After-read_steps) → let a = c.args in
-    Words (actions_of a.file.now a.c) c.read_steps.new.needs c.read_steps.new.leave c.read_steps.new.bring
+    Words (actions_of a.file.now.bytes.now a.file.now.counts) c.read_steps.new.needs c.read_steps.new.leave c.read_steps.new.bring
 unfolding actions_of
 words c = let e = c.read_steps.ensures in record { needed = e.0; left = e.1; brought = e.2 }
 
@@ -38,10 +38,10 @@ returns c =
     (run_counts p.0 p.1 (words (goal.at.returns c).After-read_steps) begins c.walk-did.ensures ended) c.lay.ensures
 
 pub read_steps-requires : goal.read_steps-requires
-read_steps-requires c = let p = c.requires in (p.0.taken, p.1, p.2)
+read_steps-requires c = let p = c.requires in (p.1, p.2)
 
 pub start_course-from-requires : goal.start_course-from-requires
-start_course-from-requires c = let p = c.requires.0 in (p.taken, p.some)
+start_course-from-requires c = c.requires.0.some
 
 pub lay-requires : goal.lay-requires
-lay-requires c = let p = c.requires.0 in (p.taken, p.some, p.fits)
+lay-requires c = let p = c.requires.0 in (p.some, p.fits)

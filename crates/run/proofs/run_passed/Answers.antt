@@ -9,8 +9,8 @@ use Rattle.run.proofs.run_passed.Goals as goal
 pub returns-then-list-eq0 : goal.returns-then-list-eq0
 returns-then-list-eq0 c =
     let a = c.args in
-    reported_accepted _ _ _ _ _ _ _ (no_steps a.file.now a.c a.set.0 a.list.now c.if-list-eq0.true) (sym (length_list_over _ _))
-    (no_idle_steps a.file.now a.c a.set.0 a.list.now c.if-list-eq0.true) c.lay_starts.ensures
+    reported_accepted _ _ _ _ _ _ _ (no_steps a.file.now.bytes.now a.file.now.counts a.set.0 a.list.now c.if-list-eq0.true) (sym (length_list_over _ _))
+    (no_idle_steps a.file.now.bytes.now a.file.now.counts a.set.0 a.list.now c.if-list-eq0.true) c.lay_starts.ensures
 
 pub run_plain-requires : goal.run_plain-requires
-run_plain-requires c = (c.requires, same_of c.if-c-eq-PLAIN_VERSION.true)
+run_plain-requires c = (c.requires, same_of c.if-file-eq-PLAIN_VERSION.true)

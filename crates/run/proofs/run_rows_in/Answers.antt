@@ -14,7 +14,7 @@ use Rattle.run.proofs.run_rows_in.Goals.{After-start_labels}
 labels_long : (c : After-start_labels) → length c.start_labels.new.labels ≡ row_length
 labels_long c =
     let a = c.args in
-    ap length c.start_labels.ensures ∙ length_list_over row_length (start_label a.c.states (start_of a.file.now a.c))
+    ap length c.start_labels.ensures ∙ length_list_over row_length (start_label a.file.now.counts.states (start_of a.file.now.bytes.now a.file.now.counts))
 
 pub walk_effects_on-went-requires : goal.walk_effects_on-went-requires
 walk_effects_on-went-requires c =

@@ -42,7 +42,7 @@ returns-in_default c = c.loop-i.invariant.1
 pub counted-idle-requires : goal.counted-idle-requires
 counted-idle-requires c =
     let m = c.loop-i.invariant.1 in
-    omega (arith, c.loop-i-test.true, m.few, c.change_of.ensures, still_le c.loop-i.course c.in-Made.left)
+    omega (arith, c.loop-i-test.true, m.few, c.still.ensures, still_le c.loop-i.course c.in-Ok.made.left)
 
 pub overflow_add-i : goal.overflow_add-i
 overflow_add-i c = omega (arith, c.loop-i-test.true)
@@ -56,10 +56,10 @@ loop-i-preserved c =
     let a = c.args in
     let x = c.byte-a.result in (
       l.invariant.0,
-      go_on_more l.invariant.1 l.invariant.0 c.in-Made.left c.loop-i-test.true c.byte-a.ensures.0
-          (subst (TriedEvenly a.when.now a.goes.now (get_or a.owned.now x 0) (get_or a.needs.now x 0) l.course) c.in-Made.is
+      go_on_more l.invariant.1 l.invariant.0 c.in-Ok.made c.loop-i-test.true c.byte-a.ensures.0
+          (subst (TriedEvenly a.when.now a.goes.now (get_or a.owned.now x 0) (get_or a.needs.now x 0) l.course) c.in-Ok.is
           c.step_evenly-did.ensures)
-          (c.counted-idle.ensures ∙ ap (λ (k : ℕ). l.idle + k) c.change_of.ensures),
+          (c.counted-idle.ensures ∙ ap (λ (k : ℕ). l.idle + k) c.still.ensures),
     )
 
 pub returns : goal.returns

@@ -11,4 +11,4 @@ use Rattle.run.proofs.fire.read_owned.Given as goal
 
 abbrev pub invariant-loop-e : goal.invariant-loop-e
 invariant-loop-e l =
-    (l.e ≤ l.c.effects) × (length l.owned ≡ length l.initial.owned) × (l.owned ≡ list_over row_length (start_label l.e (λ k. single ((actions_of l.file l.c).owner k))))
+    (l.e ≤ l.file.counts.effects) × (length l.owned ≡ length l.initial.owned) × (l.owned ≡ list_over row_length (start_label l.e (λ k. single ((actions_of l.file.bytes.now l.file.counts).owner k))))

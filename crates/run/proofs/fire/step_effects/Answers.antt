@@ -15,26 +15,26 @@ use Rattle.run.proofs.fire.step_effects.Goals as goal
 use Rattle.run.proofs.fire.step_effects.Goals.{Start}
 
 -- the precondition is a set of propositions
-small : (s : Start) → (actions_of s.args.file.now s.args.c).pre s.args.a < 2 ^ prop_width
+small : (s : Start) → (actions_of s.args.file.now.bytes.now s.args.file.now.counts).pre s.args.a < 2 ^ prop_width
 unfolding actions_of
-small s = (narrow_of s.args.file.now s.args.c s.requires.0.taken).pre s.args.a s.requires.1
+small s = (narrow_of s.args.file.now.bytes.now s.args.file.now.counts s.requires.0.taken).pre s.args.a s.requires.1
 
 pub returns-then-course-wide-ne0 : goal.returns-then-course-wide-ne0
 unfolding next_of
 returns-then-course-wide-ne0 c =
     let a = c.args in
-    step_missing (actions_of a.file.now a.c) a.set.0 a.a (settled a.set.0 a.course a.labels.now) (small (goal.at.returns-then-course-wide-ne0 c).Start) c.requires.2
+    step_missing (actions_of a.file.now.bytes.now a.file.now.counts) a.set.0 a.a (settled a.set.0 a.course a.labels.now) (small (goal.at.returns-then-course-wide-ne0 c).Start) c.requires.2
     (c.wide.ensures ∙ c.precondition.ensures) c.if-course-wide-ne0.true
 
 -- the word of the action's effects
-word : (s : Start) → get_or s.args.owned.now s.args.a 0 ≡ effects_of (actions_of s.args.file.now s.args.c) s.args.a
-word s = owned_at (actions_of s.args.file.now s.args.c) s.requires.0.owned_are (omega (arith, s.requires.1, s.requires.0.taken.ranged.actions))
+word : (s : Start) → get_or s.args.owned.now s.args.a 0 ≡ effects_of (actions_of s.args.file.now.bytes.now s.args.file.now.counts) s.args.a
+word s = owned_at (actions_of s.args.file.now.bytes.now s.args.file.now.counts) s.requires.0.owned_are (omega (arith, s.requires.1, s.requires.0.taken.ranged.actions))
 
 pub returns : goal.returns
 unfolding actions_of
 returns c =
     let a = c.args in
-    step_made (actions_of a.file.now a.c) a.set.0 a.a (settled a.set.0 a.course a.labels.now) (small (goal.at.returns c).Start) c.requires.2
+    step_made (actions_of a.file.now.bytes.now a.file.now.counts) a.set.0 a.a (settled a.set.0 a.course a.labels.now) (small (goal.at.returns c).Start) c.requires.2
     (c.wide.ensures ∙ c.precondition.ensures)
     {labels' = settled a.set.0 (next_of a.course c.apply.result) c.apply.new.labels}
     c.if-course-wide-ne0.false (word (goal.at.returns c).Start) c.apply.ensures.0 c.apply.ensures.1
@@ -43,8 +43,7 @@ pub apply-requires : goal.apply-requires
 unfolding actions_of
 apply-requires c =
     let r = c.requires.0 in (
-      r.taken,
-      subst (λ (x : ℕ). x < 2 ^ c.args.c.effects) (sym (word (goal.at.apply-requires c).Start)) (effects_lt (actions_of c.args.file.now c.args.c) c.args.a),
+      subst (λ (x : ℕ). x < 2 ^ c.args.file.now.counts.effects) (sym (word (goal.at.apply-requires c).Start)) (effects_lt (actions_of c.args.file.now.bytes.now c.args.file.now.counts) c.args.a),
       r.labels_long,
       r.before_long,
       r.fired_long,
@@ -58,5 +57,5 @@ bounds-owned-a c =
       c.requires.1,
       c.requires.0.taken.ranged.actions,
       ap length c.requires.0.owned_are,
-      length_list_over row_length (effects_of (actions_of c.args.file.now c.args.c)),
+      length_list_over row_length (effects_of (actions_of c.args.file.now.bytes.now c.args.file.now.counts)),
     )

@@ -23,7 +23,7 @@ step_effects-did-requires c =
     let l = c.loop-i in
     let r = c.requires.0 in (
       record { taken = r.taken; owned_are = r.owned_are; labels_long = l.invariant.1; before_long = l.invariant.2; fired_long = l.invariant.3 },
-      subst (λ (x : ℕ). x < c.args.c.actions) (sym c.byte-a.ensures.0) (listed_known c.requires.2 c.requires.3 l.i c.loop-i-test.true),
+      subst (λ (x : ℕ). x < c.args.file.now.counts.actions) (sym c.byte-a.ensures.0) (listed_known c.requires.2 c.requires.3 l.i c.loop-i-test.true),
       l.invariant.0.course_is,
     )
 
@@ -48,7 +48,7 @@ unfolding next_of
 loop-i-preserved-in-Unchanged c =
     let l = c.loop-i in
     let a = c.args in
-    let A = actions_of a.file.now a.c in (
+    let A = actions_of a.file.now.bytes.now a.file.now.counts in (
       subst (λ (x : Stepped). Stepping A a.set.0 a.list.now a.labels.now (stood (goal.at.loop-i-preserved-in-Unchanged c).After-step_effects-did x) (l.i + 1) l.course (l.idle + 1))
           c.in-Unchanged.is
           (step_idle l.invariant.0 {labels' = stood (goal.at.loop-i-preserved-in-Unchanged c).After-step_effects-did c.step_effects-did.result} c.loop-i-test.true c.byte-a.ensures.0
@@ -63,11 +63,11 @@ changed : (c : In-Changed) →
     let l = c.loop-i in
     let a = c.args in
     let next = c.in-Changed.next in
-    Stepping (actions_of a.file.now a.c) a.set.0 a.list.now a.labels.now (settled c.args.set.0 (next_of c.loop-i.course (Changed next)) c.step_effects-did.new.labels) (l.i + 1) next l.idle
+    Stepping (actions_of a.file.now.bytes.now a.file.now.counts) a.set.0 a.list.now a.labels.now (settled c.args.set.0 (next_of c.loop-i.course (Changed next)) c.step_effects-did.new.labels) (l.i + 1) next l.idle
 changed c =
     let l = c.loop-i in
     let a = c.args in
-    let A = actions_of a.file.now a.c in
+    let A = actions_of a.file.now.bytes.now a.file.now.counts in
     let e = c.in-Changed.is in
     subst (λ (x : Stepped). Stepping A a.set.0 a.list.now a.labels.now (settled c.args.set.0 (next_of c.loop-i.course x) c.step_effects-did.new.labels) (l.i + 1) c.in-Changed.next l.idle) e
     (step_changed l.invariant.0 {labels' = settled c.args.set.0 (next_of c.loop-i.course c.step_effects-did.result) c.step_effects-did.new.labels} c.loop-i-test.true c.byte-a.ensures.0
@@ -80,7 +80,7 @@ pub loop-i-preserved : goal.loop-i-preserved
 unfolding next_of
 loop-i-preserved c =
     let a = c.args in (
-      c.walk_evenly-ahead.ensures.on (actions_of a.file.now a.c) a.set.0 a.labels.now c.step_effects-did.new.labels
+      c.walk_evenly-ahead.ensures.on (actions_of a.file.now.bytes.now a.file.now.counts) a.set.0 a.labels.now c.step_effects-did.new.labels
           c.requires.3 c.requires.1 (changed (goal.at.loop-i-preserved c).In-Changed),
       labels_long (goal.at.loop-i-preserved c).After-step_effects-did,
       before_long (goal.at.loop-i-preserved c).After-step_effects-did,
@@ -93,7 +93,7 @@ returns-in_default-did c =
     let l = c.loop-i in
     let a = c.args in
     let e : l.i ≡ l.i + 1 - 1 = omega arith in
-    let A = actions_of a.file.now a.c in
+    let A = actions_of a.file.now.bytes.now a.file.now.counts in
     let off = missing c.step_effects-did.result c.in_default.not-Unchanged c.in_default-did.not-Changed in
     let end = subst (λ (x : Stepped). Stopped A a.set.0 a.list.now a.labels.now (stood (goal.at.returns-in_default-did c).After-step_effects-did x) l.i l.idle) off
     (step_off l.invariant.0 {labels' = stood (goal.at.returns-in_default-did c).After-step_effects-did c.step_effects-did.result} c.loop-i-test.true c.byte-a.ensures.0

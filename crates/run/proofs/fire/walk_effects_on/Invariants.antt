@@ -11,7 +11,7 @@ use Rattle.run.proofs.fire.walk_effects_on.Given as goal
 
 abbrev pub invariant-loop-i : goal.invariant-loop-i
 invariant-loop-i l =
-    Stepping (actions_of l.file l.c) l.set.0 l.list l.initial.labels (settled l.set.0 l.course l.labels) l.i l.course l.idle × (length l.labels ≡ row_length)
+    Stepping (actions_of l.file.bytes.now l.file.counts) l.set.0 l.list l.initial.labels (settled l.set.0 l.course l.labels) l.i l.course l.idle × (length l.labels ≡ row_length)
     × (length l.before ≡ row_length) × (length l.fired ≡ max_effects)
 
 abbrev pub decreases-loop-i : goal.decreases-loop-i
