@@ -33,7 +33,7 @@ use Rattle.run.specs.Course.{Known, Checked, course, pack, leaves, brings, furth
 use Rattle.run.specs.Run.{end_rule, idle_steps}
 use Rattle.run.specs.Fire.{effects_of, course_in, settled, fired_in, partly, of_effect, of_effects, applied_in, stepped_in, ready_in}
 use Rattle.run.specs.Fire.{evenly, even_answer, told, answer_in, Stepping}
-use Rattle.run.specs.Even.{above, everywhere, untold, goes_of, goes_by, Foretold, Moves, TriedEvenly, Listed, Tells, GoesOn, Led}
+use Rattle.run.specs.Even.{above, everywhere, untold, goes_of, goes_by, Foretold, Moves, TriedEvenly, Fit, Tells, GoesOn, Led}
 use Rattle.std.specs.Prelude.{Some, None, Ok}
 use Rattle.run.specs.declared.step.Made.{Made}
 use Rattle.run.specs.declared.step.Walked.{Walked}
@@ -283,9 +283,11 @@ module _ {when goes : List ℕ} {by w left all : ℕ} (m : Foretelling when goes
 -- ---- the steps of a list, as far as they are even
 
 -- each number of the list is an action's
-pub listed_known : {A : Actions} {needs owned when goes list : List ℕ} → Listed needs owned when goes list → Tells A needs owned when goes
-    → Known A.count list
-listed_known {A} l t i h = omega (arith, l.known i h, ap length t.needed, length_list_over A.count A.pre)
+pub known_in : {A : Actions} {needs owned when goes : List ℕ} (list : List ℕ) → Known (length needs) list → Tells A needs owned when goes → Known A.count list
+known_in {A} list l t i h = omega (arith, l i h, ap length t.needed, length_list_over A.count A.pre)
+
+pub known_by : {A : Actions} {needs owned when goes : List ℕ} (list : List ℕ) → Tells A needs owned when goes → Known A.count list → Known (length needs) list
+known_by {A} list t known i h = omega (arith, known i h, ap length t.needed, length_list_over A.count A.pre)
 
 abbrev pub walked : ℕ → ℕ → ℕ → Walked
 walked w i idle = record { course = w; made = i; idle = idle }
@@ -294,7 +296,7 @@ module _ {needs owned when goes list : List ℕ} {from : Walked} where
   pub go_on_none : from.idle ≤ from.made → from.made ≤ length list → GoesOn needs owned when goes list from from
   go_on_none few inside = record { few = few; forth = omega arith; inside = inside; on = λ A set labels₀ labels t h s. s }
 
-  module _ {w i idle : ℕ} (m : GoesOn needs owned when goes list from (walked w i idle)) (listed : Listed needs owned when goes list) where
+  module _ {w i idle : ℕ} (m : GoesOn needs owned when goes list from (walked w i idle)) (known : Known (length needs) list) where
     pub go_on_more : {a : ℕ} (made : Made) {idle' : ℕ} → i < length list → a ≡ get_or list i 0
         → TriedEvenly when goes (get_or owned a 0) (get_or needs a 0) w (Ok made) → idle' ≡ idle + still w made.left
         → GoesOn needs owned when goes list from (walked made.course (i + 1) idle')
@@ -306,7 +308,7 @@ module _ {needs owned when goes list : List ℕ} {from : Walked} where
       on = λ A set labels₀ labels t some s.
           subst (λ (k : ℕ). Stepping A set list labels₀ (settled set made.course labels) (i + 1) made.course k) (sym counted)
           (even_step t (λ z. omega arith) labels (m.on A set labels₀ labels t some s) h e
-          (subst (λ (k : ℕ). k < A.count) (sym e) (listed_known listed t i h)) free g foretold moves);
+          (subst (λ (k : ℕ). k < A.count) (sym e) (known_in list known t i h)) free g foretold moves);
     }
 
 -- ---- the run of a file, from its start states
@@ -330,14 +332,12 @@ tells_of {file} {c} taken n o w g =
       del = narrow.del;
     }
 
-pub listed_of : {A : Actions} {needs owned when goes list : List ℕ} → Tells A needs owned when goes → Known A.count list
-    → Listed needs owned when goes list
-listed_of {A} {needs} {owned} {when} t known =
+pub fit_of : {A : Actions} {needs owned when goes : List ℕ} → Tells A needs owned when goes → Fit needs owned when goes
+fit_of {A} {needs} {owned} {when} t =
     let n : length needs ≡ A.count = ap length t.needed ∙ length_list_over A.count A.pre in
     let w : length when ≡ A.effects = ap length t.whens ∙ length_list_over A.effects A.when in
     record {
-      known = λ i h. omega (arith, known i h);
-      room = omega (arith, t.actions, ap length t.own, length_list_over row_length (effects_of A));
+      room = omega (arith, t.actions);
       few = omega (arith, t.effects);
       as_goes = ap length t.going ∙ length_list_over A.effects (goes_of A) ∙ sym w;
       inside = λ a h. subst₂ (λ (x y : ℕ). x < 2 ^ y) (sym (owned_at A t.own (omega (arith, t.actions)))) (sym w) (effects_lt A a);
@@ -355,7 +355,6 @@ module _ {file : List ℕ} {c : Counts} {set : ℕ} {list out : List ℕ} (check
       → GoesOn needs owned when goes list (walked w 0 0) r → Led file c set list needs owned when goes r
   unfolding actions_of
   led_of {w = w} t begins goes_on = record {
-    listed = listed_of t checked.known;
     tells = t;
     steps = λ labels e.
         let long : length labels ≡ row_length = ap length e ∙ length_list_over row_length (start_label c.states (start_of file c)) in

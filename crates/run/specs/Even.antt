@@ -58,9 +58,8 @@ TriedEvenly when goes by need w (Ok made) =
     (common w need ≡ 0) × ((g : ℕ) × Foretold when goes by w (Some g) × Moves w g made.left made.course)
 
 -- lists with a word for each action and for each effect
-pub record Listed (needs owned when goes list : List ℕ) : Type 0 where
-  pub known : Known (length needs) list
-  pub room : length needs ≤ length owned
+pub record Fit (needs owned when goes : List ℕ) : Type 0 where
+  pub room : length needs ≤ row_length
   pub few : length when ≤ max_effects
   pub as_goes : length goes ≡ length when
   pub inside : (a : ℕ) → a < length needs → get_or owned a 0 < 2 ^ length when
@@ -89,7 +88,6 @@ pub record GoesOn (needs owned when goes list : List ℕ) (from r : Walked) : Ty
 
 -- where the word alone led from the start states of a file
 pub record Led (file : List ℕ) (c : Counts) (set : ℕ) (list needs owned when goes : List ℕ) (r : Walked) : Type 0 where
-  pub listed : Listed needs owned when goes list
   pub tells : Tells (actions_of file c) needs owned when goes
   pub steps : (labels : List ℕ) → labels ≡ list_over row_length (start_label c.states (start_of file c))
       → Stepping (actions_of file c) set list labels (settled set r.course labels) r.made r.course r.idle

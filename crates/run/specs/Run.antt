@@ -1,9 +1,9 @@
 -- The rule of a run: what turns it away, in the order of the causes, and what it writes.
-use Rattle.std.specs.Prelude.{ℕ, List, Result, length, get_or}
+use Rattle.std.specs.Prelude.{ℕ, ◌≡◌, List, Result, length, get_or}
 use Rattle.rules.specs.Test.{fails, below, choose}
 use Rattle.rules.specs.Over.{first_below}
 use Rattle.rules.specs.Run.{Ran, ended, lacks, run_of, idle_of}
-use Rattle.graph.specs.Verdict.{Verdict, accepted, refused, verdict_by, and_then}
+use Rattle.graph.specs.Verdict.{Verdict, accepted, refused, verdict_by, and_then, laid}
 use Rattle.graph.specs.Format.{actions_of, start_of, counts_in}
 use Rattle.graph.specs.File.{file_rule}
 use Rattle.graph.specs.Checks.{set_rule, output_rule}
@@ -69,3 +69,8 @@ report_rule file set list room = reported (idle_steps file (counts_in file) set 
 -- what a run's answer says
 abbrev pub run_verdict : Result Answer Refusal → Verdict Reported
 run_verdict r = verdict_by (λ ran. record { sets = ran.sets; idle = ran.idle }) r
+
+-- what a run answers and writes that has passed its checks
+abbrev pub Ends : List ℕ → Counts → ℕ → List ℕ → Result Answer Refusal → List ℕ → List ℕ → Type 0
+Ends file c set list r out₀ out =
+    (run_verdict r ≡ reported (idle_steps file c set list) (end_rule file c set list)) × (out ≡ laid (end_rule file c set list) out₀)

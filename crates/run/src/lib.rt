@@ -5,8 +5,9 @@ mod effects;
 mod even;
 mod fire;
 mod step;
+mod task;
 
-ghost use Rattle.std.specs.Prelude.{◌≡◌, ◌≤◌, ◌<◌, ◌^◌, max, length, get_or};
+ghost use Rattle.std.specs.Prelude.{◌≡◌, ◌≤◌, ◌<◌, ◌^◌, max, length, get_or, position, nat_le};
 ghost use Rattle.std.proofs.Math.Bool.{So};
 ghost use Rattle.rules.specs.Word.{first};
 ghost use Rattle.rules.specs.Over as O;
@@ -14,19 +15,17 @@ ghost use Rattle.rules.specs.Over.{meet_of, join_of};
 ghost use Rattle.rules.specs.Lists.{list_over};
 ghost use Rattle.words.specs.Width.{prop_width, state_width};
 ghost use Rattle.words.specs.Memory.{put_at};
-ghost use Rattle.words.specs.Rows.{row_length};
 ghost use Rattle.graph.specs.Verdict.{laid, verdict};
 ghost use Rattle.graph.specs.Format.{plain, actions_of, start_of};
-ghost use Rattle.graph.specs.Limits.{max_effects};
-ghost use Rattle.run.specs.Fire.{Empty};
 ghost use Rattle.run.specs.Even.{Led};
-ghost use Rattle.run.specs.Course.{Some, Checked, PerAction, course, leaves_of, brings_of, sets_of};
-ghost use Rattle.run.specs.Run.{numbers_rule, sequence_rule, end_rule, run_taken, run_rule, idle_steps, reported, report_rule, run_verdict};
+ghost use Rattle.run.specs.Course.{Some, PerAction, course, leaves_of, brings_of, sets_of};
+ghost use Rattle.run.specs.Run.{numbers_rule, sequence_rule, end_rule, run_taken, run_rule, idle_steps, Ends, reported, report_rule, run_verdict};
 
-use crate::effects::{read_effects, read_needs};
+use crate::effects::{Evens, read_effects, read_needs, read_owned};
 use crate::even::{lacking, walk_evenly};
-use crate::fire::{lay_labels, read_owned, walk_effects_on};
+use crate::fire::{Rows, lay_labels};
 use crate::step::{Walked, brings, came, leaves, pack, walk};
+use crate::task::Task;
 use graph::checks::{check_output, check_set};
 use graph::file::{byte, check_file};
 use graph::format::PLAIN_VERSION;
@@ -54,26 +53,22 @@ fn larger(a: u8, b: u8) -> u8
 }
 
 // The greatest number of the list. No way leads out of the loop, so that it takes many numbers at a time.
+// Kept (point 3): by `fold` with `max` the list is looked at one number at a time, and a run of 1000 steps took 1.5 times as long.
 fn greatest(list: &[u8]) -> u8
     ensures { result ≡ O.greatest (length list.now) (λ i. get_or list.now i 0) }
 {
     let mut most = 0u8;
-    for i in 0..list.len() {
-        most = larger(most, list[i]);
+    for &a in list {
+        most = larger(most, a);
     }
     most
 }
 
-// Cause 11, of a list that has a number of A or above.
-fn find_unknown(list: &[u8], actions: usize) -> Result<(), Refusal>
-    ensures { verdict result ≡ numbers_rule actions list.now }
+// The index of the first number of A or above.
+fn first_unknown(list: &[u8], actions: usize) -> Option<usize>
+    ensures { result ≡ position (λ a. nat_le actions a) list.now }
 {
-    for i in 0..list.len() {
-        if actions <= byte(list, i) {
-            return Err(Refusal::Sequence(i));
-        }
-    }
-    Ok(())
+    list.iter().position(|&a| actions <= a as usize)
 }
 
 // Cause 11, of a list that is not too long.
@@ -83,7 +78,10 @@ fn check_numbers(list: &[u8], actions: usize) -> Result<(), Refusal>
     if (greatest(list) as usize) < actions {
         return Ok(());
     }
-    find_unknown(list, actions)
+    match first_unknown(list, actions) {
+        Some(i) => Err(Refusal::Sequence(i)),
+        None => Ok(()),
+    }
 }
 
 // Cause 11.
@@ -219,222 +217,140 @@ fn read_steps(file: &View<'_>, needs: &mut [u64], leave: &mut [u64], bring: &mut
 
 // Version 1: the run, through memory for the actions' words. The output is written once the list has ended.
 fn run_in(
-    file: &View<'_>,
-    set: States,
-    list: &[u8],
+    task: &Task<'_>,
     needs: &mut [u64],
     leave: &mut [u64],
     bring: &mut [u64],
     out: &mut [u32],
 ) -> Result<Ran, Refusal>
-    requires { Checked file.now.bytes.now file.now.counts set.0 list.now out.old × So (plain file.now.counts) × PerAction file.now.counts.actions needs.old leave.old bring.old }
-    ensures { (run_verdict result ≡ reported (idle_steps file.now.bytes.now file.now.counts set.0 list.now) (end_rule file.now.bytes.now file.now.counts set.0 list.now))
-        × (out.new ≡ laid (end_rule file.now.bytes.now file.now.counts set.0 list.now) out.old) }
+    requires { (task.now.file.counts.states ≤ length out.old) × So (plain task.now.file.counts) × PerAction task.now.file.counts.actions needs.old leave.old bring.old }
+    ensures { Ends task.now.file.bytes.now task.now.file.counts task.now.set.0 task.now.list.now result out.old out.new }
 {
-    read_steps(file, &mut *needs, &mut *leave, &mut *bring);
-    let from = start_course(file, set);
-    let did = walk(list, &*needs, &*leave, &*bring, from);
-    if did.made < list.len() {
+    read_steps(&task.file, &mut *needs, &mut *leave, &mut *bring);
+    let from = start_course(&task.file, task.set);
+    let did = walk(task.list, &*needs, &*leave, &*bring, from);
+    if did.made < task.list.len() {
         return Err(Refusal::Precondition(did.made));
     }
-    lay(file, set, did.course, &mut *out);
+    lay(&task.file, task.set, did.course, &mut *out);
     Ok(Ran {
-        sets: file.counts.states,
+        sets: task.file.counts.states,
         idle: did.idle,
     })
 }
 
-// Version 1: the run, once every check is passed.
-fn run_plain(file: &View<'_>, set: States, list: &[u8], out: &mut [u32]) -> Result<Ran, Refusal>
-    requires { Checked file.now.bytes.now file.now.counts set.0 list.now out.old × So (plain file.now.counts) }
-    ensures { (run_verdict result ≡ reported (idle_steps file.now.bytes.now file.now.counts set.0 list.now) (end_rule file.now.bytes.now file.now.counts set.0 list.now))
-        × (out.new ≡ laid (end_rule file.now.bytes.now file.now.counts set.0 list.now) out.old) }
+// Version 1: the run.
+fn run_plain(task: &Task<'_>, out: &mut [u32]) -> Result<Ran, Refusal>
+    requires { (task.now.file.counts.states ≤ length out.old) × So (plain task.now.file.counts) }
+    ensures { Ends task.now.file.bytes.now task.now.file.counts task.now.set.0 task.now.list.now result out.old out.new }
 {
-    let a = file.counts.actions;
+    let a = task.file.counts.actions;
     let mut needs = [0u64; MAX_ACTIONS];
     let mut leave = [0u64; MAX_ACTIONS];
     let mut bring = [0u64; MAX_ACTIONS];
-    run_in(
-        file,
-        set,
-        list,
-        &mut needs[..a],
-        &mut leave[..a],
-        &mut bring[..a],
-        out,
-    )
+    run_in(task, &mut needs[..a], &mut leave[..a], &mut bring[..a], out)
 }
 
-// Version 2: the run, on from where the word alone led, through memory for the states that have each proposition, now and before a step, and for those in which
-// each effect fires.
-// The output is written once the list has ended.
-fn run_rows_in(
-    file: &View<'_>,
-    set: States,
-    list: &[u8],
-    needs: &[u64],
-    owned: &[u64],
-    when: &[u64],
-    goes: &[u64],
+// Version 2: the run, on from where the word alone led. The output is written once the list has ended.
+fn run_rows(
+    task: &Task<'_>,
+    evens: &Evens<'_>,
     from: Walked,
-    labels: &mut [u64],
-    before: &mut [u64],
-    fired: &mut [u64],
     out: &mut [u32],
 ) -> Result<Ran, Refusal>
-    requires { Checked file.now.bytes.now file.now.counts set.0 list.now out.old × Empty labels.old × (length before.old ≡ row_length) × (length fired.old ≡ max_effects)
-        × Led file.now.bytes.now file.now.counts set.0 list.now needs.now owned.now when.now goes.now from }
-    ensures { (run_verdict result ≡ reported (idle_steps file.now.bytes.now file.now.counts set.0 list.now) (end_rule file.now.bytes.now file.now.counts set.0 list.now))
-        × (out.new ≡ laid (end_rule file.now.bytes.now file.now.counts set.0 list.now) out.old) }
+    requires { (task.now.file.counts.states ≤ length out.old) × Led task.now.file.bytes.now task.now.file.counts task.now.set.0 task.now.list.now
+        evens.now.needs.now evens.now.owned.now evens.now.when.now evens.now.goes.now from }
+    ensures { Ends task.now.file.bytes.now task.now.file.counts task.now.set.0 task.now.list.now result out.old out.new }
 {
-    file.start_labels(&mut *labels);
-    let went = walk_effects_on(
-        file,
-        set,
-        list,
-        needs,
-        owned,
-        when,
-        goes,
-        from,
-        &mut *labels,
-        &mut *before,
-        &mut *fired,
-    );
-    if went.made < list.len() {
+    let mut rows = Rows {
+        labels: [0u64; ROW],
+        fired: [0u64; MAX_EFFECTS],
+    };
+    task.file.start_labels(&mut rows.labels);
+    let went = rows.walk(task, evens, from);
+    if went.made < task.list.len() {
         return Err(Refusal::Precondition(went.made));
     }
-    lay_labels(&*labels, file.counts.states, &mut *out);
+    lay_labels(&rows.labels, task.file.counts.states, &mut *out);
     Ok(Ran {
-        sets: file.counts.states,
+        sets: task.file.counts.states,
         idle: went.idle,
     })
-}
-
-// Version 2: the run, on from where the word alone led.
-fn run_rows(
-    file: &View<'_>,
-    set: States,
-    list: &[u8],
-    needs: &[u64],
-    owned: &[u64],
-    when: &[u64],
-    goes: &[u64],
-    from: Walked,
-    out: &mut [u32],
-) -> Result<Ran, Refusal>
-    requires { Checked file.now.bytes.now file.now.counts set.0 list.now out.old
-        × Led file.now.bytes.now file.now.counts set.0 list.now needs.now owned.now when.now goes.now from }
-    ensures { (run_verdict result ≡ reported (idle_steps file.now.bytes.now file.now.counts set.0 list.now) (end_rule file.now.bytes.now file.now.counts set.0 list.now))
-        × (out.new ≡ laid (end_rule file.now.bytes.now file.now.counts set.0 list.now) out.old) }
-{
-    let mut labels = [0u64; ROW];
-    let mut before = [0u64; ROW];
-    let mut fired = [0u64; MAX_EFFECTS];
-    run_rows_in(
-        file,
-        set,
-        list,
-        needs,
-        owned,
-        when,
-        goes,
-        from,
-        &mut labels[..],
-        &mut before[..],
-        &mut fired[..],
-        out,
-    )
 }
 
 // Version 2: the run, through memory for what the steps go by. The word alone leads as far as effects fire in every state of the set or in none, mostly to the
 // end; else the states are turned round there.
 fn run_evenly_in(
-    file: &View<'_>,
-    set: States,
-    list: &[u8],
+    task: &Task<'_>,
     needs: &mut [u64],
-    owned: &mut [u64],
     when: &mut [u64],
     goes: &mut [u64],
     out: &mut [u32],
 ) -> Result<Ran, Refusal>
-    requires { Checked file.now.bytes.now file.now.counts set.0 list.now out.old × (length needs.old ≡ file.now.counts.actions) × Empty owned.old
-        × (length when.old ≡ file.now.counts.effects) × (length goes.old ≡ file.now.counts.effects) }
-    ensures { (run_verdict result ≡ reported (idle_steps file.now.bytes.now file.now.counts set.0 list.now) (end_rule file.now.bytes.now file.now.counts set.0 list.now))
-        × (out.new ≡ laid (end_rule file.now.bytes.now file.now.counts set.0 list.now) out.old) }
+    requires { (task.now.file.counts.states ≤ length out.old) × (length needs.old ≡ task.now.file.counts.actions)
+        × (length when.old ≡ task.now.file.counts.effects) × (length goes.old ≡ task.now.file.counts.effects) }
+    ensures { Ends task.now.file.bytes.now task.now.file.counts task.now.set.0 task.now.list.now result out.old out.new }
 {
-    read_needs(file, &mut *needs);
-    read_owned(file, &mut *owned);
-    read_effects(file, &mut *when, &mut *goes);
+    read_needs(&task.file, &mut *needs);
+    let owned = read_owned(&task.file);
+    read_effects(&task.file, &mut *when, &mut *goes);
+    let evens = Evens {
+        needs: &*needs,
+        owned: &owned,
+        when: &*when,
+        goes: &*goes,
+    };
     let led = walk_evenly(
-        list,
-        &*needs,
-        &*owned,
-        &*when,
-        &*goes,
+        task.list,
+        &evens,
         Walked {
-            course: start_course(file, set),
+            course: start_course(&task.file, task.set),
             made: 0,
             idle: 0,
         },
     );
-    if led.made < list.len() {
-        if lacking(list, &*needs, led) {
+    if led.made < task.list.len() {
+        if lacking(task.list, &evens, led) {
             return Err(Refusal::Precondition(led.made));
         }
-        return run_rows(
-            file, set, list, &*needs, &*owned, &*when, &*goes, led, &mut *out,
-        );
+        return run_rows(task, &evens, led, &mut *out);
     }
-    lay(file, set, led.course, &mut *out);
+    lay(&task.file, task.set, led.course, &mut *out);
     Ok(Ran {
-        sets: file.counts.states,
+        sets: task.file.counts.states,
         idle: led.idle,
     })
 }
 
-// Version 2: the run, once every check is passed.
-fn run_effects(file: &View<'_>, set: States, list: &[u8], out: &mut [u32]) -> Result<Ran, Refusal>
-    requires { Checked file.now.bytes.now file.now.counts set.0 list.now out.old }
-    ensures { (run_verdict result ≡ reported (idle_steps file.now.bytes.now file.now.counts set.0 list.now) (end_rule file.now.bytes.now file.now.counts set.0 list.now))
-        × (out.new ≡ laid (end_rule file.now.bytes.now file.now.counts set.0 list.now) out.old) }
+// Version 2: the run.
+fn run_effects(task: &Task<'_>, out: &mut [u32]) -> Result<Ran, Refusal>
+    requires { task.now.file.counts.states ≤ length out.old }
+    ensures { Ends task.now.file.bytes.now task.now.file.counts task.now.set.0 task.now.list.now result out.old out.new }
 {
-    let a = file.counts.actions;
-    let n = file.counts.effects;
+    let a = task.file.counts.actions;
+    let n = task.file.counts.effects;
     let mut needs = [0u64; MAX_ACTIONS];
-    let mut owned = [0u64; ROW];
     let mut when = [0u64; MAX_EFFECTS];
     let mut goes = [0u64; MAX_EFFECTS];
-    run_evenly_in(
-        file,
-        set,
-        list,
-        &mut needs[..a],
-        &mut owned[..],
-        &mut when[..n],
-        &mut goes[..n],
-        out,
-    )
+    run_evenly_in(task, &mut needs[..a], &mut when[..n], &mut goes[..n], out)
 }
 
 // The run, once every check is passed. Without a step nothing else need be read.
-fn run_passed(file: &View<'_>, set: States, list: &[u8], out: &mut [u32]) -> Result<Ran, Refusal>
-    requires { Checked file.now.bytes.now file.now.counts set.0 list.now out.old }
-    ensures { (run_verdict result ≡ reported (idle_steps file.now.bytes.now file.now.counts set.0 list.now) (end_rule file.now.bytes.now file.now.counts set.0 list.now))
-        × (out.new ≡ laid (end_rule file.now.bytes.now file.now.counts set.0 list.now) out.old) }
+fn run_passed(task: &Task<'_>, out: &mut [u32]) -> Result<Ran, Refusal>
+    requires { task.now.file.counts.states ≤ length out.old }
+    ensures { Ends task.now.file.bytes.now task.now.file.counts task.now.set.0 task.now.list.now result out.old out.new }
 {
-    if list.len() == 0 {
-        file.lay_starts(&mut *out);
+    if task.list.len() == 0 {
+        task.file.lay_starts(&mut *out);
         return Ok(Ran {
-            sets: file.counts.states,
+            sets: task.file.counts.states,
             idle: 0,
         });
     }
-    if file.counts.version == PLAIN_VERSION {
-        return run_plain(file, set, list, &mut *out);
+    if task.file.counts.version == PLAIN_VERSION {
+        return run_plain(task, &mut *out);
     }
-    run_effects(file, set, list, &mut *out)
+    run_effects(task, &mut *out)
 }
 
 // The caller's checks over a file that was taken, then the run.
@@ -445,7 +361,12 @@ fn run_taken(file: &View<'_>, set: States, list: &[u8], out: &mut [u32]) -> Resu
     check_set(file.counts.states, set)?;
     check_output(file.counts.states, out.len())?;
     check_sequence(list, file.counts.actions)?;
-    run_passed(file, set, list, &mut *out)
+    let task = Task {
+        file: *file,
+        set,
+        list,
+    };
+    run_passed(&task, &mut *out)
 }
 
 // Runs the list from each state of the set, writes the N end sets at the front of the output, and counts the idle steps.

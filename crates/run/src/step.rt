@@ -83,10 +83,7 @@ pub fn counted(idle: usize, still: bool) -> usize
     requires { idle + keep still 1 < 2 ^ word_width }
     ensures { result ≡ idle + keep still 1 }
 {
-    if still {
-        return idle + 1;
-    }
-    idle
+    if still { idle + 1 } else { idle }
 }
 
 // Where the steps of a list led: up to the first that lacks its precondition, or through all of them.

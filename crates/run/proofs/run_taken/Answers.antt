@@ -21,14 +21,14 @@ unfolding run_taken
 returns-in_err-check_sequence c = handed_back _ _ _ _ _ c.from_residual-in_err-check_sequence.ensures.1
     (goes_on _ _ _ c.in_ok-check_set.ensures (goes_on _ _ _ c.in_ok-check_output.ensures (stops _ _ _ c.in_err-check_sequence.ensures)))
 
+pub invariant_of-task : goal.invariant_of-task
+invariant_of-task c = record {
+  some = some_means _ _ (sym c.in_ok-check_set.ensures);
+  known = (sequence_means _ _ (sym c.in_ok-check_sequence.ensures)).1;
+}
+
 pub run_passed-requires : goal.run_passed-requires
-run_passed-requires c =
-    record {
-      taken = c.args.file.now.taken;
-      some = some_means _ _ (sym c.in_ok-check_set.ensures);
-      known = (sequence_means _ _ (sym c.in_ok-check_sequence.ensures)).1;
-      fits = output_means _ _ (sym c.in_ok-check_output.ensures);
-    }
+run_passed-requires c = output_means _ _ (sym c.in_ok-check_output.ensures)
 
 pub returns : goal.returns
 unfolding run_taken

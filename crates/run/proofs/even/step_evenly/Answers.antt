@@ -18,7 +18,7 @@ pub returns-in_default : goal.returns-in_default
 unfolding TriedEvenly
 returns-in_default c =
     let a = c.args in
-    subst (Foretold a.when.now a.goes.now a.by a.course) c.in_default.is c.foretell-even.ensures
+    subst (Foretold a.evens.now.when.now a.evens.now.goes.now a.by a.course) c.in_default.is c.foretell-even.ensures
 
 pub overflow_sub-left : goal.overflow_sub-left
 overflow_sub-left c =
@@ -33,7 +33,7 @@ returns c =
       c.if-course-need-ne0.false,
       (
         c.in-Some.all,
-        subst (Foretold a.when.now a.goes.now a.by a.course) c.in-Some.is c.foretell-even.ensures,
+        subst (Foretold a.evens.now.when.now a.evens.now.goes.now a.by a.course) c.in-Some.is c.foretell-even.ensures,
         λ del add d b e. (
           ap (common a.course) (leave_is d b e refl),
           ap₂ (λ (x y : ℕ). union (common a.course x) y) (leave_is d b e refl) (bring_is d b e refl),

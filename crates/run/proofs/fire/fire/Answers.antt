@@ -15,7 +15,7 @@ use Rattle.run.proofs.fire.fire.Goals.{After-lowest-e}
 pub loop-left-init : goal.loop-left-init
 unfolding actions_of
 loop-left-init c = let p = c.requires in
-    firing_none (omega (arith, c.args.file.now.taken.ranged.effects)) (omega (arith, c.args.file.now.taken.ranged.effects, p.2)) p.0
+    firing_none (omega (arith, c.args.file.now.taken.ranged.effects)) (omega (arith, c.args.file.now.taken.ranged.effects, c.told-fired)) p.0
 
 -- the lowest effect that is left is one of the file's
 named : (c : After-lowest-e) → c.lowest-e.result < c.args.file.now.counts.effects
@@ -28,7 +28,7 @@ pub antecedent-requires : goal.antecedent-requires
 antecedent-requires c = named (goal.at.antecedent-requires c).After-lowest-e
 
 pub firing-t-requires : goal.firing-t-requires
-firing-t-requires c = let p = c.requires in (p.1, p.3)
+firing-t-requires c = c.requires.1
 
 pub offset_bounds-fired-e : goal.offset_bounds-fired-e
 unfolding actions_of
@@ -57,9 +57,6 @@ loop-left-preserved c =
     (ap (having now a.set.0) c.antecedent.ensures))
     c.with_effect-did.ensures c.others-left.ensures.0
 
-pub shape_of-fired : goal.shape_of-fired
-shape_of-fired c = c.loop-left.invariant.changes.long
-
 pub returns : goal.returns
 unfolding fired_by
 returns c =
@@ -69,5 +66,5 @@ returns c =
     let m = c.loop-left.invariant in (
       firing_done m (omega arith),
       changes_done m.changes (omega arith)
-          ∙ ap (λ (n : ℕ). list_over n (λ e. choose (bit e a.by) (fired_in A a.set.0 now e) (get_or a.fired.now e 0))) c.requires.2,
+          ∙ ap (λ (n : ℕ). list_over n (λ e. choose (bit e a.by) (fired_in A a.set.0 now e) (get_or a.fired.now e 0))) c.told-fired,
     )

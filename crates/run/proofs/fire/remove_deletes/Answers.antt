@@ -10,8 +10,8 @@ use Rattle.run.proofs.fire.remove_deletes.Goals as goal
 use Rattle.run.proofs.fire.remove_deletes.Goals.{After-lowest-e}
 
 pub loop-left-init : goal.loop-left-init
-loop-left-init c = let p = c.requires in
-    touches_none (λ x y. without x y) without_twice without_none (omega (arith, c.args.file.now.taken.ranged.effects)) p.0 p.2
+loop-left-init c =
+    touches_none (λ x y. without x y) without_twice without_none (omega (arith, c.args.file.now.taken.ranged.effects)) c.requires c.told-labels
 
 -- the lowest effect that is left is one of the file's
 named : (c : After-lowest-e) → c.lowest-e.result < c.args.file.now.counts.effects
@@ -20,13 +20,6 @@ named c =
 
 pub deleted-requires : goal.deleted-requires
 deleted-requires c = named (goal.at.deleted-requires c).After-lowest-e
-
-pub offset_bounds-fired-e : goal.offset_bounds-fired-e
-offset_bounds-fired-e c = omega (arith, named (goal.at.offset_bounds-fired-e c).After-lowest-e, c.args.file.now.taken.ranged.effects)
-
-pub bounds-fired-e : goal.bounds-fired-e
-bounds-fired-e c =
-    omega (arith, named (goal.at.bounds-fired-e c).After-lowest-e, c.args.file.now.taken.ranged.effects, c.requires.1)
 
 pub strip-requires : goal.strip-requires
 strip-requires c = omega (arith, c.loop-left.invariant.long)
@@ -42,9 +35,9 @@ loop-left-preserved c =
     touches_more (λ x y. without x y) without_twice without_none c.loop-left.invariant c.loop-left-test.true c.lowest-e.ensures
     c.deleted.ensures refl c.strip.ensures c.others-left.ensures.0
 
-pub shape_of-labels : goal.shape_of-labels
-shape_of-labels c = c.loop-left.invariant.long ∙ sym c.requires.2
-
 pub returns : goal.returns
 unfolding removed_by actions_of
 returns c = touches_done (λ x y. without x y) without_twice without_none c.loop-left.invariant (omega arith)
+
+pub bounds-fired-e : goal.bounds-fired-e
+bounds-fired-e c = omega (arith, named (goal.at.bounds-fired-e c).After-lowest-e, c.args.file.now.taken.ranged.effects)

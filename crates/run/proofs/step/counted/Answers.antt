@@ -13,5 +13,5 @@ returns-then-still c = ap (λ (x : ℕ). c.args.idle + x) (sym (keep_held 1 c.if
 pub overflow_add-result : goal.overflow_add-result
 overflow_add-result c = omega (arith, keep_held 1 c.if-still.true, c.requires)
 
-pub returns : goal.returns
-returns c = sym (ap (λ (x : ℕ). c.args.idle + x) (keep_failed _ 1 (is_fails c.if-still.false)) ∙ add-zero _)
+pub returns-else-still : goal.returns-else-still
+returns-else-still c = sym (ap (λ (x : ℕ). c.args.idle + x) (keep_failed _ 1 (is_fails c.if-still.false)) ∙ add-zero _)

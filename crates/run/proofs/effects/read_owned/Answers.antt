@@ -10,11 +10,12 @@ use Rattle.words.specs.Rows.{row_length}
 use Rattle.words.proofs.Spreads.{columns_none, columns_more}
 use Rattle.graph.specs.Format.{actions_of}
 use Rattle.run.proofs.Touches.{owned_one, owned_all}
-use Rattle.run.proofs.fire.read_owned.Goals as goal
-use Rattle.run.proofs.fire.read_owned.Goals.{After-owner-a}
+use Rattle.run.proofs.effects.read_owned.Goals as goal
+use Rattle.run.proofs.effects.read_owned.Goals.{After-owner-a}
 
 pub loop-e-init : goal.loop-e-init
-loop-e-init c = (omega arith, refl, columns_none _ _ _ c.requires)
+unfolding list_over
+loop-e-init c = (omega arith, refl, columns_none row_length (λ e. single ((actions_of c.args.file.now.bytes.now c.args.file.now.counts).owner e)) _ refl)
 
 pub owner-a-requires : goal.owner-a-requires
 owner-a-requires c = c.loop-e-test.true
@@ -22,13 +23,13 @@ owner-a-requires c = c.loop-e-test.true
 -- the row has a word for the owner
 owner_in : (c : After-owner-a) → c.owner-a.result < length c.loop-e.owned
 owner_in c =
-    omega (arith, c.owner-a.ensures.1, c.args.file.now.taken.ranged.actions, c.loop-e.invariant.1, ap length c.requires, length_list_over row_length (λ i. 0))
+    omega (arith, c.owner-a.ensures.1, c.args.file.now.taken.ranged.actions, c.loop-e.invariant.1)
 
 pub offset_bounds-owned-a : goal.offset_bounds-owned-a
 offset_bounds-owned-a c = omega (arith, c.owner-a.ensures.1, c.args.file.now.taken.ranged.actions)
 
 pub bounds-owned-a : goal.bounds-owned-a
-bounds-owned-a c = owner_in (goal.at.bounds-owned-a c).After-owner-a
+bounds-owned-a c = omega (arith, c.owner-a.ensures.1, c.args.file.now.taken.ranged.actions)
 
 pub single-requires : goal.single-requires
 single-requires c = omega (arith, c.loop-e-test.true, c.args.file.now.taken.ranged.effects)
@@ -37,7 +38,7 @@ pub offset_bounds-owned-a-in-loop-e : goal.offset_bounds-owned-a-in-loop-e
 offset_bounds-owned-a-in-loop-e c = omega (arith, c.owner-a.ensures.1, c.args.file.now.taken.ranged.actions)
 
 pub bounds-owned-a-in-loop-e : goal.bounds-owned-a-in-loop-e
-bounds-owned-a-in-loop-e c = owner_in (goal.at.bounds-owned-a-in-loop-e c).After-owner-a
+bounds-owned-a-in-loop-e c = omega (arith, c.owner-a.ensures.1, c.args.file.now.taken.ranged.actions)
 
 pub loop-e-preserved : goal.loop-e-preserved
 loop-e-preserved c =
@@ -48,9 +49,6 @@ loop-e-preserved c =
       columns_more _ l.e _ l.owned _ _ _ l.invariant.2 (ap (λ (x : ℕ). single x) a.ensures.0) c.single.ensures
           (owned_one l.owned a.result c.single.result (owner_in (goal.at.loop-e-preserved c).After-owner-a)),
     )
-
-pub shape_of-owned : goal.shape_of-owned
-shape_of-owned c = c.loop-e.invariant.1
 
 pub returns : goal.returns
 unfolding actions_of
