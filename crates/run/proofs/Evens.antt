@@ -311,6 +311,12 @@ module _ {needs owned when goes list : List ℕ} {from : Walked} where
           (subst (λ (k : ℕ). k < A.count) (sym e) (known_in list known t i h)) free g foretold moves);
     }
 
+    -- at the end of the list
+    pub go_on_done : length list ≤ i → GoesOn needs owned when goes list from (walked w (length list) idle)
+    go_on_done h =
+        let e : i ≡ length list = omega (arith, m.inside) in
+        subst (λ (n : ℕ). GoesOn needs owned when goes list from (walked w n idle)) e m
+
 -- ---- the run of a file, from its start states
 
 pub tells_of : {file : List ℕ} {c : Counts} {needs owned when goes : List ℕ} → Taken file c → needs ≡ list_over c.actions (actions_of file c).pre

@@ -1,7 +1,7 @@
 -- Version 1: loops over the steps of a list, and over the actions whose words they go by.
 -- Assumes nothing.
 use Prim.Native.Nat.{ℕ, zero, suc, ◌+◌, ◌≤◌, ◌<◌}
-use mathlib.Core.Path.{◌≡◌, refl, sym, ap, ap₂, ◌∙◌}
+use mathlib.Core.Path.{◌≡◌, refl, sym, ap, ap₂, subst, ◌∙◌}
 use mathlib.Core.Bool.{Bool, true, false, So}
 use mathlib.Core.Logic.{⊎_elim}
 use mathlib.Core.List.{List}
@@ -111,14 +111,16 @@ module _ {needs leave bring list : List ℕ} {w₀ : ℕ} where
       }
 
     pub walk_done : {idle' : ℕ} → length list ≤ i → idle' ≡ idle + still before left
-        → Walks needs leave bring list w₀ (record { course = w; made = i; idle = idle' })
-    walk_done {idle'} h counted = record {
-      inside = g.inside;
-      course_is = g.course_is;
-      idle_is = counted ∙ g.idle_is;
-      before = g.ready;
-      at = λ l z. omega arith;
-    }
+        → Walks needs leave bring list w₀ (record { course = w; made = length list; idle = idle' })
+    walk_done {idle'} h counted =
+        let e : i ≡ length list = omega (arith, g.inside) in
+        subst (λ (n : ℕ). Walks needs leave bring list w₀ (record { course = w; made = n; idle = idle' })) e (record {
+          inside = g.inside;
+          course_is = g.course_is;
+          idle_is = counted ∙ g.idle_is;
+          before = g.ready;
+          at = λ l z. omega arith;
+        })
 
 -- ---- the words of the actions, so far
 

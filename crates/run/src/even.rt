@@ -80,8 +80,7 @@ pub fn walk_evenly(list: &[u8], evens: &Evens<'_>, from: Walked) -> Walked
 {
     let mut course = from.course;
     let mut idle = from.idle;
-    let mut i = from.made;
-    while i < list.len() {
+    for i in from.made..list.len() {
         let a = byte(list, i);
         let did = step_evenly(course, evens.needs[a], evens.owned[a], evens);
         let Ok(made) = did else {
@@ -93,11 +92,10 @@ pub fn walk_evenly(list: &[u8], evens: &Evens<'_>, from: Walked) -> Walked
         };
         idle = counted(idle, still(course, made.left));
         course = made.course;
-        i += 1;
     }
     Walked {
         course,
-        made: i,
+        made: list.len(),
         idle,
     }
 }

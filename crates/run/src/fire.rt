@@ -159,6 +159,8 @@ fn fire(
 }
 
 // Takes `t` away from the word of each member. Only the members cost time, and where `t` is empty they do not.
+// Kept (point 2): `spread` joins where this takes away. One function would take `|x| x ^ (x & t)` or `|x| x | t`, and each contract with it name what the closure
+// answers in the place of the word.
 fn strip(row: &mut [u64], set: Props, t: u64)
     requires { length row.old ≤ prop_width }
     ensures { row.new ≡ list_over (length row.old) (λ q. W.without (label_in row.old q) (keep (W.bit q set.0) t)) }
@@ -175,6 +177,8 @@ fn strip(row: &mut [u64], set: Props, t: u64)
 }
 
 // Removes the deletes of these effects, each in the states in which it fires.
+// Kept (point 2): one function for this and `join_adds` would take two closures, `|e| file.deleted(e)` and `|labels, set, t| strip(labels, set, t)`, and its
+// contract would speak of what they answer: it is longer than these two.
 fn remove_deletes(file: &View<'_>, by: u64, fired: &[u64; MAX_EFFECTS], labels: &mut [u64; ROW])
     requires { (by < 2 ^ file.now.counts.effects) }
     ensures { labels.new ≡ removed_by (actions_of file.now.bytes.now file.now.counts) by fired.now labels.old }
@@ -222,6 +226,7 @@ fn apply_evenly(course: u64, del: Props, add: Props) -> Stepped
 
 // Whether the rows differ. No way leads out of the loop, so that it takes several words at a time.
 // Kept (point 4): by `!=` of the two arrays, runs in which such steps are made took 1.1 to 1.2 times as long.
+// Kept (point 3): `for (x, y) in xs.iter().zip(ys)` is as fast and no plainer: what it did so far is a fact about what the two iterators still have to give.
 fn differ(xs: &[u64; ROW], ys: &[u64; ROW]) -> bool
     ensures { result ≡ fails (same_rows xs.now ys.now) }
 {
@@ -311,6 +316,7 @@ impl Rows {
     {
         let mut course = from.course;
         let mut idle = from.idle;
+        // Kept (point 3): no `for` over the list, since behind a step that changed something the word leads some steps on.
         let mut i = from.made;
         while i < task.list.len() {
             let did = self.step(

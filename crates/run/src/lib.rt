@@ -7,7 +7,7 @@ mod fire;
 mod step;
 mod task;
 
-ghost use Rattle.std.specs.Prelude.{◌≡◌, ◌≤◌, ◌<◌, ◌^◌, max, length, get_or, position, nat_le};
+ghost use Rattle.std.specs.Prelude.{◌≡◌, ◌≤◌, ◌<◌, ◌^◌, length, get_or, position, nat_le};
 ghost use Rattle.std.proofs.Math.Bool.{So};
 ghost use Rattle.rules.specs.Word.{first};
 ghost use Rattle.rules.specs.Over as O;
@@ -46,12 +46,6 @@ pub struct Ran {
     pub idle: usize,
 }
 
-fn larger(a: u8, b: u8) -> u8
-    ensures { result ≡ max a b }
-{
-    if a < b { b } else { a }
-}
-
 // The greatest number of the list. No way leads out of the loop, so that it takes many numbers at a time.
 // Kept (point 3): by `fold` with `max` the list is looked at one number at a time, and a run of 1000 steps took 1.5 times as long.
 fn greatest(list: &[u8]) -> u8
@@ -59,7 +53,7 @@ fn greatest(list: &[u8]) -> u8
 {
     let mut most = 0u8;
     for &a in list {
-        most = larger(most, a);
+        most = most.max(a);
     }
     most
 }
@@ -123,6 +117,7 @@ fn shared_by_members(file: &View<'_>, set: States) -> Shared
 }
 
 // Version 1: of all start states. No word of the set is looked at, so that the loop takes several states at a time.
+// Kept (point 2): with `shared_by_members` alone, a run of ten steps from all of 64 states took 1.1 times as long.
 fn shared_by_all(file: &View<'_>) -> Shared
     ensures { (result.all ≡ meet_of file.now.counts.states (first file.now.counts.states) (start_of file.now.bytes.now file.now.counts) (first prop_width))
         × (result.some ≡ join_of file.now.counts.states (first file.now.counts.states) (start_of file.now.bytes.now file.now.counts)) }
@@ -170,11 +165,12 @@ fn move_members(set: States, course: u64, out: &mut [u32])
 }
 
 // Version 1: all states move. No word of the set is looked at, so that the loop takes several states at a time.
+// Kept (point 2): with `move_members` alone, a run of ten steps from all of 64 states took 1.3 times as long.
 fn move_all(course: u64, out: &mut [u32])
     ensures { out.new ≡ sets_of (length out.old) (λ s. get_or out.old s 0) (first (length out.old)) course }
 {
-    for s in 0..out.len() {
-        out[s] = came(course, Props(out[s])).0;
+    for x in out.iter_mut() {
+        *x = came(course, Props(*x)).0;
     }
 }
 
@@ -200,6 +196,7 @@ fn lay(file: &View<'_>, set: States, course: u64, out: &mut [u32])
 }
 
 // Version 1: of each action what the steps go by, what it needs, what it leaves and what it brings.
+// Kept (point 6): with the three words of an action in a struct, in one list, runs of 1000 steps took 1.5 to 1.6 times as long.
 fn read_steps(file: &View<'_>, needs: &mut [u64], leave: &mut [u64], bring: &mut [u64])
     requires { So (plain file.now.counts) × PerAction file.now.counts.actions needs.old leave.old bring.old }
     ensures { (needs.new ≡ list_over file.now.counts.actions (actions_of file.now.bytes.now file.now.counts).pre)

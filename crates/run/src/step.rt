@@ -103,8 +103,7 @@ pub fn walk(list: &[u8], needs: &[u64], leave: &[u64], bring: &[u64], from: u64)
     let mut before = 1u64;
     let mut left = 0u64;
     let mut idle = 0;
-    let mut i = 0;
-    while i < list.len() {
+    for i in 0..list.len() {
         idle = counted(idle, still(before, left));
         let a = byte(list, i);
         let did = try_step(course, needs[a], leave[a], bring[a]);
@@ -118,11 +117,10 @@ pub fn walk(list: &[u8], needs: &[u64], leave: &[u64], bring: &[u64], from: u64)
         before = course;
         left = made.left;
         course = made.course;
-        i += 1;
     }
     Walked {
         course,
-        made: i,
+        made: list.len(),
         idle: counted(idle, still(before, left)),
     }
 }

@@ -6,7 +6,7 @@ pub loop-a-init : goal.loop-a-init
 loop-a-init c = most_none
 
 pub loop-a-preserved : goal.loop-a-preserved
-loop-a-preserved c = most_more c.loop-a.invariant (omega arith) c.larger-most.ensures
+loop-a-preserved c = most_more c.loop-a.invariant (omega arith) c.max-most.ensures
 
 pub returns : goal.returns
 returns c = most_done c.loop-a.invariant (omega arith)

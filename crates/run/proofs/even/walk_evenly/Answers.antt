@@ -4,7 +4,7 @@ use native.Mathlib.Omega.{arith}
 use lib.ListN.{length, get_or}
 use Rattle.run.specs.Even.{TriedEvenly}
 use Rattle.run.proofs.Walks.{still_le}
-use Rattle.run.proofs.Evens.{go_on_none, go_on_more}
+use Rattle.run.proofs.Evens.{go_on_none, go_on_more, go_on_done}
 use Rattle.run.proofs.even.walk_evenly.Goals as goal
 use Rattle.run.proofs.even.walk_evenly.Goals.{After-byte-a}
 
@@ -43,12 +43,6 @@ counted-idle-requires c =
     let m = c.loop-i.invariant in
     omega (arith, c.loop-i-test.true, m.few, c.still.ensures, still_le c.loop-i.course c.in-Ok.made.left)
 
-pub overflow_add-i : goal.overflow_add-i
-overflow_add-i c = omega (arith, c.loop-i-test.true)
-
-pub loop-i-smaller : goal.loop-i-smaller
-loop-i-smaller c = omega (arith, c.loop-i-test.true)
-
 pub loop-i-preserved : goal.loop-i-preserved
 loop-i-preserved c =
     let l = c.loop-i in
@@ -60,4 +54,4 @@ loop-i-preserved c =
     (c.counted-idle.ensures ∙ ap (λ (k : ℕ). l.idle + k) c.still.ensures)
 
 pub returns : goal.returns
-returns c = c.loop-i.invariant
+returns c = go_on_done c.loop-i.invariant c.requires.0 c.loop-i-test.false

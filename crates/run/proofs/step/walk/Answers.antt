@@ -48,12 +48,6 @@ returns-in_default c =
     walk_off c.loop-i.invariant c.byte-a.result c.byte-a.ensures.0
     (tried_off _ _ _ _ c.try_step-did.ensures c.in_default.not-Ok) (idle_now (goal.at.returns-in_default c).After-counted-idle)
 
-pub overflow_add-i : goal.overflow_add-i
-overflow_add-i c = omega (arith, c.loop-i-test.true)
-
-pub loop-i-smaller : goal.loop-i-smaller
-loop-i-smaller c = omega (arith, c.loop-i-test.true)
-
 pub loop-i-preserved : goal.loop-i-preserved
 loop-i-preserved c =
     let (free, kept, next) = tried_made _ _ _ _ (sym c.try_step-did.ensures ∙ c.in-Ok.is) in
