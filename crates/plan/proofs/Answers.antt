@@ -16,15 +16,27 @@ use Rattle.rules.specs.Level.{Level, level, never, not_by_depth, first_met, firs
 use Rattle.rules.specs.Plan.{Planned, planned, stuck, descend, plan_at, plan_of, plan_count}
 use Rattle.rules.specs.declared.Shape.{Shape}
 use Rattle.rules.proofs.Tests.{below_of, below_not}
-use Rattle.graph.specs.Verdict.{Verdict, accepted, refused, laid}
+use Rattle.std.specs.Prelude.{Result, IsErrAnd}
+use Rattle.graph.specs.Verdict.{Verdict, accepted, refused, turned_away, and_then, laid}
+use Rattle.graph.specs.declared.refusal.Refusal.{Refusal}
+use Rattle.graph.proofs.Verdicts.{then_refused, handed_on}
+use Rattle.plan.specs.declared.Planned.{Planned as Answer}
 use Rattle.words.specs.Memory.{put_at}
 use Rattle.graph.specs.Checks.{Room}
-use Rattle.plan.specs.Plan.{Made, made, planned_verdict}
+use Rattle.plan.specs.Plan.{Made, plan_verdict, made, planned_verdict}
 
 -- turned away: the number and the place, and no word changes
 pub plan_refused : (v : Verdict (List ℕ)) (number place : ℕ) (w : List ℕ) → v ≡ refused number place → (refused number place ≡ made v) × (w ≡ laid v w)
 unfolding laid made
 plan_refused v number place w e = (sym (ap made e), sym (ap (λ (x : Verdict (List ℕ)). laid x w) e))
+
+-- a chain of checks that ends at one that is refused, and what a plan answers then: `?` hands on that refusal
+pub stops : {X Y : Type 0} (v : Verdict X) (next : X → Verdict Y) (why : Refusal) → turned_away why ≡ v → turned_away why ≡ and_then v next
+stops v next why e = sym (then_refused v next _ _ (sym e))
+
+pub handed_back : (v : Verdict (List ℕ)) (w : List ℕ) (r : Result Answer Refusal) (why : Refusal) → IsErrAnd r (λ x. x ≡ why) → turned_away why ≡ v
+    → (plan_verdict r ≡ made v) × (w ≡ laid v w)
+handed_back v w r why h e = let (answer, memory) = plan_refused v _ _ w (sym e) in (handed_on _ r why h ∙ answer, memory)
 
 abbrev pub given : ℕ → ℕ → Made
 given l k = record { level = l; count = k }

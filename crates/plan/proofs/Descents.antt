@@ -20,8 +20,8 @@ use Rattle.rules.proofs.Layers.{labels_in}
 use Rattle.rules.proofs.Layouts.{props_fit, actions_fit}
 use Rattle.graph.specs.Checks.{Room}
 use Rattle.plan.specs.Search.{listed_actions, listed_shape, Tables, Live, Covers}
-use Rattle.plan.specs.declared.layer.LayerAnswer.{LayerAnswer}
-use Rattle.plan.specs.declared.layer.LayerAnswer.TheVariants as layer
+use Rattle.std.specs.Prelude.{Option, Some, None}
+use Rattle.plan.specs.declared.layer.Marked.{Marked}
 use Rattle.plan.proofs.Counts.{stored, none_left}
 
 -- action layer t lies within the words
@@ -86,32 +86,32 @@ module _ {needs owners adders words needed₀ plan₀ : List ℕ} where
           ∙ ap (λ (x : Covered). on_cover x (λ marks below. descend (listed_actions needs owners adders) words u below (marks ∷ drop t plan)) (stuck (suc u))) (sym q)
 
       -- one layer down
-      pub fall_on : {r : LayerAnswer} {needed' : List ℕ} (marks live' : ℕ)
+      pub fall_on : {r : Option Marked} {needed' : List ℕ} (layer : Marked)
           → Covers (listed_actions needs owners adders) (actions_in (shape_of (domain (listed_actions needs owners adders))) words u) needed r needed'
-          → r ≡ layer.Marked marks live' → length needed' ≡ length needed
-          → Falling needs owners adders words needed₀ plan₀ needed' (set plan u marks) live' u
+          → r ≡ Some layer → length needed' ≡ length needed
+          → Falling needs owners adders words needed₀ plan₀ needed' (set plan u layer.marks) layer.live u
       unfolding on_cover
-      fall_on {r} {needed'} marks live' k e l =
-          let m = subst (λ (x : LayerAnswer). Covers (listed_actions needs owners adders) (actions_in (shape_of (domain (listed_actions needs owners adders)))
+      fall_on {r} {needed'} layer k e l =
+          let m = subst (λ (x : Option Marked). Covers (listed_actions needs owners adders) (actions_in (shape_of (domain (listed_actions needs owners adders)))
           words u) needed x needed') e k in
           record {
             tables = f.tables;
             room = f.room;
             wide = l ∙ f.wide;
             live_in = m.live;
-            long = length-set plan u marks ∙ f.long;
+            long = length-set plan u layer.marks ∙ f.long;
             inside = omega (arith, f.inside);
-            is = step (covered marks needed') m.is
-                ∙ ap (descend (listed_actions needs owners adders) words u needed') (sym (stored plan u t marks s (omega (arith, f.inside, f.long))));
+            is = step (covered layer.marks needed') m.is
+                ∙ ap (descend (listed_actions needs owners adders) words u needed') (sym (stored plan u t layer.marks s (omega (arith, f.inside, f.long))));
           }
 
       -- states are left uncovered
-      pub fall_off : {r : LayerAnswer} {needed' : List ℕ}
+      pub fall_off : {r : Option Marked} {needed' : List ℕ}
           → Covers (listed_actions needs owners adders) (actions_in (shape_of (domain (listed_actions needs owners adders))) words u) needed r needed'
-          → r ≡ layer.Uncovered → stuck (u + 1) ≡ descend (listed_actions needs owners adders) words (length plan₀) needed₀ []
+          → r ≡ None → stuck (u + 1) ≡ descend (listed_actions needs owners adders) words (length plan₀) needed₀ []
       unfolding on_cover
       fall_off {r} {needed'} k e =
-          let m = subst (λ (x : LayerAnswer). Covers (listed_actions needs owners adders) (actions_in (shape_of (domain (listed_actions needs owners adders)))
+          let m = subst (λ (x : Option Marked). Covers (listed_actions needs owners adders) (actions_in (shape_of (domain (listed_actions needs owners adders)))
           words u) needed x needed') e k in
           sym (step uncovered m.is ∙ ap stuck (sym (add-one u)))
 

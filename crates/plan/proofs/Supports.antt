@@ -22,7 +22,7 @@ use Rattle.words.specs.Width.{word_width}
 use Rattle.words.proofs.Lowest.{no_lower}
 use Rattle.plan.specs.Search.{listed_actions, Live, held, took, Turned, LayerLists, Covers}
 use Rattle.plan.specs.declared.layer.Took.{Took}
-use Rattle.plan.specs.declared.layer.LayerAnswer.TheVariants as layer
+use Rattle.std.specs.Prelude.{Some, None}
 use Rattle.plan.proofs.Remaining.{Left, left_all, left_above, left_between, left_on, left_lowest}
 use Rattle.plan.proofs.Searches.{resting, searching, rest_all, rest_to, rest_kept, rest_end, search_effect, search_clear, search_end, pass_to}
 
@@ -166,7 +166,7 @@ module _ {wanted : List ℕ} {among : ℕ} {labels needs owners adders : List �
 
   -- no action is left, and some states are
   pub seek_end : {p : ℕ} {under : List ℕ} {s : Took} {by : ℕ} → Seeking wanted among labels needs owners adders p under s by → by ≤ 0 → (s.left ≡ 0 → ⊥)
-      → Covers (listed_actions needs owners adders) labels wanted layer.Uncovered under
+      → Covers (listed_actions needs owners adders) labels wanted None under
   unfolding listed_actions
   seek_end {p} {under} {s} {by} k h e =
       let z : by ≡ 0 = omega arith in
@@ -178,7 +178,7 @@ module _ {wanted : List ℕ} {among : ℕ} {labels needs owners adders : List �
 
   -- no proposition is left
   pub lay_end : {under : List ℕ} {s : Took} {props : ℕ} → Laying wanted among labels needs owners adders under s props → props ≤ 0
-      → Covers (listed_actions needs owners adders) labels wanted (layer.Marked s.marks s.live) under
+      → Covers (listed_actions needs owners adders) labels wanted (Some (record { marks = s.marks; live = s.live })) under
   unfolding listed_actions
   lay_end {under} {s} {props} l h =
       let z : props ≡ 0 = omega arith in

@@ -1,22 +1,21 @@
 -- The relaxed plan's rule, over the words as found.
-use Rattle.std.specs.Prelude.{ℕ, List, length}
+use Rattle.std.specs.Prelude.{ℕ, List, Result, length}
 use Rattle.rules.specs.Plan.{Planned, planned, stuck, no_level, plan_of, plan_count}
-use Rattle.graph.specs.Verdict.{Verdict, accepted, refused, turned_away, and_then}
+use Rattle.graph.specs.Verdict.{Verdict, accepted, refused, verdict_by, and_then}
 use Rattle.graph.specs.Format.{actions_of}
 use Rattle.graph.specs.File.{file_rule}
 use Rattle.graph.specs.Checks.{asked_rule, graph_rule, output_rule}
 use Rattle.graph.specs.declared.format.Counts.{Counts}
-use Rattle.plan.specs.declared.PlanAnswer.{PlanAnswer}
-use Rattle.plan.specs.declared.PlanAnswer.TheVariants as answer
+use Rattle.graph.specs.declared.refusal.Refusal.{Refusal}
+use Rattle.plan.specs.declared.Planned.{Planned as Answer}
 
 -- 'The answer holds the level, which is the number of words written, and a count.'
 pub record Made : Type 0 where
   pub level : ℕ
   pub count : ℕ
 
-abbrev pub plan_verdict : PlanAnswer → Verdict Made
-plan_verdict (answer.Plan level count) = accepted (record { level = level; count = count })
-plan_verdict (answer.Refused why) = turned_away why
+abbrev pub plan_verdict : Result Answer Refusal → Verdict Made
+plan_verdict r = verdict_by (λ plan. record { level = plan.level; count = plan.marked }) r
 
 -- what the answer says of the words of a plan
 unfoldable pub made : Verdict (List ℕ) → Verdict Made

@@ -1,5 +1,5 @@
 -- The plan's search as the code holds it: what the effects need, whose they are and which add each proposition in three lists, the layer below in lent memory.
-use Rattle.std.specs.Prelude.{ℕ, ◌+◌, ◌^◌, ◌≤◌, ◌<◌, ◌≡◌, false, List, length, get_or}
+use Rattle.std.specs.Prelude.{ℕ, ◌+◌, ◌^◌, ◌≤◌, ◌<◌, ◌≡◌, false, List, Option, Some, None, Result, Ok, Err, length, get_or}
 use Rattle.rules.specs.Test.{same, choose}
 use Rattle.rules.specs.Word.{bit, common, union, without}
 use Rattle.rules.specs.Over.{keep}
@@ -16,10 +16,7 @@ use Rattle.graph.specs.Format.{shape_in}
 use Rattle.graph.specs.Checks.{Room}
 use Rattle.graph.specs.declared.format.Counts.{Counts}
 use Rattle.plan.specs.declared.layer.Took.{Took}
-use Rattle.plan.specs.declared.layer.LayerAnswer.{LayerAnswer}
-use Rattle.plan.specs.declared.layer.LayerAnswer.TheVariants as layer
-use Rattle.plan.specs.declared.descent.Descent.{Descent}
-use Rattle.plan.specs.declared.descent.Descent.TheVariants as descent
+use Rattle.plan.specs.declared.layer.Marked.{Marked}
 
 -- the effects that these lists tell of: what each needs (here all as its antecedent), its action, and of each proposition those that add it; a plan reads
 -- no delete
@@ -90,21 +87,21 @@ pub record Lent (c : Counts) (goal : ℕ) (words needs owners adders needed plan
   pub fits : length plan ≤ length out
 
 -- what a layer's answer says, with what it left in the memory
-abbrev pub covered_as : LayerAnswer → List ℕ → Covered
-covered_as (layer.Marked marks live) under = covered marks under
-covered_as layer.Uncovered under = uncovered
+abbrev pub covered_as : Option Marked → List ℕ → Covered
+covered_as (Some layer) under = covered layer.marks under
+covered_as None under = uncovered
 
 -- and what it tells of the layer below
-abbrev pub LiveAs : LayerAnswer → List ℕ → Type 0
-LiveAs (layer.Marked marks live) under = Live live under
-LiveAs layer.Uncovered under = Unit {0}
+abbrev pub LiveAs : Option Marked → List ℕ → Type 0
+LiveAs (Some layer) under = Live layer.live under
+LiveAs None under = Unit {0}
 
 -- the answer to a layer's search, and the memory that it leaves
-pub record Covers (A : Actions) (labels wanted : List ℕ) (r : LayerAnswer) (under : List ℕ) : Type 0 where
+pub record Covers (A : Actions) (labels wanted : List ℕ) (r : Option Marked) (under : List ℕ) : Type 0 where
   pub is : covered_as r under ≡ cover A labels wanted
   pub live : LiveAs r under
 
 -- what a descent's answer says, with the words it left
-abbrev pub planned_as : Descent → List ℕ → Planned
-planned_as descent.Whole plan = planned plan
-planned_as (descent.Uncovered t) plan = stuck t
+abbrev pub planned_as : Result (Unit {0}) ℕ → List ℕ → Planned
+planned_as (Ok u) plan = planned plan
+planned_as (Err t) plan = stuck t

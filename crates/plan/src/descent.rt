@@ -5,16 +5,9 @@ ghost use Rattle.rules.specs.Over.{all_below};
 ghost use Rattle.rules.specs.Layer.{label_in};
 ghost use Rattle.rules.specs.Plan as P;
 ghost use Rattle.graph.specs.Checks.{Room};
-ghost use Rattle.plan.specs.Search.{listed_actions, listed_shape, Tables, Live, planned_as};
+ghost use Rattle.plan.specs.Search.{listed_actions, listed_shape, Live, planned_as};
 
-use crate::layer::{LayerAnswer, fall};
-
-// The words are whole, or states are left uncovered at this layer.
-#[derive(Clone, Copy)]
-pub enum Descent {
-    Whole,
-    Uncovered(usize),
-}
+use crate::layer::{Effects, fall};
 
 // Whether each need of layer 0 lies within its label. No way leads out of the loop, so that it takes several at a time.
 fn grounded(needed: &[u64], words: &[u64]) -> bool
@@ -28,33 +21,31 @@ fn grounded(needed: &[u64], words: &[u64]) -> bool
     outside == 0
 }
 
-// The layers from the last word of the plan down to layer 0.
+// The layers from the last word of the plan down to layer 0; or where states are left uncovered, the first such layer.
 pub fn descend(
     needed: &mut [u64],
     goal: u32,
     words: &[u64],
-    needs: &[u32],
-    owners: &[u8],
-    adders: &[u64],
+    effects: &Effects<'_>,
     plan: &mut [u32],
-) -> Descent
-    requires { Tables needs.now owners.now adders.now × Room (listed_shape needs.now adders.now) (length plan.old) words.now × (length needed.old ≡ length adders.now) × Live goal needed.old }
+) -> Result<(), usize>
+    requires { Room (listed_shape effects.now.needs.now effects.now.adders.now) (length plan.old) words.now × (length needed.old ≡ length effects.now.adders.now) × Live goal needed.old }
     ensures { planned_as result plan.new
-        ≡ P.descend (listed_actions needs.now owners.now adders.now) words.now (length plan.old) needed.old [] }
+        ≡ P.descend (listed_actions effects.now.needs.now effects.now.owners.now effects.now.adders.now) words.now (length plan.old) needed.old [] }
 {
     let mut live = goal;
     let mut t = plan.len();
     while 0 < t {
         t -= 1;
-        let answer = fall(&mut *needed, live, words, t, needs, owners, adders);
-        let LayerAnswer::Marked(marks, below) = answer else {
-            return Descent::Uncovered(t + 1);
+        let answer = fall(&mut *needed, live, words, t, effects);
+        let Some(layer) = answer else {
+            return Err(t + 1);
         };
-        plan[t] = marks;
-        live = below;
+        plan[t] = layer.marks;
+        live = layer.live;
     }
     if grounded(&*needed, words) {
-        return Descent::Whole;
+        return Ok(());
     }
-    Descent::Uncovered(0)
+    Err(0)
 }

@@ -15,11 +15,20 @@ use words::columns::spread;
 use words::members::{lowest, others};
 use words::sets::{PROP_WIDTH, Props, Set, wide};
 
-// The actions marked and the propositions needed below; or states are left uncovered.
+// What the search goes by: what each effect needs, the action that it is of, and of each proposition the effects that add it.
 #[derive(Clone, Copy)]
-pub enum LayerAnswer {
-    Marked(u32, u32),
-    Uncovered,
+pub struct Effects<'a> {
+    pub needs: &'a [u32],
+    pub owners: &'a [u8],
+    pub adders: &'a [u64],
+    pub ghost tables: { Tables needs.now owners.now adders.now },
+}
+
+// Of a layer all of whose states are covered: the actions marked, and the propositions needed below.
+#[derive(Clone, Copy)]
+pub struct Marked {
+    pub marks: u32,
+    pub live: u32,
 }
 
 // The states still uncovered, the actions marked, and the propositions needed below.
@@ -69,13 +78,11 @@ fn support(
     wanted: &[u64],
     live: u32,
     labels: &[u64],
-    needs: &[u32],
-    owners: &[u8],
-    adders: &[u64],
+    effects: &Effects<'_>,
     under: &mut [u64],
-) -> LayerAnswer
-    requires { LayerLists wanted.now live labels.now needs.now owners.now adders.now × (under.old ≡ list_over (length adders.now) (λ q. 0)) }
-    ensures { Covers (listed_actions needs.now owners.now adders.now) labels.now wanted.now result under.new }
+) -> Option<Marked>
+    requires { LayerLists wanted.now live labels.now effects.now.needs.now effects.now.owners.now effects.now.adders.now × (under.old ≡ list_over (length effects.now.adders.now) (λ q. 0)) }
+    ensures { Covers (listed_actions effects.now.needs.now effects.now.owners.now effects.now.adders.now) labels.now wanted.now result under.new }
 {
     let mut s = Took {
         left: 0,
@@ -93,33 +100,32 @@ fn support(
                 live: s.live,
             },
             p,
-            labels[needs.len() + p],
+            labels[effects.needs.len() + p],
             &mut *under,
         );
-        let mut by = adders[p];
+        let mut by = effects.adders[p];
         while 0 < by {
             if s.left == 0 {
                 continue 'props;
             }
             let e = lowest(by);
-            s = turn(s, owners[e] as usize, labels[e], needs[e], &mut *under);
+            s = turn(
+                s,
+                effects.owners[e] as usize,
+                labels[e],
+                effects.needs[e],
+                &mut *under,
+            );
             by = others(by);
         }
         if s.left != 0 {
-            return LayerAnswer::Uncovered;
+            return None;
         }
     }
-    LayerAnswer::Marked(s.marks, s.live)
-}
-
-// `to` becomes `from`.
-fn replace(to: &mut [u64], from: &[u64])
-    requires { length to.old ≡ length from.now }
-    ensures { to.new ≡ from.now }
-{
-    for i in 0..from.len() {
-        to[i] = from[i];
-    }
+    Some(Marked {
+        marks: s.marks,
+        live: s.live,
+    })
 }
 
 // What is needed becomes what is needed below, by way of the memory `under`.
@@ -127,16 +133,14 @@ fn down(
     needed: &mut [u64],
     live: u32,
     labels: &[u64],
-    needs: &[u32],
-    owners: &[u8],
-    adders: &[u64],
+    effects: &Effects<'_>,
     under: &mut [u64],
-) -> LayerAnswer
-    requires { LayerLists needed.old live labels.now needs.now owners.now adders.now × (under.old ≡ list_over (length adders.now) (λ q. 0)) }
-    ensures { Covers (listed_actions needs.now owners.now adders.now) labels.now needed.old result needed.new }
+) -> Option<Marked>
+    requires { LayerLists needed.old live labels.now effects.now.needs.now effects.now.owners.now effects.now.adders.now × (under.old ≡ list_over (length effects.now.adders.now) (λ q. 0)) }
+    ensures { Covers (listed_actions effects.now.needs.now effects.now.owners.now effects.now.adders.now) labels.now needed.old result needed.new }
 {
-    let answer = support(&*needed, live, labels, needs, owners, adders, &mut *under);
-    replace(&mut *needed, &*under);
+    let answer = support(&*needed, live, labels, effects, &mut *under);
+    needed.copy_from_slice(&*under);
     answer
 }
 
@@ -146,29 +150,19 @@ pub fn fall(
     live: u32,
     words: &[u64],
     t: usize,
-    needs: &[u32],
-    owners: &[u8],
-    adders: &[u64],
-) -> LayerAnswer
-    requires { Tables needs.now owners.now adders.now × Room (listed_shape needs.now adders.now) (t + 1) words.now × (length needed.old ≡ length adders.now) × Live live needed.old }
-    ensures { Covers (listed_actions needs.now owners.now adders.now)
-        (actions_in (shape_of (domain (listed_actions needs.now owners.now adders.now))) words.now t) needed.old result needed.new }
+    effects: &Effects<'_>,
+) -> Option<Marked>
+    requires { Room (listed_shape effects.now.needs.now effects.now.adders.now) (t + 1) words.now × (length needed.old ≡ length effects.now.adders.now) × Live live needed.old }
+    ensures { Covers (listed_actions effects.now.needs.now effects.now.owners.now effects.now.adders.now)
+        (actions_in (shape_of (domain (listed_actions effects.now.needs.now effects.now.owners.now effects.now.adders.now))) words.now t) needed.old result needed.new }
 {
-    let n = adders.len();
+    let n = effects.adders.len();
     let s = Shape {
         props: n,
-        vertices: needs.len() + n,
+        vertices: effects.needs.len() + n,
     };
     let at = layer_start(s, t) + layer_size(n);
     let end = at + layer_size(s.vertices);
     let mut under = [0u64; PROP_WIDTH];
-    down(
-        needed,
-        live,
-        &words[at..end],
-        needs,
-        owners,
-        adders,
-        &mut under[..n],
-    )
+    down(needed, live, &words[at..end], effects, &mut under[..n])
 }

@@ -10,10 +10,8 @@ pub fn count(plan: &[u32]) -> usize
     ensures { result ≡ plan_count plan.now }
 {
     let mut n: usize = 0;
-    let mut i = 0;
-    while i < plan.len() {
-        n += u32::count_ones(plan[i]) as usize;
-        i += 1;
+    for &marks in plan {
+        n += u32::count_ones(marks) as usize;
     }
     n
 }
@@ -23,7 +21,5 @@ pub fn copy(plan: &[u32], out: &mut [u32])
     requires { length plan.now ≤ length out.old }
     ensures { out.new ≡ put_at 0 plan.now out.old }
 {
-    for i in 0..plan.len() {
-        out[i] = plan[i];
-    }
+    out[..plan.len()].copy_from_slice(plan);
 }

@@ -33,9 +33,9 @@ use Rattle.run.specs.Course.{Known, Checked, course, pack, leaves, brings, furth
 use Rattle.run.specs.Run.{end_rule, idle_steps}
 use Rattle.run.specs.Fire.{effects_of, course_in, settled, fired_in, partly, of_effect, of_effects, applied_in, stepped_in, ready_in}
 use Rattle.run.specs.Fire.{evenly, even_answer, told, answer_in, Stepping}
-use Rattle.run.specs.Even.{above, everywhere, untold, goes_of, goes_by, Foretold, Moves, TriedEvenly, Listed, Tells, GoesOn, Led}
-use Rattle.run.specs.declared.even.Even.TheVariants as even
-use Rattle.run.specs.declared.step.Tried.TheVariants as tried
+use Rattle.run.specs.Even.{above, everywhere, untold, goes_of, goes_by, Foretold, Moves, TriedEvenly, Fit, Tells, GoesOn, Led}
+use Rattle.std.specs.Prelude.{Some, None, Ok}
+use Rattle.run.specs.declared.step.Made.{Made}
 use Rattle.run.specs.declared.step.Walked.{Walked}
 use Rattle.run.specs.declared.fire.Stepped.TheVariants as did
 use Rattle.run.proofs.Packs.{up_low, up_high, cut_bit, pack_lt, pack_low, pack_high, halves}
@@ -113,7 +113,7 @@ module _ {A : Actions} {needs owned when goes : List ℕ} (tells : Tells A needs
   unfolding goes_of
   goes_at {e} l = ap (λ (x : List ℕ). get_or x e 0) tells.going ∙ get_d_list_over _ l
 
-  module _ {course : ℕ} (is : course ≡ course_in set now) (g : ℕ) (foretold : Foretold when goes by course (even.Goes g)) where
+  module _ {course : ℕ} (is : course ≡ course_in set now) (g : ℕ) (foretold : Foretold when goes by course (Some g)) where
     -- it tells which of them fire in every state of the set
     fires_all : {e : ℕ} → e < A.effects → everywhere course (A.when e) ≡ same (fired_in A set now e) set
     unfolding everywhere fired_in
@@ -205,7 +205,7 @@ module _ {A : Actions} {needs owned when goes : List ℕ} (tells : Tells A needs
         (step_changed s h e stepped (choose_failed _ _ f ∙ ap did.Changed (sym next_is))))
         (holds_or (same (common course (leaves del add)) course))
 
-  pub even_step : (g : ℕ) → Foretold when goes (get_or owned a 0) course (even.Goes g) → {left next : ℕ}
+  pub even_step : (g : ℕ) → Foretold when goes (get_or owned a 0) course (Some g) → {left next : ℕ}
       → ((del add : ℕ) → del < 2 ^ prop_width → add < 2 ^ prop_width → g ≡ pack add del
       → (left ≡ common course (leaves del add)) × (next ≡ further (leaves del add) (brings del add) course))
       → Stepping A set list labels₀ (settled set next labels) (i + 1) next (idle + still course left)
@@ -239,7 +239,7 @@ pub foretell_none : {when goes : List ℕ} {by w : ℕ} → length when ≤ max_
 foretell_none few inside = record { few = few; joined = members_none inside; part = λ e t. t; told = λ e l t f. absurd (fails_at f t) }
 
 module _ {when goes : List ℕ} {by w left all : ℕ} (m : Foretelling when goes by w left all) where
-  pub foretell_done : left ≤ 0 → Foretold when goes by w (even.Goes all)
+  pub foretell_done : left ≤ 0 → Foretold when goes by w (Some all)
   unfolding Foretold goes_by
   foretell_done h =
       let z : left ≡ 0 = omega arith in (
@@ -257,7 +257,7 @@ module _ {when goes : List ℕ} {by w left all : ℕ} (m : Foretelling when goes
     here : So (bit e left)
     here = subst (λ (i : ℕ). So (bit i left)) (sym at) (lowest_in _ left width_few m.joined.inside some)
 
-    pub foretell_part : So (untold w (get_or when e 0)) → Foretold when goes by w even.Partly
+    pub foretell_part : So (untold w (get_or when e 0)) → Foretold when goes by w None
     unfolding Foretold
     foretell_part t = (e, foretell_lt, m.part e here, t)
 
@@ -283,9 +283,11 @@ module _ {when goes : List ℕ} {by w left all : ℕ} (m : Foretelling when goes
 -- ---- the steps of a list, as far as they are even
 
 -- each number of the list is an action's
-pub listed_known : {A : Actions} {needs owned when goes list : List ℕ} → Listed needs owned when goes list → Tells A needs owned when goes
-    → Known A.count list
-listed_known {A} l t i h = omega (arith, l.known i h, ap length t.needed, length_list_over A.count A.pre)
+pub known_in : {A : Actions} {needs owned when goes : List ℕ} (list : List ℕ) → Known (length needs) list → Tells A needs owned when goes → Known A.count list
+known_in {A} list l t i h = omega (arith, l i h, ap length t.needed, length_list_over A.count A.pre)
+
+pub known_by : {A : Actions} {needs owned when goes : List ℕ} (list : List ℕ) → Tells A needs owned when goes → Known A.count list → Known (length needs) list
+known_by {A} list t known i h = omega (arith, known i h, ap length t.needed, length_list_over A.count A.pre)
 
 abbrev pub walked : ℕ → ℕ → ℕ → Walked
 walked w i idle = record { course = w; made = i; idle = idle }
@@ -294,20 +296,26 @@ module _ {needs owned when goes list : List ℕ} {from : Walked} where
   pub go_on_none : from.idle ≤ from.made → from.made ≤ length list → GoesOn needs owned when goes list from from
   go_on_none few inside = record { few = few; forth = omega arith; inside = inside; on = λ A set labels₀ labels t h s. s }
 
-  module _ {w i idle : ℕ} (m : GoesOn needs owned when goes list from (walked w i idle)) (listed : Listed needs owned when goes list) where
-    pub go_on_more : {a : ℕ} (left : ℕ) {next idle' : ℕ} → i < length list → a ≡ get_or list i 0
-        → TriedEvenly when goes (get_or owned a 0) (get_or needs a 0) w (tried.Made left next) → idle' ≡ idle + still w left
-        → GoesOn needs owned when goes list from (walked next (i + 1) idle')
+  module _ {w i idle : ℕ} (m : GoesOn needs owned when goes list from (walked w i idle)) (known : Known (length needs) list) where
+    pub go_on_more : {a : ℕ} (made : Made) {idle' : ℕ} → i < length list → a ≡ get_or list i 0
+        → TriedEvenly when goes (get_or owned a 0) (get_or needs a 0) w (Ok made) → idle' ≡ idle + still w made.left
+        → GoesOn needs owned when goes list from (walked made.course (i + 1) idle')
     unfolding TriedEvenly Moves
-    go_on_more {a} left {next} h e (free, (g, foretold, moves)) counted = record {
-      few = omega (arith, m.few, counted, still_le w left);
+    go_on_more {a} made h e (free, (g, foretold, moves)) counted = record {
+      few = omega (arith, m.few, counted, still_le w made.left);
       forth = omega (arith, m.forth);
       inside = omega arith;
       on = λ A set labels₀ labels t some s.
-          subst (λ (k : ℕ). Stepping A set list labels₀ (settled set next labels) (i + 1) next k) (sym counted)
+          subst (λ (k : ℕ). Stepping A set list labels₀ (settled set made.course labels) (i + 1) made.course k) (sym counted)
           (even_step t (λ z. omega arith) labels (m.on A set labels₀ labels t some s) h e
-          (subst (λ (k : ℕ). k < A.count) (sym e) (listed_known listed t i h)) free g foretold moves);
+          (subst (λ (k : ℕ). k < A.count) (sym e) (known_in list known t i h)) free g foretold moves);
     }
+
+    -- at the end of the list
+    pub go_on_done : length list ≤ i → GoesOn needs owned when goes list from (walked w (length list) idle)
+    go_on_done h =
+        let e : i ≡ length list = omega (arith, m.inside) in
+        subst (λ (n : ℕ). GoesOn needs owned when goes list from (walked w n idle)) e m
 
 -- ---- the run of a file, from its start states
 
@@ -330,14 +338,12 @@ tells_of {file} {c} taken n o w g =
       del = narrow.del;
     }
 
-pub listed_of : {A : Actions} {needs owned when goes list : List ℕ} → Tells A needs owned when goes → Known A.count list
-    → Listed needs owned when goes list
-listed_of {A} {needs} {owned} {when} t known =
+pub fit_of : {A : Actions} {needs owned when goes : List ℕ} → Tells A needs owned when goes → Fit needs owned when goes
+fit_of {A} {needs} {owned} {when} t =
     let n : length needs ≡ A.count = ap length t.needed ∙ length_list_over A.count A.pre in
     let w : length when ≡ A.effects = ap length t.whens ∙ length_list_over A.effects A.when in
     record {
-      known = λ i h. omega (arith, known i h);
-      room = omega (arith, t.actions, ap length t.own, length_list_over row_length (effects_of A));
+      room = omega (arith, t.actions);
       few = omega (arith, t.effects);
       as_goes = ap length t.going ∙ length_list_over A.effects (goes_of A) ∙ sym w;
       inside = λ a h. subst₂ (λ (x y : ℕ). x < 2 ^ y) (sym (owned_at A t.own (omega (arith, t.actions)))) (sym w) (effects_lt A a);
@@ -355,7 +361,6 @@ module _ {file : List ℕ} {c : Counts} {set : ℕ} {list out : List ℕ} (check
       → GoesOn needs owned when goes list (walked w 0 0) r → Led file c set list needs owned when goes r
   unfolding actions_of
   led_of {w = w} t begins goes_on = record {
-    listed = listed_of t checked.known;
     tells = t;
     steps = λ labels e.
         let long : length labels ≡ row_length = ap length e ∙ length_list_over row_length (start_label c.states (start_of file c)) in

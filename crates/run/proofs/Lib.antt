@@ -14,3 +14,4 @@ pub mod Fires
 pub mod Evens
 pub mod Rows
 pub mod Built
+pub mod Tasks

@@ -5,9 +5,12 @@ use mathlib.Core.Path.{◌≡◌, sym, ap, ap₂, ◌∙◌}
 use mathlib.Core.List.{List}
 use lib.ListN.{length}
 use Rattle.words.specs.Memory.{put_at}
-use Rattle.graph.specs.Verdict.{Verdict, accepted, refused, laid}
-use Rattle.graph.proofs.Verdicts.{laid_refused, laid_accepted}
-use Rattle.run.specs.Run.{Reported, reported}
+use Rattle.std.specs.Prelude.{Result, IsErrAnd}
+use Rattle.graph.specs.Verdict.{Verdict, accepted, refused, turned_away, and_then, laid}
+use Rattle.graph.proofs.Verdicts.{laid_refused, laid_accepted, then_refused, handed_on}
+use Rattle.graph.specs.declared.refusal.Refusal.{Refusal}
+use Rattle.run.specs.declared.Ran.{Ran as Answer}
+use Rattle.run.specs.Run.{Reported, reported, run_verdict}
 
 -- turned away: no number, and nothing is written
 pub reported_refused : (idle : ℕ) (v : Verdict (List ℕ)) (number place : ℕ) (w : List ℕ) → v ≡ refused number place
@@ -31,3 +34,13 @@ reported_accepted idle v ends w w' n k e l i q = (
 pub same_report : {r : Verdict Reported} {w' : List ℕ} (w : List ℕ) {idle idle' : ℕ} {v v' : Verdict (List ℕ)} → idle ≡ idle' → v ≡ v'
     → (r ≡ reported idle v) × (w' ≡ laid v w) → (r ≡ reported idle' v') × (w' ≡ laid v' w)
 same_report w i e h = (h.0 ∙ ap₂ reported i e, h.1 ∙ ap (λ (x : Verdict (List ℕ)). laid x w) e)
+
+-- a chain of checks that ends at one that is refused, and what a run answers then: `?` hands on that refusal
+pub stops : {X Y : Type 0} (v : Verdict X) (next : X → Verdict Y) (why : Refusal) → turned_away why ≡ v → turned_away why ≡ and_then v next
+stops v next why e = sym (then_refused v next _ _ (sym e))
+
+pub handed_back : (idle : ℕ) (v : Verdict (List ℕ)) (w : List ℕ) (r : Result Answer Refusal) (why : Refusal) → IsErrAnd r (λ x. x ≡ why) → turned_away why ≡ v
+    → (run_verdict r ≡ reported idle v) × (w ≡ laid v w)
+handed_back idle v w r why h e =
+    let (answer, memory) = reported_refused idle v _ _ w (sym e) in
+    (handed_on _ r why h ∙ answer, memory)

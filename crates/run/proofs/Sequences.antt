@@ -9,6 +9,12 @@ use native.Mathlib.Nat.{le_trans}
 use native.Mathlib.Numerals.{add-one}
 use native.Mathlib.Omega.{arith}
 use lib.ListN.{length, get_or}
+use Rattle.std.specs.Prelude.{Some, None, position, nat_le}
+use Rattle.std.specs.List.{position_or_len}
+use Rattle.std.proofs.lemmas.Bool.{leb-true, leb-false}
+use Rattle.std.proofs.lemmas.Grind.{common_steps}
+use Rattle.std.proofs.lemmas.List.Quantifiers.{position-Some}
+use Rattle.std.proofs.lemmas.List.Sums.{fails_before_first}
 use Rattle.rules.specs.Test.{fails, below}
 use Rattle.rules.specs.Over.{first_below, greatest}
 use Rattle.rules.proofs.Tests.{choose_held, choose_failed, holds_or, fails_at, below_of, below_at, below_not, below_fails, is_fails}
@@ -16,30 +22,19 @@ use Rattle.rules.proofs.Overs.{below_suc}
 use Rattle.rules.proofs.Firsts.{first_unique, first_before, greatest_at}
 use Rattle.graph.specs.Verdict.{accepted, refused}
 use Rattle.run.specs.Run.{max_steps, first_unknown, numbers_rule, sequence_rule}
-use Rattle.run.specs.Course.{Known, Some}
+use Rattle.run.specs.Course.{Known, Some as SomeOf}
 use Rattle.graph.specs.Checks.{set_rule}
 use Rattle.graph.proofs.Verdicts.{passed_if_not}
 use Rattle.graph.proofs.Ladder.{set_means}
 
--- ---- at index i of n, f holds at all those so far
-
-pub record Holds (f : ℕ → Bool) (n i : ℕ) : Type 0 where
-  pub within : i ≤ n
-  pub is : (k : ℕ) → k < i → So (f k)
-
-pub hold_none : {f : ℕ → Bool} {n : ℕ} → Holds f n 0
-hold_none = record { within = omega arith; is = λ k h. absurd (omega arith) }
-
-pub hold_more : {f : ℕ → Bool} {n i : ℕ} → Holds f n i → i < n → So (f i) → Holds f n (i + 1)
-hold_more {f} {n} {i} h l t = record { within = omega arith; is = λ k m. below_suc t h.is (omega arith) }
-
 -- ---- the numbers of a list, so far all below the number of actions
 
-module _ (actions : ℕ) (list : List ℕ) (i : ℕ) (so_far : Holds (λ k. below (get_or list k 0) actions) (length list) i) where
+module _ (actions : ℕ) (list : List ℕ) (i : ℕ) (inside : i ≤ length list)
+    (so_far : (k : ℕ) → k < i → get_or list k 0 < actions) where
   unknown_first : (i < length list → actions ≤ get_or list i 0) → i ≡ first_unknown actions list
   unfolding first_unknown
   unknown_first at =
-      first_unique so_far.within (λ k h t. fails_at t (so_far.is k h)) (λ l. is_fails (below_not (at l)))
+      first_unique inside (λ k h t. fails_at t (below_of (so_far k h))) (λ l. is_fails (below_not (at l)))
 
   pub unknown_found : i < length list → actions ≤ get_or list i 0 → refused 11 i ≡ numbers_rule actions list
   unfolding numbers_rule
@@ -52,6 +47,18 @@ module _ (actions : ℕ) (list : List ℕ) (i : ℕ) (so_far : Holds (λ k. belo
   none_unknown h =
       let e = unknown_first (λ l. absurd (omega arith)) in
       sym (choose_failed _ _ (is_fails (below_not (subst (λ (x : ℕ). length list ≤ x) e h))))
+
+-- where the first that is not is known, or that there is none
+pub unknown_at : (actions : ℕ) (list : List ℕ) (i : ℕ) → position (λ a. nat_le actions a) list ≡ Some i → refused 11 i ≡ numbers_rule actions list
+unknown_at actions list i e =
+    let (inside, at, before) = position-Some (λ a. nat_le actions a) list i 0 e in
+    unknown_found actions list i (omega arith) (λ k h. leb-false actions (get_or list k 0) (before k h)) inside (leb-true actions (get_or list i 0) at)
+
+pub unknown_none : (actions : ℕ) (list : List ℕ) → position (λ a. nat_le actions a) list ≡ None → accepted tt ≡ numbers_rule actions list
+unknown_none actions list e =
+    let all : length list ≤ position_or_len (λ a. nat_le actions a) list = grind (arith, common_steps) in
+    none_unknown actions list (length list) (omega arith)
+    (λ k h. leb-false actions (get_or list k 0) (fails_before_first (λ a. nat_le actions a) list k 0 (omega arith))) (omega arith)
 
 -- ---- the greatest of the numbers so far
 
@@ -76,11 +83,10 @@ most_done {list} {i} m h = let e : i ≡ length list = omega (arith, m.within) i
 -- where the greatest is known, all are
 pub all_known : (actions : ℕ) (list : List ℕ) → greatest (length list) (λ k. get_or list k 0) < actions → accepted tt ≡ numbers_rule actions list
 all_known actions list h =
-    none_unknown actions list (length list)
-    (record { within = omega arith; is = λ k l. below_of (omega (arith, greatest_at (length list) (λ k. get_or list k 0) l)) }) (omega arith)
+    none_unknown actions list (length list) (omega arith) (λ k l. omega (arith, greatest_at (length list) (λ k. get_or list k 0) l)) (omega arith)
 
 -- a set that passes
-pub some_means : (n set : ℕ) → set_rule n set ≡ accepted tt → Some n set
+pub some_means : (n set : ℕ) → set_rule n set ≡ accepted tt → SomeOf n set
 some_means n set e = let (some, inside) = set_means n set e in record { some = omega arith; inside = inside }
 
 -- a sequence that passes is not too long, and each of its numbers is known

@@ -1,7 +1,7 @@
 -- Version 1: loops over the steps of a list, and over the actions whose words they go by.
 -- Assumes nothing.
 use Prim.Native.Nat.{ℕ, zero, suc, ◌+◌, ◌≤◌, ◌<◌}
-use mathlib.Core.Path.{◌≡◌, refl, sym, ap, ap₂, ◌∙◌}
+use mathlib.Core.Path.{◌≡◌, refl, sym, ap, ap₂, subst, ◌∙◌}
 use mathlib.Core.Bool.{Bool, true, false, So}
 use mathlib.Core.Logic.{⊎_elim}
 use mathlib.Core.List.{List}
@@ -20,8 +20,9 @@ use Rattle.graph.specs.Format.{plain, actions_of}
 use Rattle.graph.specs.File.{Taken}
 use Rattle.graph.specs.declared.format.Counts.{Counts}
 use Rattle.run.specs.Course.{leaves_of, brings_of, further, tried_on, course_at, lack_at, still, still_at, Tables, Walks}
-use Rattle.run.specs.declared.step.Tried.{Tried}
-use Rattle.run.specs.declared.step.Tried.TheVariants as tried
+use Rattle.std.specs.Prelude.{Result, Ok, Err}
+use Rattle.run.specs.declared.step.Made.{Made}
+use Rattle.run.specs.declared.step.Unmade.{Unmade}
 
 -- ---- one step
 
@@ -49,8 +50,8 @@ stills_le leave bring list w (suc i) =
 
 -- what a step that was tried on the word answers
 module _ (w need leave bring : ℕ) where
-  pub tried_made : {left next : ℕ} → tried_on w need leave bring ≡ tried.Made left next
-      → (common w need ≡ 0) × (left ≡ common w leave) × (next ≡ further leave bring w)
+  pub tried_made : {made : Made} → tried_on w need leave bring ≡ Ok made
+      → (common w need ≡ 0) × (made.left ≡ common w leave) × (made.course ≡ further leave bring w)
   unfolding tried_on
   tried_made e = ⊎_elim
       (λ t. let k = sym (choose_held _ t) ∙ e in (same_at t, cc, cc))
@@ -58,9 +59,9 @@ module _ (w need leave bring : ℕ) where
       (holds_or (same (common w need) 0))
 
   -- it was not made
-  pub tried_off : {r : Tried} → r ≡ tried_on w need leave bring → ((left next : ℕ) → r ≡ tried.Made left next → ⊥) → common w need ≡ 0 → ⊥
+  pub tried_off : {r : Result Made Unmade} → r ≡ tried_on w need leave bring → ((made : Made) → r ≡ Ok made → ⊥) → common w need ≡ 0 → ⊥
   unfolding tried_on
-  tried_off {r} e p z = p _ _ (e ∙ choose_held _ (same_of z))
+  tried_off {r} e p z = p _ (e ∙ choose_held _ (same_of z))
 
 -- ---- the loop: the last step made is not counted yet
 
@@ -110,14 +111,16 @@ module _ {needs leave bring list : List ℕ} {w₀ : ℕ} where
       }
 
     pub walk_done : {idle' : ℕ} → length list ≤ i → idle' ≡ idle + still before left
-        → Walks needs leave bring list w₀ (record { course = w; made = i; idle = idle' })
-    walk_done {idle'} h counted = record {
-      inside = g.inside;
-      course_is = g.course_is;
-      idle_is = counted ∙ g.idle_is;
-      before = g.ready;
-      at = λ l z. omega arith;
-    }
+        → Walks needs leave bring list w₀ (record { course = w; made = length list; idle = idle' })
+    walk_done {idle'} h counted =
+        let e : i ≡ length list = omega (arith, g.inside) in
+        subst (λ (n : ℕ). Walks needs leave bring list w₀ (record { course = w; made = n; idle = idle' })) e (record {
+          inside = g.inside;
+          course_is = g.course_is;
+          idle_is = counted ∙ g.idle_is;
+          before = g.ready;
+          at = λ l z. omega arith;
+        })
 
 -- ---- the words of the actions, so far
 

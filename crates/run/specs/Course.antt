@@ -1,6 +1,6 @@
 -- What the steps of a run go by: what some state of the set lacks and what some state of it has, in one word, and, in version 1, what each action makes of
 -- that word.
-use Rattle.std.specs.Prelude.{ℕ, zero, suc, ◌+◌, ◌-◌, ◌*◌, ◌/◌, ◌%◌, ◌^◌, ◌≤◌, ◌<◌, ◌≡◌, List, length, get_or}
+use Rattle.std.specs.Prelude.{ℕ, zero, suc, ◌+◌, ◌-◌, ◌*◌, ◌/◌, ◌%◌, ◌^◌, ◌≤◌, ◌<◌, ◌≡◌, List, Result, Ok, Err, length, get_or}
 use Rattle.rules.specs.Test.{fails, same, below, choose}
 use Rattle.rules.specs.Word.{bit, common, union, without, first}
 use Rattle.rules.specs.Over.{keep, join_of}
@@ -10,10 +10,9 @@ use Rattle.words.specs.Width.{prop_width, word_width}
 use Rattle.graph.specs.File.{Taken}
 use Rattle.graph.specs.declared.format.Counts.{Counts}
 use Rattle.run.specs.declared.step.Walked.{Walked}
-use Rattle.run.specs.declared.step.Tried.{Tried}
-use Rattle.run.specs.declared.step.Tried.TheVariants as tried
-use Rattle.run.specs.declared.step.Change.{Change}
-use Rattle.run.specs.declared.step.Change.TheVariants as change
+use Rattle.run.specs.declared.step.Made.{Made}
+use Rattle.run.specs.declared.step.Unmade.{Unmade}
+use Rattle.run.specs.declared.step.Unmade.TheVariants as unmade
 
 -- every number of the list is below n
 abbrev pub Known : ℕ → List ℕ → Type 0
@@ -76,17 +75,14 @@ further leave bring w = union (common w leave) bring
 
 -- a step with this precondition, which does the same in every state of the set, tried on the word: 'precondition missing', or what is left of the word and
 -- what has become of it
-unfoldable pub tried_on : ℕ → ℕ → ℕ → ℕ → Tried
-tried_on w need leave bring = choose (same (common w need) 0) (tried.Made (common w leave) (further leave bring w)) tried.Missing
+unfoldable pub tried_on : ℕ → ℕ → ℕ → ℕ → Result Made Unmade
+tried_on w need leave bring =
+    choose (same (common w need) 0) (Ok (record { left = common w leave; course = further leave bring w })) (Err unmade.Missing)
 
--- 1 for a step that leaves all of the word, and so changes no state of the set; of a word and of what is left of it
+-- request Eight: 'changed some state of the set, changed none', as a number of idle steps: 1 for a step that leaves all of the word, and so changes no state
+-- of the set; of a word and of what is left of it
 unfoldable pub still : ℕ → ℕ → ℕ
 still w left = keep (fails (below left w)) 1
-
--- request Eight: 'changed some state of the set, changed none', as a number of idle steps
-unfoldable pub idle_by : Change → ℕ
-idle_by change.Some = 0
-idle_by change.None = 1
 
 -- ---- version 1: the steps of a list, whose actions' words stand in three lists
 

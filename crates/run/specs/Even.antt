@@ -1,5 +1,5 @@
 -- Version 2: steps whose effects fire in every state of the set or in none, by the word alone.
-use Rattle.std.specs.Prelude.{ℕ, ◌*◌, ◌%◌, ◌^◌, ◌≤◌, ◌<◌, ◌≡◌, Bool, List, length, get_or}
+use Rattle.std.specs.Prelude.{ℕ, ◌*◌, ◌%◌, ◌^◌, ◌≤◌, ◌<◌, ◌≡◌, Bool, List, Option, Some, None, Result, Ok, Err, length, get_or}
 use Rattle.std.proofs.Math.Bool.{So}
 use Rattle.rules.specs.Test.{◌and◌, fails, same}
 use Rattle.rules.specs.Word.{bit, common}
@@ -15,10 +15,9 @@ use Rattle.graph.specs.declared.format.Counts.{Counts}
 use Rattle.run.specs.Course.{Known, pack, leaves, brings, further}
 use Rattle.run.specs.Fire.{effects_of, settled, Stepping}
 use Rattle.run.specs.declared.step.Walked.{Walked}
-use Rattle.run.specs.declared.step.Tried.{Tried}
-use Rattle.run.specs.declared.step.Tried.TheVariants as tried
-use Rattle.run.specs.declared.even.Even.{Even}
-use Rattle.run.specs.declared.even.Even.TheVariants as even
+use Rattle.run.specs.declared.step.Made.{Made}
+use Rattle.run.specs.declared.step.Unmade.{Unmade}
+use Rattle.run.specs.declared.step.Unmade.TheVariants as unmade
 
 -- a set of propositions, as bits of what some state has
 unfoldable pub above : ℕ → ℕ
@@ -41,10 +40,10 @@ unfoldable pub goes_by : List ℕ → List ℕ → ℕ → ℕ → ℕ
 goes_by when goes by w = join_of (length when) by (λ e. keep (everywhere w (get_or when e 0)) (get_or goes e 0))
 
 -- what the word tells of these effects: what goes by them, and of none is it untold where it fires; or of this one it is
-unfoldable pub Foretold : List ℕ → List ℕ → ℕ → ℕ → Even → Type 0
-Foretold when goes by w (even.Goes g) =
+unfoldable pub Foretold : List ℕ → List ℕ → ℕ → ℕ → Option ℕ → Type 0
+Foretold when goes by w (Some g) =
     (g ≡ goes_by when goes by w) × ((e : ℕ) → e < length when → So (bit e by) → So (fails (untold w (get_or when e 0))))
-Foretold when goes by w even.Partly = (e : ℕ) × (e < length when) × So (bit e by) × So (untold w (get_or when e 0))
+Foretold when goes by w None = (e : ℕ) × (e < length when) × So (bit e by) × So (untold w (get_or when e 0))
 
 -- what becomes of the word where g goes of it: adds and deletes in every state of the set
 unfoldable pub Moves : ℕ → ℕ → ℕ → ℕ → Type 0
@@ -52,16 +51,15 @@ Moves w g left next = (del add : ℕ) → del < 2 ^ prop_width → add < 2 ^ pro
     → (left ≡ common w (leaves del add)) × (next ≡ further (leaves del add) (brings del add) w)
 
 -- a step of these effects, tried on the word
-unfoldable pub TriedEvenly : List ℕ → List ℕ → ℕ → ℕ → ℕ → Tried → Type 0
-TriedEvenly when goes by need w tried.Missing = common w need ≡ 0 → ⊥
-TriedEvenly when goes by need w tried.Partly = Foretold when goes by w even.Partly
-TriedEvenly when goes by need w (tried.Made left next) =
-    (common w need ≡ 0) × ((g : ℕ) × Foretold when goes by w (even.Goes g) × Moves w g left next)
+unfoldable pub TriedEvenly : List ℕ → List ℕ → ℕ → ℕ → ℕ → Result Made Unmade → Type 0
+TriedEvenly when goes by need w (Err unmade.Missing) = common w need ≡ 0 → ⊥
+TriedEvenly when goes by need w (Err unmade.Partly) = Foretold when goes by w None
+TriedEvenly when goes by need w (Ok made) =
+    (common w need ≡ 0) × ((g : ℕ) × Foretold when goes by w (Some g) × Moves w g made.left made.course)
 
 -- lists with a word for each action and for each effect
-pub record Listed (needs owned when goes list : List ℕ) : Type 0 where
-  pub known : Known (length needs) list
-  pub room : length needs ≤ length owned
+pub record Fit (needs owned when goes : List ℕ) : Type 0 where
+  pub room : length needs ≤ row_length
   pub few : length when ≤ max_effects
   pub as_goes : length goes ≡ length when
   pub inside : (a : ℕ) → a < length needs → get_or owned a 0 < 2 ^ length when
@@ -90,7 +88,6 @@ pub record GoesOn (needs owned when goes list : List ℕ) (from r : Walked) : Ty
 
 -- where the word alone led from the start states of a file
 pub record Led (file : List ℕ) (c : Counts) (set : ℕ) (list needs owned when goes : List ℕ) (r : Walked) : Type 0 where
-  pub listed : Listed needs owned when goes list
   pub tells : Tells (actions_of file c) needs owned when goes
   pub steps : (labels : List ℕ) → labels ≡ list_over row_length (start_label c.states (start_of file c))
       → Stepping (actions_of file c) set list labels (settled set r.course labels) r.made r.course r.idle

@@ -10,17 +10,10 @@ use Rattle.rules.specs.Shared.{start_label}
 use Rattle.words.specs.Width.{prop_width}
 use Rattle.words.specs.Rows.{row_length}
 use Rattle.graph.specs.Limits.{max_effects}
-use Rattle.graph.specs.Format.{actions_of}
-use Rattle.graph.specs.File.{Taken}
-use Rattle.graph.specs.declared.format.Counts.{Counts}
 use Rattle.run.specs.Course.{leaves, brings, further}
 use Rattle.run.specs.declared.fire.Fired.{Fired}
 use Rattle.run.specs.declared.fire.Stepped.{Stepped}
 use Rattle.run.specs.declared.fire.Stepped.TheVariants as did
-
--- a row of empty words
-abbrev pub Empty : List ℕ → Type 0
-Empty row = row ≡ list_over row_length (λ i. 0)
 
 -- of each proposition the states whose set has it, of n states with the sets xs
 unfoldable pub labels_of : ℕ → List ℕ → List ℕ
@@ -161,11 +154,3 @@ pub record Stepping (A : Actions) (set : ℕ) (list labels₀ labels : List ℕ)
   pub course_is : course ≡ course_in set labels
   pub idle_is : idle ≡ idle_at A set list labels₀ i
   pub few : idle ≤ i
-
--- what a step goes by: the file's actions, the effects of each of them, and room for the words of each proposition, before a step too, and of each effect
-pub record Rooms (file : List ℕ) (c : Counts) (owned labels before fired : List ℕ) : Type 0 where
-  pub taken : Taken file c
-  pub owned_are : owned ≡ list_over row_length (effects_of (actions_of file c))
-  pub labels_long : length labels ≡ row_length
-  pub before_long : length before ≡ row_length
-  pub fired_long : length fired ≡ max_effects

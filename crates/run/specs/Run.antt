@@ -1,15 +1,15 @@
 -- The rule of a run: what turns it away, in the order of the causes, and what it writes.
-use Rattle.std.specs.Prelude.{ℕ, List, length, get_or}
+use Rattle.std.specs.Prelude.{ℕ, ◌≡◌, List, Result, length, get_or}
 use Rattle.rules.specs.Test.{fails, below, choose}
 use Rattle.rules.specs.Over.{first_below}
 use Rattle.rules.specs.Run.{Ran, ended, lacks, run_of, idle_of}
-use Rattle.graph.specs.Verdict.{Verdict, accepted, refused, turned_away, and_then}
+use Rattle.graph.specs.Verdict.{Verdict, accepted, refused, verdict_by, and_then, laid}
 use Rattle.graph.specs.Format.{actions_of, start_of, counts_in}
 use Rattle.graph.specs.File.{file_rule}
 use Rattle.graph.specs.Checks.{set_rule, output_rule}
 use Rattle.graph.specs.declared.format.Counts.{Counts}
-use Rattle.run.specs.declared.RunAnswer.{RunAnswer}
-use Rattle.run.specs.declared.RunAnswer.TheVariants as answer
+use Rattle.graph.specs.declared.refusal.Refusal.{Refusal}
+use Rattle.run.specs.declared.Ran.{Ran as Answer}
 
 -- 'sequence over 65,535'
 abbrev pub max_steps : ℕ
@@ -67,6 +67,10 @@ unfoldable pub report_rule : List ℕ → ℕ → List ℕ → ℕ → Verdict R
 report_rule file set list room = reported (idle_steps file (counts_in file) set list) (run_rule file set list room)
 
 -- what a run's answer says
-abbrev pub run_verdict : RunAnswer → Verdict Reported
-run_verdict (answer.Ran sets idle) = accepted (record { sets = sets; idle = idle })
-run_verdict (answer.Refused why) = turned_away why
+abbrev pub run_verdict : Result Answer Refusal → Verdict Reported
+run_verdict r = verdict_by (λ ran. record { sets = ran.sets; idle = ran.idle }) r
+
+-- what a run answers and writes that has passed its checks
+abbrev pub Ends : List ℕ → Counts → ℕ → List ℕ → Result Answer Refusal → List ℕ → List ℕ → Type 0
+Ends file c set list r out₀ out =
+    (run_verdict r ≡ reported (idle_steps file c set list) (end_rule file c set list)) × (out ≡ laid (end_rule file c set list) out₀)

@@ -10,42 +10,29 @@ ghost use Rattle.rules.specs.Layer.{label_in};
 ghost use Rattle.words.specs.Width.{prop_width, state_width};
 ghost use Rattle.words.specs.Rows.{row_length};
 ghost use Rattle.words.specs.Memory.{put_at};
-ghost use Rattle.graph.specs.Limits.{max_effects};
 ghost use Rattle.graph.specs.Format.{actions_of};
-ghost use Rattle.graph.specs.File.{Taken};
 ghost use Rattle.run.specs.Fire as F;
-ghost use Rattle.run.specs.Course.{Known};
-ghost use Rattle.run.specs.Fire.{Empty, effects_of, Rooms, set_in, fired_by, of_effect, join_fired, of_effects, removed_by, joined_by, applied_in, stepped_in};
+ghost use Rattle.run.specs.Fire.{effects_of, set_in, fired_by, of_effect, join_fired, of_effects, removed_by, joined_by, applied_in, stepped_in};
 ghost use Rattle.run.specs.Fire.{settled_label, settled, even_answer, next_of, same_rows, told, answer_in, ready_in, labels_at, idle_at, first_lack, Stepping};
-ghost use Rattle.run.specs.Even.{Listed, Tells};
+ghost use Rattle.run.specs.Even.{Tells};
 
+use crate::effects::Evens;
 use crate::even::walk_evenly;
 use crate::step::{Walked, brings, leaves};
+use crate::task::Task;
 use graph::file::byte;
-use graph::format::Counts;
-use graph::read::{added, antecedent, deleted, owner, precondition};
+use graph::limits::MAX_EFFECTS;
+use graph::view::View;
 use words::columns::spread;
 use words::members::{lowest, meet_at, others, single};
 use words::sets::{PROP_WIDTH, Props, Set, States, wide};
 use words::tables::ROW;
 
-// The effects of each action, in a row of empty words.
-pub fn read_owned(file: &[u8], c: Counts, owned: &mut [u64])
-    requires { Taken file.now c × Empty owned.old }
-    ensures { owned.new ≡ list_over row_length (effects_of (actions_of file.now c)) }
-{
-    for e in 0..c.effects {
-        let a = owner(file, c, e);
-        owned[a] = owned[a] | single(e);
-    }
-}
-
 // The states of the set that have all of these propositions.
-fn having(labels: &[u64], set: States, props: Props) -> u64
-    requires { length labels.now ≡ row_length }
+fn having(labels: &[u64; ROW], set: States, props: Props) -> u64
     ensures { result ≡ F.having labels.now set.0 props.0 }
 {
-    meet_at(labels, wide(props.0), set.0)
+    meet_at(&labels[..], wide(props.0), set.0)
 }
 
 // Of proposition p, which the states `label` have: whether some state of the set lacks it, and whether some has it.
@@ -60,8 +47,7 @@ fn literals(label: u64, p: usize, set: States) -> u64
 }
 
 // What some state of the set lacks, and above that what some state of it has.
-fn course_of(labels: &[u64], set: States) -> u64
-    requires { length labels.now ≡ row_length }
+fn course_of(labels: &[u64; ROW], set: States) -> u64
     ensures { result ≡ F.course_in set.0 labels.now }
 {
     let mut course = 0u64;
@@ -73,8 +59,8 @@ fn course_of(labels: &[u64], set: States) -> u64
 
 // The states of the set in which an effect with this antecedent fires. Mostly the course tells it: all of them, or none. Else only what some state lacks is
 // looked at, and of that the labels are kept up, since some state has it.
-fn firing(labels: &[u64], set: States, course: u64, when: u32) -> u64
-    requires { (length labels.now ≡ row_length) × (course ≡ F.course_in set.0 (settled set.0 course labels.now)) }
+fn firing(labels: &[u64; ROW], set: States, course: u64, when: u32) -> u64
+    requires { (course ≡ F.course_in set.0 (settled set.0 course labels.now)) }
     ensures { result ≡ F.having (settled set.0 course labels.now) set.0 when }
 {
     let needed = wide(when);
@@ -104,8 +90,7 @@ fn settled_label(label: u64, p: usize, set: States, course: u64) -> u64
 }
 
 // All labels, of which only those were kept up that differ within the set.
-fn settle(labels: &mut [u64], set: States, course: u64)
-    requires { length labels.old ≡ row_length }
+fn settle(labels: &mut [u64; ROW], set: States, course: u64)
     ensures { labels.new ≡ settled set.0 course labels.old }
 {
     for p in 0..ROW {
@@ -122,14 +107,14 @@ pub struct Fired {
 }
 
 // The same with one effect more, which fires in the states t.
-fn with_effect(did: Fired, file: &[u8], c: Counts, e: usize, t: u64, set: States) -> Fired
-    requires { Taken file.now c × (e < c.effects) }
-    ensures { result ≡ join_fired did (of_effect (actions_of file.now c) set.0 e t) }
+fn with_effect(did: Fired, file: &View<'_>, e: usize, t: u64, set: States) -> Fired
+    requires { (e < file.now.counts.effects) }
+    ensures { result ≡ join_fired did (of_effect (actions_of file.now.bytes.now file.now.counts) set.0 e t) }
 {
     if t == set.0 {
         return Fired {
-            del: did.del | deleted(file, c, e),
-            add: did.add | added(file, c, e),
+            del: did.del | file.deleted(e),
+            add: did.add | file.added(e),
             some: did.some,
         };
     }
@@ -145,18 +130,17 @@ fn with_effect(did: Fired, file: &[u8], c: Counts, e: usize, t: u64, set: States
 
 // In what states of the set each effect of the word `by` fires, and what they do by that.
 fn fire(
-    file: &[u8],
-    c: Counts,
+    file: &View<'_>,
     by: u64,
     set: States,
     course: u64,
-    labels: &[u64],
-    fired: &mut [u64],
+    labels: &[u64; ROW],
+    fired: &mut [u64; MAX_EFFECTS],
 ) -> Fired
-    requires { Taken file.now c × (by < 2 ^ c.effects) × (length labels.now ≡ row_length) × (length fired.old ≡ max_effects)
+    requires { (by < 2 ^ file.now.counts.effects)
         × (course ≡ F.course_in set.0 (settled set.0 course labels.now)) }
-    ensures { (result ≡ of_effects (actions_of file.now c) set.0 by (settled set.0 course labels.now))
-        × (fired.new ≡ fired_by (actions_of file.now c) set.0 by (settled set.0 course labels.now) fired.old) }
+    ensures { (result ≡ of_effects (actions_of file.now.bytes.now file.now.counts) set.0 by (settled set.0 course labels.now))
+        × (fired.new ≡ fired_by (actions_of file.now.bytes.now file.now.counts) set.0 by (settled set.0 course labels.now) fired.old) }
 {
     let mut left = by;
     let mut did = Fired {
@@ -166,15 +150,17 @@ fn fire(
     };
     while 0 < left {
         let e = lowest(left);
-        let t = firing(labels, set, course, antecedent(file, c, e));
+        let t = firing(labels, set, course, file.antecedent(e));
         fired[e] = t;
-        did = with_effect(did, file, c, e, t, set);
+        did = with_effect(did, file, e, t, set);
         left = others(left);
     }
     did
 }
 
 // Takes `t` away from the word of each member. Only the members cost time, and where `t` is empty they do not.
+// Kept (point 2): `spread` joins where this takes away. One function would take `|x| x ^ (x & t)` or `|x| x | t`, and each contract with it name what the closure
+// answers in the place of the word.
 fn strip(row: &mut [u64], set: Props, t: u64)
     requires { length row.old ≤ prop_width }
     ensures { row.new ≡ list_over (length row.old) (λ q. W.without (label_in row.old q) (keep (W.bit q set.0) t)) }
@@ -191,27 +177,29 @@ fn strip(row: &mut [u64], set: Props, t: u64)
 }
 
 // Removes the deletes of these effects, each in the states in which it fires.
-fn remove_deletes(file: &[u8], c: Counts, by: u64, fired: &[u64], labels: &mut [u64])
-    requires { Taken file.now c × (by < 2 ^ c.effects) × (length fired.now ≡ max_effects) × (length labels.old ≡ row_length) }
-    ensures { labels.new ≡ removed_by (actions_of file.now c) by fired.now labels.old }
+// Kept (point 2): one function for this and `join_adds` would take two closures, `|e| file.deleted(e)` and `|labels, set, t| strip(labels, set, t)`, and its
+// contract would speak of what they answer: it is longer than these two.
+fn remove_deletes(file: &View<'_>, by: u64, fired: &[u64; MAX_EFFECTS], labels: &mut [u64; ROW])
+    requires { (by < 2 ^ file.now.counts.effects) }
+    ensures { labels.new ≡ removed_by (actions_of file.now.bytes.now file.now.counts) by fired.now labels.old }
 {
     let mut left = by;
     while 0 < left {
         let e = lowest(left);
-        strip(&mut *labels, Props(deleted(file, c, e)), fired[e]);
+        strip(&mut *labels, Props(file.deleted(e)), fired[e]);
         left = others(left);
     }
 }
 
 // Joins the adds of these effects, each in the states in which it fires.
-fn join_adds(file: &[u8], c: Counts, by: u64, fired: &[u64], labels: &mut [u64])
-    requires { Taken file.now c × (by < 2 ^ c.effects) × (length fired.now ≡ max_effects) × (length labels.old ≡ row_length) }
-    ensures { labels.new ≡ joined_by (actions_of file.now c) by fired.now labels.old }
+fn join_adds(file: &View<'_>, by: u64, fired: &[u64; MAX_EFFECTS], labels: &mut [u64; ROW])
+    requires { (by < 2 ^ file.now.counts.effects) }
+    ensures { labels.new ≡ joined_by (actions_of file.now.bytes.now file.now.counts) by fired.now labels.old }
 {
     let mut left = by;
     while 0 < left {
         let e = lowest(left);
-        spread(&mut *labels, Props(added(file, c, e)), fired[e]);
+        spread(&mut *labels, Props(file.added(e)), fired[e]);
         left = others(left);
     }
 }
@@ -237,8 +225,9 @@ fn apply_evenly(course: u64, del: Props, add: Props) -> Stepped
 }
 
 // Whether the rows differ. No way leads out of the loop, so that it takes several words at a time.
-fn differ(xs: &[u64], ys: &[u64]) -> bool
-    requires { (length xs.now ≡ row_length) × (length ys.now ≡ row_length) }
+// Kept (point 4): by `!=` of the two arrays, runs in which such steps are made took 1.1 to 1.2 times as long.
+// Kept (point 3): `for (x, y) in xs.iter().zip(ys)` is as fast and no plainer: what it did so far is a fact about what the two iterators still have to give.
+fn differ(xs: &[u64; ROW], ys: &[u64; ROW]) -> bool
     ensures { result ≡ fails (same_rows xs.now ys.now) }
 {
     let mut differing = 0u64;
@@ -249,8 +238,7 @@ fn differ(xs: &[u64], ys: &[u64]) -> bool
 }
 
 // What a step did that made `labels` of `before`.
-fn tell(before: &[u64], labels: &[u64], set: States) -> Stepped
-    requires { (length before.now ≡ row_length) × (length labels.now ≡ row_length) }
+fn tell(before: &[u64; ROW], labels: &[u64; ROW], set: States) -> Stepped
     ensures { result ≡ told set.0 before.now labels.now }
 {
     if differ(before, labels) {
@@ -259,205 +247,117 @@ fn tell(before: &[u64], labels: &[u64], set: States) -> Stepped
     Stepped::Unchanged
 }
 
-// A row as it is now.
-fn remember(labels: &[u64], before: &mut [u64])
-    requires { (length labels.now ≡ row_length) × (length before.old ≡ row_length) }
-    ensures { before.new ≡ labels.now }
-{
-    for p in 0..ROW {
-        before[p] = labels[p];
-    }
+// The rows that steps are made on: of each proposition the states that have it, and room for the states in which each effect fires.
+#[derive(Drop)]
+pub struct Rows {
+    pub labels: [u64; ROW],
+    pub fired: [u64; MAX_EFFECTS],
 }
 
-// These effects in every state of the set: each fires by what held before them all, all deletes are removed, then all adds joined. Those that fire in every
-// state of the set are done at once. Where some fire in some states only, the rows before and after are compared: a delete and an add may cancel out.
-fn apply(
-    file: &[u8],
-    c: Counts,
-    by: u64,
-    set: States,
-    course: u64,
-    labels: &mut [u64],
-    before: &mut [u64],
-    fired: &mut [u64],
-) -> Stepped
-    requires { Taken file.now c × (by < 2 ^ c.effects) × (length labels.old ≡ row_length) × (length before.old ≡ row_length)
-        × (length fired.old ≡ max_effects) × (course ≡ F.course_in set.0 (settled set.0 course labels.old)) }
-    ensures { (settled set.0 (next_of course result) labels.new
-        ≡ applied_in (actions_of file.now c) set.0 by (settled set.0 course labels.old))
-        × (result ≡ told set.0 (settled set.0 course labels.old)
-        (applied_in (actions_of file.now c) set.0 by (settled set.0 course labels.old))) }
-{
-    let did = fire(file, c, by, set, course, &*labels, &mut *fired);
-    if did.some == 0 {
-        return apply_evenly(course, Props(did.del), Props(did.add));
-    }
-    settle(&mut *labels, set, course);
-    remember(&*labels, &mut *before);
-    strip(&mut *labels, Props(did.del).without(Props(did.add)), set.0);
-    remove_deletes(file, c, did.some, &*fired, &mut *labels);
-    spread(&mut *labels, Props(did.add), set.0);
-    join_adds(file, c, did.some, &*fired, &mut *labels);
-    tell(&*before, &*labels, set)
-}
-
-// An action in every state of the set, or in none, where some state of the set lacks its precondition.
-fn step_effects(
-    file: &[u8],
-    c: Counts,
-    a: usize,
-    set: States,
-    course: u64,
-    owned: &[u64],
-    labels: &mut [u64],
-    before: &mut [u64],
-    fired: &mut [u64],
-) -> Stepped
-    requires { Rooms file.now c owned.now labels.old before.old fired.old × (a < c.actions)
-        × (course ≡ F.course_in set.0 (settled set.0 course labels.old)) }
-    ensures { (result ≡ answer_in (actions_of file.now c) set.0 a (settled set.0 course labels.old))
-        × (settled set.0 (next_of course result) labels.new
-        ≡ choose (ready_in (actions_of file.now c) set.0 a (settled set.0 course labels.old))
-        (stepped_in (actions_of file.now c) set.0 a (settled set.0 course labels.old))
-        (settled set.0 course labels.old)) }
-{
-    if course & wide(precondition(file, c, a)) != 0 {
-        return Stepped::Missing;
-    }
-    apply(file, c, owned[a], set, course, labels, before, fired)
-}
-
-// How many steps were made, and how many of them changed no state of the set.
-#[derive(Clone, Copy)]
-pub struct Gone {
-    pub made: usize,
-    pub idle: usize,
-}
-
-// The steps of a list, up to the first that lacks its precondition, or through all of them.
-pub fn walk_effects(
-    file: &[u8],
-    c: Counts,
-    set: States,
-    list: &[u8],
-    owned: &[u64],
-    labels: &mut [u64],
-    before: &mut [u64],
-    fired: &mut [u64],
-) -> Gone
-    requires { Rooms file.now c owned.now labels.old before.old fired.old × Known c.actions list.now }
-    ensures { (result.made ≡ first_lack (actions_of file.now c) set.0 list.now labels.old)
-        × (result.idle ≡ idle_at (actions_of file.now c) set.0 list.now labels.old result.made)
-        × (labels.new ≡ labels_at (actions_of file.now c) set.0 list.now labels.old result.made) }
-{
-    let mut course = course_of(&*labels, set);
-    let mut idle = 0;
-    let mut i = 0;
-    while i < list.len() {
-        let a = byte(list, i);
-        let did = step_effects(
-            file,
-            c,
-            a,
-            set,
-            course,
-            owned,
-            &mut *labels,
-            &mut *before,
-            &mut *fired,
-        );
-        i += 1;
-        if let Stepped::Unchanged = did {
-            idle += 1;
-            continue;
+impl Rows {
+    // These effects in every state of the set: each fires by what held before them all, all deletes are removed, then all adds joined. Those that fire in every
+    // state of the set are done at once. Where some fire in some states only, the labels before and after are compared: a delete and an add may cancel out.
+    fn apply(&mut self, file: &View<'_>, by: u64, set: States, course: u64) -> Stepped
+        requires { (by < 2 ^ file.now.counts.effects) × (course ≡ F.course_in set.0 (settled set.0 course self.old.labels)) }
+        ensures { (settled set.0 (next_of course result) self.new.labels
+            ≡ applied_in (actions_of file.now.bytes.now file.now.counts) set.0 by (settled set.0 course self.old.labels))
+            × (result ≡ told set.0 (settled set.0 course self.old.labels)
+            (applied_in (actions_of file.now.bytes.now file.now.counts) set.0 by (settled set.0 course self.old.labels))) }
+    {
+        let did = fire(file, by, set, course, &self.labels, &mut self.fired);
+        if did.some == 0 {
+            return apply_evenly(course, Props(did.del), Props(did.add));
         }
-        let Stepped::Changed(next) = did else {
-            settle(&mut *labels, set, course);
-            return Gone {
-                made: i - 1,
-                idle: idle,
-            };
-        };
-        course = next;
+        settle(&mut self.labels, set, course);
+        let before = self.labels;
+        strip(
+            &mut self.labels,
+            Props(did.del).without(Props(did.add)),
+            set.0,
+        );
+        remove_deletes(file, did.some, &self.fired, &mut self.labels);
+        spread(&mut self.labels, Props(did.add), set.0);
+        join_adds(file, did.some, &self.fired, &mut self.labels);
+        tell(&before, &self.labels, set)
     }
-    settle(&mut *labels, set, course);
-    Gone {
-        made: i,
-        idle: idle,
-    }
-}
 
-// The steps of a list, on from where the word alone led: up to the first that lacks its precondition, or through all of them. Behind a step that changed
-// something the word leads on, as far as it does.
-pub fn walk_effects_on(
-    file: &[u8],
-    c: Counts,
-    set: States,
-    list: &[u8],
-    needs: &[u64],
-    owned: &[u64],
-    when: &[u64],
-    goes: &[u64],
-    from: Walked,
-    labels: &mut [u64],
-    before: &mut [u64],
-    fired: &mut [u64],
-) -> Gone
-    requires { Rooms file.now c owned.now labels.old before.old fired.old × (0 < set.0)
-        × Listed needs.now owned.now when.now goes.now list.now × Tells (actions_of file.now c) needs.now owned.now when.now goes.now
-        × Stepping (actions_of file.now c) set.0 list.now labels.old (settled set.0 from.course labels.old) from.made from.course from.idle }
-    ensures { (result.made ≡ first_lack (actions_of file.now c) set.0 list.now labels.old)
-        × (result.idle ≡ idle_at (actions_of file.now c) set.0 list.now labels.old result.made)
-        × (labels.new ≡ labels_at (actions_of file.now c) set.0 list.now labels.old result.made) }
-{
-    let mut course = from.course;
-    let mut idle = from.idle;
-    let mut i = from.made;
-    while i < list.len() {
-        let a = byte(list, i);
-        let did = step_effects(
-            file,
-            c,
-            a,
-            set,
-            course,
-            owned,
-            &mut *labels,
-            &mut *before,
-            &mut *fired,
-        );
-        i += 1;
-        if let Stepped::Unchanged = did {
-            idle += 1;
-            continue;
+    // An action in every state of the set, or in none, where some state of the set lacks its precondition.
+    fn step(
+        &mut self,
+        file: &View<'_>,
+        owned: &[u64; ROW],
+        a: usize,
+        set: States,
+        course: u64,
+    ) -> Stepped
+        requires { (owned.now ≡ list_over row_length (effects_of (actions_of file.now.bytes.now file.now.counts))) × (a < file.now.counts.actions)
+            × (course ≡ F.course_in set.0 (settled set.0 course self.old.labels)) }
+        ensures { (result ≡ answer_in (actions_of file.now.bytes.now file.now.counts) set.0 a (settled set.0 course self.old.labels))
+            × (settled set.0 (next_of course result) self.new.labels
+            ≡ choose (ready_in (actions_of file.now.bytes.now file.now.counts) set.0 a (settled set.0 course self.old.labels))
+            (stepped_in (actions_of file.now.bytes.now file.now.counts) set.0 a (settled set.0 course self.old.labels))
+            (settled set.0 course self.old.labels)) }
+    {
+        if course & wide(file.precondition(a)) != 0 {
+            return Stepped::Missing;
         }
-        let Stepped::Changed(next) = did else {
-            settle(&mut *labels, set, course);
-            return Gone {
-                made: i - 1,
-                idle: idle,
-            };
-        };
-        let ahead = walk_evenly(
-            list,
-            needs,
-            owned,
-            when,
-            goes,
-            Walked {
-                course: next,
-                made: i,
-                idle: idle,
-            },
-        );
-        course = ahead.course;
-        idle = ahead.idle;
-        i = ahead.made;
+        self.apply(file, owned[a], set, course)
     }
-    settle(&mut *labels, set, course);
-    Gone {
-        made: i,
-        idle: idle,
+
+    // The steps of the list, on from where the word alone led: up to the first that lacks its precondition, or through all of them. Behind a step that changed
+    // something the word leads on, as far as it does.
+    pub fn walk(&mut self, task: &Task<'_>, evens: &Evens<'_>, from: Walked) -> Walked
+        requires { Tells (actions_of task.now.file.bytes.now task.now.file.counts) evens.now.needs.now evens.now.owned.now evens.now.when.now evens.now.goes.now
+            × Stepping (actions_of task.now.file.bytes.now task.now.file.counts) task.now.set.0 task.now.list.now self.old.labels
+            (settled task.now.set.0 from.course self.old.labels) from.made from.course from.idle }
+        ensures { (result.made ≡ first_lack (actions_of task.now.file.bytes.now task.now.file.counts) task.now.set.0 task.now.list.now self.old.labels)
+            × (result.idle ≡ idle_at (actions_of task.now.file.bytes.now task.now.file.counts) task.now.set.0 task.now.list.now self.old.labels result.made)
+            × (self.new.labels ≡ labels_at (actions_of task.now.file.bytes.now task.now.file.counts) task.now.set.0 task.now.list.now self.old.labels result.made) }
+    {
+        let mut course = from.course;
+        let mut idle = from.idle;
+        // Kept (point 3): no `for` over the list, since behind a step that changed something the word leads some steps on.
+        let mut i = from.made;
+        while i < task.list.len() {
+            let did = self.step(
+                &task.file,
+                evens.owned,
+                byte(task.list, i),
+                task.set,
+                course,
+            );
+            i += 1;
+            if let Stepped::Unchanged = did {
+                idle += 1;
+                continue;
+            }
+            let Stepped::Changed(next) = did else {
+                settle(&mut self.labels, task.set, course);
+                return Walked {
+                    course,
+                    made: i - 1,
+                    idle,
+                };
+            };
+            let ahead = walk_evenly(
+                task.list,
+                evens,
+                Walked {
+                    course: next,
+                    made: i,
+                    idle,
+                },
+            );
+            course = ahead.course;
+            idle = ahead.idle;
+            i = ahead.made;
+        }
+        settle(&mut self.labels, task.set, course);
+        Walked {
+            course,
+            made: i,
+            idle,
+        }
     }
 }
 
@@ -470,8 +370,8 @@ fn moved_bit(word: u64, s: usize, p: usize) -> u32
 }
 
 // The set of state s. No way leads out of the loop, so that it takes many words at a time.
-fn set_in(labels: &[u64], s: usize) -> u32
-    requires { (length labels.now ≡ row_length) × (s < state_width) }
+fn set_in(labels: &[u64; ROW], s: usize) -> u32
+    requires { (s < state_width) }
     ensures { result ≡ set_in labels.now s }
 {
     let mut set = 0u32;
@@ -482,8 +382,8 @@ fn set_in(labels: &[u64], s: usize) -> u32
 }
 
 // The sets of all n states, at the front of the output.
-pub fn lay_labels(labels: &[u64], n: usize, out: &mut [u32])
-    requires { (length labels.now ≡ row_length) × (n ≤ state_width) × (n ≤ length out.old) }
+pub fn lay_labels(labels: &[u64; ROW], n: usize, out: &mut [u32])
+    requires { (n ≤ state_width) × (n ≤ length out.old) }
     ensures { out.new ≡ put_at 0 (list_over n (set_in labels.now)) out.old }
 {
     for s in 0..n {

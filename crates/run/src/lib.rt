@@ -5,8 +5,9 @@ mod effects;
 mod even;
 mod fire;
 mod step;
+mod task;
 
-ghost use Rattle.std.specs.Prelude.{◌≡◌, ◌≤◌, ◌<◌, ◌^◌, max, length, get_or};
+ghost use Rattle.std.specs.Prelude.{◌≡◌, ◌≤◌, ◌<◌, ◌^◌, length, get_or, position, nat_le};
 ghost use Rattle.std.proofs.Math.Bool.{So};
 ghost use Rattle.rules.specs.Word.{first};
 ghost use Rattle.rules.specs.Over as O;
@@ -14,27 +15,23 @@ ghost use Rattle.rules.specs.Over.{meet_of, join_of};
 ghost use Rattle.rules.specs.Lists.{list_over};
 ghost use Rattle.words.specs.Width.{prop_width, state_width};
 ghost use Rattle.words.specs.Memory.{put_at};
-ghost use Rattle.words.specs.Rows.{row_length};
-ghost use Rattle.graph.specs.Verdict.{laid};
+ghost use Rattle.graph.specs.Verdict.{laid, verdict};
 ghost use Rattle.graph.specs.Format.{plain, actions_of, start_of};
-ghost use Rattle.graph.specs.File.{Taken};
-ghost use Rattle.graph.specs.Checks.{check_verdict};
-ghost use Rattle.graph.specs.Limits.{max_effects};
-ghost use Rattle.run.specs.Fire.{Empty};
 ghost use Rattle.run.specs.Even.{Led};
-ghost use Rattle.run.specs.Course.{Some, Checked, PerAction, course, leaves_of, brings_of, sets_of};
-ghost use Rattle.run.specs.Run.{numbers_rule, sequence_rule, end_rule, run_taken, run_rule, idle_steps, reported, report_rule, run_verdict};
+ghost use Rattle.run.specs.Course.{Some, PerAction, course, leaves_of, brings_of, sets_of};
+ghost use Rattle.run.specs.Run.{numbers_rule, sequence_rule, end_rule, run_taken, run_rule, idle_steps, Ends, reported, report_rule, run_verdict};
 
-use crate::effects::{read_effects, read_needs};
+use crate::effects::{Evens, read_effects, read_needs, read_owned};
 use crate::even::{lacking, walk_evenly};
-use crate::fire::{lay_labels, read_owned, walk_effects, walk_effects_on};
+use crate::fire::{Rows, lay_labels};
 use crate::step::{Walked, brings, came, leaves, pack, walk};
+use crate::task::Task;
 use graph::checks::{check_output, check_set};
-use graph::file::{FileAnswer, byte, check_file};
-use graph::format::{Counts, PLAIN_VERSION};
+use graph::file::{byte, check_file};
+use graph::format::PLAIN_VERSION;
 use graph::limits::{MAX_ACTIONS, MAX_EFFECTS};
-use graph::read::{added, deleted, lay_starts, precondition, start, start_labels};
-use graph::refusal::{Check, Refusal};
+use graph::refusal::Refusal;
+use graph::view::View;
 use words::members::{lowest, others};
 use words::sets::{PROP_WIDTH, Props, Set, States, wide};
 use words::tables::ROW;
@@ -42,58 +39,51 @@ use words::tables::ROW;
 // The longest list that a run takes.
 const MAX_STEPS: usize = 65535;
 
-// The number of sets written and that of idle steps, or why the run is turned away.
-#[derive(Clone, Copy)]
-pub enum RunAnswer {
-    Ran(usize, usize),
-    Refused(Refusal),
-}
-
-fn larger(a: u8, b: u8) -> u8
-    ensures { result ≡ max a b }
-{
-    if a < b { b } else { a }
+// What a run answers: the number of sets written, and that of idle steps.
+#[derive(Clone, Copy, PartialEq, Eq, Debug)]
+pub struct Ran {
+    pub sets: usize,
+    pub idle: usize,
 }
 
 // The greatest number of the list. No way leads out of the loop, so that it takes many numbers at a time.
+// Kept (point 3): by `fold` with `max` the list is looked at one number at a time, and a run of 1000 steps took 1.5 times as long.
 fn greatest(list: &[u8]) -> u8
     ensures { result ≡ O.greatest (length list.now) (λ i. get_or list.now i 0) }
 {
     let mut most = 0u8;
-    for i in 0..list.len() {
-        most = larger(most, list[i]);
+    for &a in list {
+        most = most.max(a);
     }
     most
 }
 
-// Cause 11, of a list that has a number of A or above.
-fn find_unknown(list: &[u8], actions: usize) -> Check
-    ensures { check_verdict result ≡ numbers_rule actions list.now }
+// The index of the first number of A or above.
+fn first_unknown(list: &[u8], actions: usize) -> Option<usize>
+    ensures { result ≡ position (λ a. nat_le actions a) list.now }
 {
-    for i in 0..list.len() {
-        if actions <= byte(list, i) {
-            return Check::Refused(Refusal::Sequence(i));
-        }
-    }
-    Check::Passed
+    list.iter().position(|&a| actions <= a as usize)
 }
 
 // Cause 11, of a list that is not too long.
-fn check_numbers(list: &[u8], actions: usize) -> Check
-    ensures { check_verdict result ≡ numbers_rule actions list.now }
+fn check_numbers(list: &[u8], actions: usize) -> Result<(), Refusal>
+    ensures { verdict result ≡ numbers_rule actions list.now }
 {
     if (greatest(list) as usize) < actions {
-        return Check::Passed;
+        return Ok(());
     }
-    find_unknown(list, actions)
+    match first_unknown(list, actions) {
+        Some(i) => Err(Refusal::Sequence(i)),
+        None => Ok(()),
+    }
 }
 
 // Cause 11.
-fn check_sequence(list: &[u8], actions: usize) -> Check
-    ensures { check_verdict result ≡ sequence_rule actions list.now }
+fn check_sequence(list: &[u8], actions: usize) -> Result<(), Refusal>
+    ensures { verdict result ≡ sequence_rule actions list.now }
 {
     if MAX_STEPS < list.len() {
-        return Check::Refused(Refusal::Sequence(MAX_STEPS));
+        return Err(Refusal::Sequence(MAX_STEPS));
     }
     check_numbers(list, actions)
 }
@@ -106,16 +96,16 @@ struct Shared {
 }
 
 // Version 1: of the start states of the set. Only the members cost time.
-fn shared_by_members(file: &[u8], c: Counts, set: States) -> Shared
-    requires { Taken file.now c × Some c.states set.0 }
-    ensures { (result.all ≡ meet_of c.states set.0 (start_of file.now c) (first prop_width))
-        × (result.some ≡ join_of c.states set.0 (start_of file.now c)) }
+fn shared_by_members(file: &View<'_>, set: States) -> Shared
+    requires { Some file.now.counts.states set.0 }
+    ensures { (result.all ≡ meet_of file.now.counts.states set.0 (start_of file.now.bytes.now file.now.counts) (first prop_width))
+        × (result.some ≡ join_of file.now.counts.states set.0 (start_of file.now.bytes.now file.now.counts)) }
 {
     let mut left = set.0;
     let mut all = Props::first(PROP_WIDTH).0;
     let mut some = 0u32;
     while 0 < left {
-        let x = start(file, c, lowest(left));
+        let x = file.start(lowest(left));
         all = all & x;
         some = some | x;
         left = others(left);
@@ -127,15 +117,15 @@ fn shared_by_members(file: &[u8], c: Counts, set: States) -> Shared
 }
 
 // Version 1: of all start states. No word of the set is looked at, so that the loop takes several states at a time.
-fn shared_by_all(file: &[u8], c: Counts) -> Shared
-    requires { Taken file.now c }
-    ensures { (result.all ≡ meet_of c.states (first c.states) (start_of file.now c) (first prop_width))
-        × (result.some ≡ join_of c.states (first c.states) (start_of file.now c)) }
+// Kept (point 2): with `shared_by_members` alone, a run of ten steps from all of 64 states took 1.1 times as long.
+fn shared_by_all(file: &View<'_>) -> Shared
+    ensures { (result.all ≡ meet_of file.now.counts.states (first file.now.counts.states) (start_of file.now.bytes.now file.now.counts) (first prop_width))
+        × (result.some ≡ join_of file.now.counts.states (first file.now.counts.states) (start_of file.now.bytes.now file.now.counts)) }
 {
     let mut all = Props::first(PROP_WIDTH).0;
     let mut some = 0u32;
-    for s in 0..c.states {
-        let x = start(file, c, s);
+    for s in 0..file.counts.states {
+        let x = file.start(s);
         all = all & x;
         some = some | x;
     }
@@ -146,14 +136,14 @@ fn shared_by_all(file: &[u8], c: Counts) -> Shared
 }
 
 // Version 1: what some state of the set lacks at the start, and above that what some state of it has.
-fn start_course(file: &[u8], c: Counts, set: States) -> u64
-    requires { Taken file.now c × Some c.states set.0 }
-    ensures { result ≡ course c.states set.0 (start_of file.now c) }
+fn start_course(file: &View<'_>, set: States) -> u64
+    requires { Some file.now.counts.states set.0 }
+    ensures { result ≡ course file.now.counts.states set.0 (start_of file.now.bytes.now file.now.counts) }
 {
-    let shared = if set.0 == States::first(c.states).0 {
-        shared_by_all(file, c)
+    let shared = if set.0 == States::first(file.counts.states).0 {
+        shared_by_all(file)
     } else {
-        shared_by_members(file, c, set)
+        shared_by_members(file, set)
     };
     pack(
         Props::first(PROP_WIDTH).without(Props(shared.all)),
@@ -175,11 +165,12 @@ fn move_members(set: States, course: u64, out: &mut [u32])
 }
 
 // Version 1: all states move. No word of the set is looked at, so that the loop takes several states at a time.
+// Kept (point 2): with `move_members` alone, a run of ten steps from all of 64 states took 1.3 times as long.
 fn move_all(course: u64, out: &mut [u32])
     ensures { out.new ≡ sets_of (length out.old) (λ s. get_or out.old s 0) (first (length out.old)) course }
 {
-    for s in 0..out.len() {
-        out[s] = came(course, Props(out[s])).0;
+    for x in out.iter_mut() {
+        *x = came(course, Props(*x)).0;
     }
 }
 
@@ -196,25 +187,26 @@ fn move_states(set: States, course: u64, out: &mut [u32])
 }
 
 // Version 1: the end sets of all states, at the front of the output.
-fn lay(file: &[u8], c: Counts, set: States, course: u64, out: &mut [u32])
-    requires { Taken file.now c × Some c.states set.0 × (c.states ≤ length out.old) }
-    ensures { out.new ≡ put_at 0 (sets_of c.states (start_of file.now c) set.0 course) out.old }
+fn lay(file: &View<'_>, set: States, course: u64, out: &mut [u32])
+    requires { Some file.now.counts.states set.0 × (file.now.counts.states ≤ length out.old) }
+    ensures { out.new ≡ put_at 0 (sets_of file.now.counts.states (start_of file.now.bytes.now file.now.counts) set.0 course) out.old }
 {
-    lay_starts(file, c, &mut *out);
-    move_states(set, course, &mut out[..c.states]);
+    file.lay_starts(&mut *out);
+    move_states(set, course, &mut out[..file.counts.states]);
 }
 
 // Version 1: of each action what the steps go by, what it needs, what it leaves and what it brings.
-fn read_steps(file: &[u8], c: Counts, needs: &mut [u64], leave: &mut [u64], bring: &mut [u64])
-    requires { Taken file.now c × So (plain c) × PerAction c.actions needs.old leave.old bring.old }
-    ensures { (needs.new ≡ list_over c.actions (actions_of file.now c).pre)
-        × (leave.new ≡ list_over c.actions (leaves_of (actions_of file.now c)))
-        × (bring.new ≡ list_over c.actions (brings_of (actions_of file.now c))) }
+// Kept (point 6): with the three words of an action in a struct, in one list, runs of 1000 steps took 1.5 to 1.6 times as long.
+fn read_steps(file: &View<'_>, needs: &mut [u64], leave: &mut [u64], bring: &mut [u64])
+    requires { So (plain file.now.counts) × PerAction file.now.counts.actions needs.old leave.old bring.old }
+    ensures { (needs.new ≡ list_over file.now.counts.actions (actions_of file.now.bytes.now file.now.counts).pre)
+        × (leave.new ≡ list_over file.now.counts.actions (leaves_of (actions_of file.now.bytes.now file.now.counts)))
+        × (bring.new ≡ list_over file.now.counts.actions (brings_of (actions_of file.now.bytes.now file.now.counts))) }
 {
     for a in 0..needs.len() {
-        let del = Props(deleted(file, c, a));
-        let add = Props(added(file, c, a));
-        needs[a] = wide(precondition(file, c, a));
+        let del = Props(file.deleted(a));
+        let add = Props(file.added(a));
+        needs[a] = wide(file.precondition(a));
         leave[a] = leaves(del, add);
         bring[a] = brings(del, add);
     }
@@ -222,287 +214,163 @@ fn read_steps(file: &[u8], c: Counts, needs: &mut [u64], leave: &mut [u64], brin
 
 // Version 1: the run, through memory for the actions' words. The output is written once the list has ended.
 fn run_in(
-    file: &[u8],
-    c: Counts,
-    set: States,
-    list: &[u8],
+    task: &Task<'_>,
     needs: &mut [u64],
     leave: &mut [u64],
     bring: &mut [u64],
     out: &mut [u32],
-) -> RunAnswer
-    requires { Checked file.now c set.0 list.now out.old × So (plain c) × PerAction c.actions needs.old leave.old bring.old }
-    ensures { (run_verdict result ≡ reported (idle_steps file.now c set.0 list.now) (end_rule file.now c set.0 list.now))
-        × (out.new ≡ laid (end_rule file.now c set.0 list.now) out.old) }
+) -> Result<Ran, Refusal>
+    requires { (task.now.file.counts.states ≤ length out.old) × So (plain task.now.file.counts) × PerAction task.now.file.counts.actions needs.old leave.old bring.old }
+    ensures { Ends task.now.file.bytes.now task.now.file.counts task.now.set.0 task.now.list.now result out.old out.new }
 {
-    read_steps(file, c, &mut *needs, &mut *leave, &mut *bring);
-    let from = start_course(file, c, set);
-    let did = walk(list, &*needs, &*leave, &*bring, from);
-    if did.made < list.len() {
-        return RunAnswer::Refused(Refusal::Precondition(did.made));
+    read_steps(&task.file, &mut *needs, &mut *leave, &mut *bring);
+    let from = start_course(&task.file, task.set);
+    let did = walk(task.list, &*needs, &*leave, &*bring, from);
+    if did.made < task.list.len() {
+        return Err(Refusal::Precondition(did.made));
     }
-    lay(file, c, set, did.course, &mut *out);
-    RunAnswer::Ran(c.states, did.idle)
+    lay(&task.file, task.set, did.course, &mut *out);
+    Ok(Ran {
+        sets: task.file.counts.states,
+        idle: did.idle,
+    })
 }
 
-// Version 1: the run, once every check is passed.
-fn run_plain(file: &[u8], c: Counts, set: States, list: &[u8], out: &mut [u32]) -> RunAnswer
-    requires { Checked file.now c set.0 list.now out.old × So (plain c) }
-    ensures { (run_verdict result ≡ reported (idle_steps file.now c set.0 list.now) (end_rule file.now c set.0 list.now))
-        × (out.new ≡ laid (end_rule file.now c set.0 list.now) out.old) }
+// Version 1: the run.
+fn run_plain(task: &Task<'_>, out: &mut [u32]) -> Result<Ran, Refusal>
+    requires { (task.now.file.counts.states ≤ length out.old) × So (plain task.now.file.counts) }
+    ensures { Ends task.now.file.bytes.now task.now.file.counts task.now.set.0 task.now.list.now result out.old out.new }
 {
-    let a = c.actions;
+    let a = task.file.counts.actions;
     let mut needs = [0u64; MAX_ACTIONS];
     let mut leave = [0u64; MAX_ACTIONS];
     let mut bring = [0u64; MAX_ACTIONS];
-    run_in(
-        file,
-        c,
-        set,
-        list,
-        &mut needs[..a],
-        &mut leave[..a],
-        &mut bring[..a],
-        out,
-    )
+    run_in(task, &mut needs[..a], &mut leave[..a], &mut bring[..a], out)
 }
 
-// Version 2: the run, on from where the word alone led, through memory for the states that have each proposition, now and before a step, and for those in which
-// each effect fires.
-// The output is written once the list has ended.
-fn run_rows_in(
-    file: &[u8],
-    c: Counts,
-    set: States,
-    list: &[u8],
-    needs: &[u64],
-    owned: &[u64],
-    when: &[u64],
-    goes: &[u64],
-    from: Walked,
-    labels: &mut [u64],
-    before: &mut [u64],
-    fired: &mut [u64],
-    out: &mut [u32],
-) -> RunAnswer
-    requires { Checked file.now c set.0 list.now out.old × Empty labels.old × (length before.old ≡ row_length) × (length fired.old ≡ max_effects)
-        × Led file.now c set.0 list.now needs.now owned.now when.now goes.now from }
-    ensures { (run_verdict result ≡ reported (idle_steps file.now c set.0 list.now) (end_rule file.now c set.0 list.now))
-        × (out.new ≡ laid (end_rule file.now c set.0 list.now) out.old) }
-{
-    start_labels(file, c, &mut *labels);
-    let went = walk_effects_on(
-        file,
-        c,
-        set,
-        list,
-        needs,
-        owned,
-        when,
-        goes,
-        from,
-        &mut *labels,
-        &mut *before,
-        &mut *fired,
-    );
-    if went.made < list.len() {
-        return RunAnswer::Refused(Refusal::Precondition(went.made));
-    }
-    lay_labels(&*labels, c.states, &mut *out);
-    RunAnswer::Ran(c.states, went.idle)
-}
-
-// Version 2: the run, on from where the word alone led.
+// Version 2: the run, on from where the word alone led. The output is written once the list has ended.
 fn run_rows(
-    file: &[u8],
-    c: Counts,
-    set: States,
-    list: &[u8],
-    needs: &[u64],
-    owned: &[u64],
-    when: &[u64],
-    goes: &[u64],
+    task: &Task<'_>,
+    evens: &Evens<'_>,
     from: Walked,
     out: &mut [u32],
-) -> RunAnswer
-    requires { Checked file.now c set.0 list.now out.old
-        × Led file.now c set.0 list.now needs.now owned.now when.now goes.now from }
-    ensures { (run_verdict result ≡ reported (idle_steps file.now c set.0 list.now) (end_rule file.now c set.0 list.now))
-        × (out.new ≡ laid (end_rule file.now c set.0 list.now) out.old) }
+) -> Result<Ran, Refusal>
+    requires { (task.now.file.counts.states ≤ length out.old) × Led task.now.file.bytes.now task.now.file.counts task.now.set.0 task.now.list.now
+        evens.now.needs.now evens.now.owned.now evens.now.when.now evens.now.goes.now from }
+    ensures { Ends task.now.file.bytes.now task.now.file.counts task.now.set.0 task.now.list.now result out.old out.new }
 {
-    let mut labels = [0u64; ROW];
-    let mut before = [0u64; ROW];
-    let mut fired = [0u64; MAX_EFFECTS];
-    run_rows_in(
-        file,
-        c,
-        set,
-        list,
-        needs,
-        owned,
-        when,
-        goes,
-        from,
-        &mut labels[..],
-        &mut before[..],
-        &mut fired[..],
-        out,
-    )
-}
-
-// Version 2: the run, through memory for the effects of each action, for the states that have each proposition, now and before a step, and for those in
-// which each effect fires.
-// The output is written once the list has ended.
-fn run_effects_in(
-    file: &[u8],
-    c: Counts,
-    set: States,
-    list: &[u8],
-    owned: &mut [u64],
-    labels: &mut [u64],
-    before: &mut [u64],
-    fired: &mut [u64],
-    out: &mut [u32],
-) -> RunAnswer
-    requires { Checked file.now c set.0 list.now out.old × Empty owned.old × Empty labels.old × (length before.old ≡ row_length)
-        × (length fired.old ≡ max_effects) }
-    ensures { (run_verdict result ≡ reported (idle_steps file.now c set.0 list.now) (end_rule file.now c set.0 list.now))
-        × (out.new ≡ laid (end_rule file.now c set.0 list.now) out.old) }
-{
-    read_owned(file, c, &mut *owned);
-    start_labels(file, c, &mut *labels);
-    let did = walk_effects(
-        file,
-        c,
-        set,
-        list,
-        &*owned,
-        &mut *labels,
-        &mut *before,
-        &mut *fired,
-    );
-    if did.made < list.len() {
-        return RunAnswer::Refused(Refusal::Precondition(did.made));
+    let mut rows = Rows {
+        labels: [0u64; ROW],
+        fired: [0u64; MAX_EFFECTS],
+    };
+    task.file.start_labels(&mut rows.labels);
+    let went = rows.walk(task, evens, from);
+    if went.made < task.list.len() {
+        return Err(Refusal::Precondition(went.made));
     }
-    lay_labels(&*labels, c.states, &mut *out);
-    RunAnswer::Ran(c.states, did.idle)
+    lay_labels(&rows.labels, task.file.counts.states, &mut *out);
+    Ok(Ran {
+        sets: task.file.counts.states,
+        idle: went.idle,
+    })
 }
 
 // Version 2: the run, through memory for what the steps go by. The word alone leads as far as effects fire in every state of the set or in none, mostly to the
 // end; else the states are turned round there.
 fn run_evenly_in(
-    file: &[u8],
-    c: Counts,
-    set: States,
-    list: &[u8],
+    task: &Task<'_>,
     needs: &mut [u64],
-    owned: &mut [u64],
     when: &mut [u64],
     goes: &mut [u64],
     out: &mut [u32],
-) -> RunAnswer
-    requires { Checked file.now c set.0 list.now out.old × (length needs.old ≡ c.actions) × Empty owned.old
-        × (length when.old ≡ c.effects) × (length goes.old ≡ c.effects) }
-    ensures { (run_verdict result ≡ reported (idle_steps file.now c set.0 list.now) (end_rule file.now c set.0 list.now))
-        × (out.new ≡ laid (end_rule file.now c set.0 list.now) out.old) }
+) -> Result<Ran, Refusal>
+    requires { (task.now.file.counts.states ≤ length out.old) × (length needs.old ≡ task.now.file.counts.actions)
+        × (length when.old ≡ task.now.file.counts.effects) × (length goes.old ≡ task.now.file.counts.effects) }
+    ensures { Ends task.now.file.bytes.now task.now.file.counts task.now.set.0 task.now.list.now result out.old out.new }
 {
-    read_needs(file, c, &mut *needs);
-    read_owned(file, c, &mut *owned);
-    read_effects(file, c, &mut *when, &mut *goes);
+    read_needs(&task.file, &mut *needs);
+    let owned = read_owned(&task.file);
+    read_effects(&task.file, &mut *when, &mut *goes);
+    let evens = Evens {
+        needs: &*needs,
+        owned: &owned,
+        when: &*when,
+        goes: &*goes,
+    };
     let led = walk_evenly(
-        list,
-        &*needs,
-        &*owned,
-        &*when,
-        &*goes,
+        task.list,
+        &evens,
         Walked {
-            course: start_course(file, c, set),
+            course: start_course(&task.file, task.set),
             made: 0,
             idle: 0,
         },
     );
-    if led.made < list.len() {
-        if lacking(list, &*needs, led) {
-            return RunAnswer::Refused(Refusal::Precondition(led.made));
+    if led.made < task.list.len() {
+        if lacking(task.list, &evens, led) {
+            return Err(Refusal::Precondition(led.made));
         }
-        return run_rows(
-            file, c, set, list, &*needs, &*owned, &*when, &*goes, led, &mut *out,
-        );
+        return run_rows(task, &evens, led, &mut *out);
     }
-    lay(file, c, set, led.course, &mut *out);
-    RunAnswer::Ran(c.states, led.idle)
+    lay(&task.file, task.set, led.course, &mut *out);
+    Ok(Ran {
+        sets: task.file.counts.states,
+        idle: led.idle,
+    })
 }
 
-// Version 2: the run, once every check is passed.
-fn run_effects(file: &[u8], c: Counts, set: States, list: &[u8], out: &mut [u32]) -> RunAnswer
-    requires { Checked file.now c set.0 list.now out.old }
-    ensures { (run_verdict result ≡ reported (idle_steps file.now c set.0 list.now) (end_rule file.now c set.0 list.now))
-        × (out.new ≡ laid (end_rule file.now c set.0 list.now) out.old) }
+// Version 2: the run.
+fn run_effects(task: &Task<'_>, out: &mut [u32]) -> Result<Ran, Refusal>
+    requires { task.now.file.counts.states ≤ length out.old }
+    ensures { Ends task.now.file.bytes.now task.now.file.counts task.now.set.0 task.now.list.now result out.old out.new }
 {
-    let a = c.actions;
-    let n = c.effects;
+    let a = task.file.counts.actions;
+    let n = task.file.counts.effects;
     let mut needs = [0u64; MAX_ACTIONS];
-    let mut owned = [0u64; ROW];
     let mut when = [0u64; MAX_EFFECTS];
     let mut goes = [0u64; MAX_EFFECTS];
-    run_evenly_in(
-        file,
-        c,
-        set,
-        list,
-        &mut needs[..a],
-        &mut owned[..],
-        &mut when[..n],
-        &mut goes[..n],
-        out,
-    )
+    run_evenly_in(task, &mut needs[..a], &mut when[..n], &mut goes[..n], out)
 }
 
 // The run, once every check is passed. Without a step nothing else need be read.
-fn run_passed(file: &[u8], c: Counts, set: States, list: &[u8], out: &mut [u32]) -> RunAnswer
-    requires { Checked file.now c set.0 list.now out.old }
-    ensures { (run_verdict result ≡ reported (idle_steps file.now c set.0 list.now) (end_rule file.now c set.0 list.now))
-        × (out.new ≡ laid (end_rule file.now c set.0 list.now) out.old) }
+fn run_passed(task: &Task<'_>, out: &mut [u32]) -> Result<Ran, Refusal>
+    requires { task.now.file.counts.states ≤ length out.old }
+    ensures { Ends task.now.file.bytes.now task.now.file.counts task.now.set.0 task.now.list.now result out.old out.new }
 {
-    if list.len() == 0 {
-        lay_starts(file, c, &mut *out);
-        return RunAnswer::Ran(c.states, 0);
+    if task.list.len() == 0 {
+        task.file.lay_starts(&mut *out);
+        return Ok(Ran {
+            sets: task.file.counts.states,
+            idle: 0,
+        });
     }
-    if c.version == PLAIN_VERSION {
-        return run_plain(file, c, set, list, &mut *out);
+    if task.file.counts.version == PLAIN_VERSION {
+        return run_plain(task, &mut *out);
     }
-    run_effects(file, c, set, list, &mut *out)
+    run_effects(task, &mut *out)
 }
 
 // The caller's checks over a file that was taken, then the run.
-fn run_taken(file: &[u8], c: Counts, set: States, list: &[u8], out: &mut [u32]) -> RunAnswer
-    requires { Taken file.now c }
-    ensures { (run_verdict result ≡ reported (idle_steps file.now c set.0 list.now) (run_taken file.now c set.0 list.now (length out.old)))
-        × (out.new ≡ laid (run_taken file.now c set.0 list.now (length out.old)) out.old) }
+fn run_taken(file: &View<'_>, set: States, list: &[u8], out: &mut [u32]) -> Result<Ran, Refusal>
+    ensures { (run_verdict result ≡ reported (idle_steps file.now.bytes.now file.now.counts set.0 list.now) (run_taken file.now.bytes.now file.now.counts set.0 list.now (length out.old)))
+        × (out.new ≡ laid (run_taken file.now.bytes.now file.now.counts set.0 list.now (length out.old)) out.old) }
 {
-    let check = check_set(c.states, set);
-    if let Check::Refused(why) = check {
-        return RunAnswer::Refused(why);
-    }
-    let room = check_output(c.states, out.len());
-    if let Check::Refused(why) = room {
-        return RunAnswer::Refused(why);
-    }
-    let sequence = check_sequence(list, c.actions);
-    if let Check::Refused(why) = sequence {
-        return RunAnswer::Refused(why);
-    }
-    run_passed(file, c, set, list, &mut *out)
+    check_set(file.counts.states, set)?;
+    check_output(file.counts.states, out.len())?;
+    check_sequence(list, file.counts.actions)?;
+    let task = Task {
+        file: *file,
+        set,
+        list,
+    };
+    run_passed(&task, &mut *out)
 }
 
 // Runs the list from each state of the set, writes the N end sets at the front of the output, and counts the idle steps.
-pub fn run(file: &[u8], set: States, list: &[u8], out: &mut [u32]) -> RunAnswer
+pub fn run(file: &[u8], set: States, list: &[u8], out: &mut [u32]) -> Result<Ran, Refusal>
     ensures { (run_verdict result ≡ report_rule file.now set.0 list.now (length out.old))
         × (out.new ≡ laid (run_rule file.now set.0 list.now (length out.old)) out.old) }
 {
-    let taken = check_file(file);
-    match taken {
-        FileAnswer::Taken(c) => run_taken(file, c, set, list, &mut *out),
-        FileAnswer::Refused(why) => RunAnswer::Refused(why),
-    }
+    let view = check_file(file)?;
+    run_taken(&view, set, list, &mut *out)
 }

@@ -1,6 +1,7 @@
 // Version 1: a list of actions, carried out in every state of a set at once. The one effect of an action adds and deletes the same in each of them, so one
 // word tells what all have become: below what some state of the set lacks, above what some state of it has.
 ghost use Rattle.std.specs.Prelude.{◌≡◌, ◌+◌, ◌<◌, ◌^◌};
+ghost use Rattle.rules.specs.Over.{keep};
 ghost use Rattle.words.specs.Width.{word_width};
 ghost use Rattle.run.specs.Course as C;
 
@@ -40,59 +41,49 @@ pub fn came(course: u64, x: Props) -> Props
     x.common(some).union(Props(0xffff_ffff - lacked))
 }
 
-// What came of a single step that was tried on the word: some state of the set lacks its precondition; or some of its effects may fire in a part of the set,
-// which the word does not tell (version 2); or it was made, and this is left of the word, and this has become of it.
-#[derive(Clone, Copy)]
-pub enum Tried {
+// A single step that was made on the word: what is left of the word, and what has become of it. What is left tells what the step changed: no state of the set,
+// if that is all.
+#[derive(Clone, Copy, PartialEq, Eq, Debug)]
+pub struct Made {
+    pub left: u64,
+    pub course: u64,
+}
+
+// Why a step that was tried on the word was not made: some state of the set lacks its precondition; or some of its effects may fire in a part of the set, which
+// the word does not tell (version 2).
+#[derive(Clone, Copy, PartialEq, Eq, Debug)]
+pub enum Unmade {
     Missing,
     Partly,
-    Made(u64, u64),
 }
 
 // A step that leaves and brings this in every state of the set.
-pub fn try_step(course: u64, need: u64, leave: u64, bring: u64) -> Tried
+pub fn try_step(course: u64, need: u64, leave: u64, bring: u64) -> Result<Made, Unmade>
     ensures { result ≡ C.tried_on course need leave bring }
 {
     if course & need != 0 {
-        return Tried::Missing;
+        return Err(Unmade::Missing);
     }
     let left = course & leave;
-    Tried::Made(left, left | bring)
+    Ok(Made {
+        left,
+        course: left | bring,
+    })
 }
 
-// What a step that was made changed: some state of the set, or none.
-#[derive(Clone, Copy)]
-pub enum Change {
-    Some,
-    None,
-}
-
-// 1 for a step that leaves all of the word. What is left is never more, and so compared costs least.
-fn still(course: u64, left: u64) -> usize
-    ensures { result ≡ C.still course left }
+// Whether a step leaves all of the word. What is left is never more, and so compared costs least.
+pub fn still(course: u64, left: u64) -> bool
+    ensures { keep result 1 ≡ C.still course left }
 {
-    if course <= left { 1 } else { 0 }
+    course <= left
 }
 
-// Of a word, and of what a step left of it.
-pub fn change_of(course: u64, left: u64) -> Change
-    ensures { C.idle_by result ≡ C.still course left }
+// The number of idle steps, with one more if this one is.
+pub fn counted(idle: usize, still: bool) -> usize
+    requires { idle + keep still 1 < 2 ^ word_width }
+    ensures { result ≡ idle + keep still 1 }
 {
-    if still(course, left) == 1 {
-        return Change::None;
-    }
-    Change::Some
-}
-
-// The number of idle steps, with one more.
-pub fn counted(idle: usize, last: Change) -> usize
-    requires { idle + C.idle_by last < 2 ^ word_width }
-    ensures { result ≡ idle + C.idle_by last }
-{
-    if let Change::None = last {
-        return idle + 1;
-    }
-    idle
+    if still { idle + 1 } else { idle }
 }
 
 // Where the steps of a list led: up to the first that lacks its precondition, or through all of them.
@@ -112,26 +103,24 @@ pub fn walk(list: &[u8], needs: &[u64], leave: &[u64], bring: &[u64], from: u64)
     let mut before = 1u64;
     let mut left = 0u64;
     let mut idle = 0;
-    let mut i = 0;
-    while i < list.len() {
-        idle = counted(idle, change_of(before, left));
+    for i in 0..list.len() {
+        idle = counted(idle, still(before, left));
         let a = byte(list, i);
         let did = try_step(course, needs[a], leave[a], bring[a]);
-        let Tried::Made(kept, next) = did else {
+        let Ok(made) = did else {
             return Walked {
-                course: course,
+                course,
                 made: i,
-                idle: idle,
+                idle,
             };
         };
         before = course;
-        left = kept;
-        course = next;
-        i += 1;
+        left = made.left;
+        course = made.course;
     }
     Walked {
-        course: course,
-        made: i,
-        idle: counted(idle, change_of(before, left)),
+        course,
+        made: list.len(),
+        idle: counted(idle, still(before, left)),
     }
 }

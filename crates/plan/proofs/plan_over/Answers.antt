@@ -26,52 +26,50 @@ use Rattle.plan.proofs.plan_over.Goals as goal
 use Rattle.plan.proofs.plan_over.Goals.{After-first_met-t, Else-depth-t}
 
 pub first_met-t-requires : goal.first_met-t-requires
-first_met-t-requires c = subst (λ (S : Shape). Room S c.args.depth c.args.words.now) (sym c.shape.ensures) c.requires.1
+first_met-t-requires c = subst (λ (S : Shape). Room S c.args.depth c.args.words.now) (sym c.shape.ensures) c.requires.0
 
 -- the level that was found is that of the file's graph
 met : (c : After-first_met-t)
     → let a = c.args in
-    c.first_met-t.result ≡ first_met (shape_of (domain (actions_of a.file.now a.c))) a.depth a.set.0 a.goal.0 a.words.now
+    c.first_met-t.result ≡ first_met (shape_of (domain (actions_of a.file.now.bytes.now a.file.now.counts))) a.depth a.set.0 a.goal.0 a.words.now
 met c =
     let a = c.args in
     c.first_met-t.ensures
-    ∙ ap (λ (S : Shape). first_met S a.depth a.set.0 a.goal.0 a.words.now) (c.shape.ensures ∙ sym (shape_is a.file.now a.c))
+    ∙ ap (λ (S : Shape). first_met S a.depth a.set.0 a.goal.0 a.words.now) (c.shape.ensures ∙ sym (shape_is a.file.now.bytes.now a.file.now.counts))
 
 pub returns-then-depth-t : goal.returns-then-depth-t
 returns-then-depth-t c = plan_refused _ _ _ _ (no_level_lem _ _ _ _ _ _ (met (goal.at.returns-then-depth-t c).After-first_met-t) c.if-depth-t.true)
 
 -- the plan's words are as many as the level
 long : (c : Else-depth-t) → length {A = ℕ} (take c.first_met-t.result (replicate max_depth 0)) ≡ c.first_met-t.result
-long c = length-take-le {A = ℕ} c.first_met-t.result (replicate max_depth 0) (le_trans c.if-depth-t.false c.requires.1.deep)
+long c = length-take-le {A = ℕ} c.first_met-t.result (replicate max_depth 0) (le_trans c.if-depth-t.false c.requires.0.deep)
 
 pub slice_bounds-plan_in-end : goal.slice_bounds-plan_in-end
-slice_bounds-plan_in-end c = sym (length-take-le _ _ (omega (arith, c.requires.0.ranged.effects)))
+slice_bounds-plan_in-end c = sym (length-take-le _ _ (omega (arith, c.args.file.now.taken.ranged.effects)))
 
 pub slice_bounds-plan_in-end-2 : goal.slice_bounds-plan_in-end-2
-slice_bounds-plan_in-end-2 c = sym (length-take-le _ _ (omega (arith, c.requires.0.ranged.effects)))
+slice_bounds-plan_in-end-2 c = sym (length-take-le _ _ (omega (arith, c.args.file.now.taken.ranged.effects)))
 
 pub slice_bounds-plan_in-end-3 : goal.slice_bounds-plan_in-end-3
-slice_bounds-plan_in-end-3 c = sym (length-take-le _ _ (omega (arith, c.requires.0.ranged.props)))
+slice_bounds-plan_in-end-3 c = sym (length-take-le _ _ (omega (arith, c.args.file.now.taken.ranged.props)))
 
 pub slice_bounds-plan_in-end-4 : goal.slice_bounds-plan_in-end-4
-slice_bounds-plan_in-end-4 c = sym (length-take-le _ _ (omega (arith, c.requires.0.ranged.props)))
+slice_bounds-plan_in-end-4 c = sym (length-take-le _ _ (omega (arith, c.args.file.now.taken.ranged.props)))
 
 pub slice_bounds-plan_in-end-5 : goal.slice_bounds-plan_in-end-5
 slice_bounds-plan_in-end-5 c = sym (long (goal.at.slice_bounds-plan_in-end-5 c).Else-depth-t)
 
 pub plan_in-requires : goal.plan_in-requires
-plan_in-requires c = (
-  c.requires.0,
-  record {
-    room = room_deep _ (long (goal.at.plan_in-requires c).Else-depth-t) (fewer c.requires.1 _ c.if-depth-t.false);
-    goal_in = c.requires.2;
-    each_need = length-take-le _ _ (omega (arith, c.requires.0.ranged.effects));
-    each_owner = length-take-le _ _ (omega (arith, c.requires.0.ranged.effects));
-    each_prop = zeros _ prop_width c.requires.0.ranged.props;
-    nothing = zeros _ prop_width c.requires.0.ranged.props;
-    fits = le_trans (le_of_eq (long (goal.at.plan_in-requires c).Else-depth-t)) (le_trans c.if-depth-t.false c.requires.3);
-  },
-)
+plan_in-requires c =
+    record {
+      room = room_deep _ (long (goal.at.plan_in-requires c).Else-depth-t) (fewer c.requires.0 _ c.if-depth-t.false);
+      goal_in = c.requires.1;
+      each_need = length-take-le _ _ (omega (arith, c.args.file.now.taken.ranged.effects));
+      each_owner = length-take-le _ _ (omega (arith, c.args.file.now.taken.ranged.effects));
+      each_prop = zeros _ prop_width c.args.file.now.taken.ranged.props;
+      nothing = zeros _ prop_width c.args.file.now.taken.ranged.props;
+      fits = le_trans (le_of_eq (long (goal.at.plan_in-requires c).Else-depth-t)) (le_trans c.if-depth-t.false c.requires.2);
+    }
 
 pub returns : goal.returns
 unfolding actions_of
@@ -79,7 +77,7 @@ returns c =
     let a = c.args in
     equal_rule_lem a.out.now _ _
     (ap (planned_verdict a.depth)
-    (ap (λ (x : ℕ). descend (actions_of a.file.now a.c) a.words.now x (list_over a.c.props (λ p. keep (bit p a.goal.0) a.set.0)) [])
+    (ap (λ (x : ℕ). descend (actions_of a.file.now.bytes.now a.file.now.counts) a.words.now x (list_over a.file.now.counts.props (λ p. keep (bit p a.goal.0) a.set.0)) [])
     (long (goal.at.returns c).Else-depth-t)
-    ∙ at_level (actions_of a.file.now a.c) a.depth a.set.0 a.goal.0 a.words.now _ (met (goal.at.returns c).After-first_met-t) c.if-depth-t.false))
+    ∙ at_level (actions_of a.file.now.bytes.now a.file.now.counts) a.depth a.set.0 a.goal.0 a.words.now _ (met (goal.at.returns c).After-first_met-t) c.if-depth-t.false))
     (c.plan_in.ensures a.depth)

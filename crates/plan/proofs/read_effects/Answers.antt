@@ -14,7 +14,7 @@ use Rattle.plan.proofs.read_effects.Goals as goal
 
 pub columns_of_square-requires : goal.columns_of_square-requires
 columns_of_square-requires c =
-    (omega (arith, ap length c.requires.3, length_list_over c.args.c.props (λ p. 0), c.requires.0.ranged.props), search rules)
+    (omega (arith, ap length c.requires.2, length_list_over c.args.file.now.counts.props (λ p. 0), c.args.file.now.taken.ranged.props), search rules)
 
 pub returns : goal.returns
 returns c =
@@ -23,6 +23,6 @@ returns c =
       did.0,
       did.1,
       c.columns_of_square.ensures
-          ∙ square_adders a.c.props a.c.effects (actions_of a.file.now a.c).add a.adders.now (replicate {A = ℕ} prop_width 0) _
-          c.requires.3 c.requires.0.ranged.effects (zeros prop_width prop_width (le_refl prop_width)) did.2,
+          ∙ square_adders a.file.now.counts.props a.file.now.counts.effects (actions_of a.file.now.bytes.now a.file.now.counts).add a.adders.now (replicate {A = ℕ} prop_width 0) _
+          c.requires.2 c.args.file.now.taken.ranged.effects (zeros prop_width prop_width (le_refl prop_width)) did.2,
     )

@@ -5,4 +5,4 @@ use Rattle.plan.proofs.Readings.{Reading}
 use Rattle.plan.proofs.read_members.Given as goal
 
 abbrev pub invariant-loop-e : goal.invariant-loop-e
-invariant-loop-e l = (length l.initial.needs ≡ l.c.effects) × Reading l.file l.c l.initial.needs l.initial.owners l.needs l.owners l.adders l.e
+invariant-loop-e l = (length l.initial.needs ≡ l.file.counts.effects) × Reading l.file.bytes.now l.file.counts l.initial.needs l.initial.owners l.needs l.owners l.adders l.e

@@ -2,5 +2,5 @@
 use Rattle.run.proofs.Sequences.{Most}
 use Rattle.run.proofs.greatest.Given as goal
 
-abbrev pub invariant-loop-i : goal.invariant-loop-i
-invariant-loop-i l = Most l.list l.i l.most
+abbrev pub invariant-loop-a : goal.invariant-loop-a
+invariant-loop-a l = Most l.list l.a-index l.most

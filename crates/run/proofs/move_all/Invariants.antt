@@ -6,6 +6,6 @@ use Rattle.words.proofs.Writes.{Lists}
 use Rattle.run.specs.Course.{came}
 use Rattle.run.proofs.move_all.Given as goal
 
-abbrev pub invariant-loop-s : goal.invariant-loop-s
-invariant-loop-s l =
-    Lists (λ k. choose (bit k (first (length l.initial.out))) (came l.course (get_or l.initial.out k 0)) (get_or l.initial.out k 0)) 0 (length l.initial.out) l.initial.out l.s l.out
+abbrev pub invariant-loop-x : goal.invariant-loop-x
+invariant-loop-x l =
+    Lists (λ k. choose (bit k (first (length l.initial.out))) (came l.course (get_or l.initial.out k 0)) (get_or l.initial.out k 0)) 0 (length l.initial.out) l.initial.out l.x-index l.out

@@ -6,7 +6,7 @@ use Rattle.run.proofs.Walks.{told_none, told_more}
 use Rattle.run.proofs.read_steps.Goals as goal
 
 pub loop-a-init : goal.loop-a-init
-loop-a-init c = let p = c.requires in told_none p.0 p.1 p.2.needs_long p.2.leave_long p.2.bring_long
+loop-a-init c = let p = c.requires in told_none c.args.file.now.taken p.0 p.1.needs_long p.1.leave_long p.1.bring_long
 
 pub loop-a-preserved : goal.loop-a-preserved
 unfolding leaves_of brings_of
@@ -19,22 +19,22 @@ pub returns : goal.returns
 returns c =
     let p = c.requires in
     let t = c.loop-a.invariant in (
-      list_whole t.need (omega arith) p.2.needs_long,
-      list_whole t.left (omega arith) p.2.leave_long,
-      list_whole t.brought (omega arith) p.2.bring_long,
+      list_whole t.need (omega arith) p.1.needs_long,
+      list_whole t.left (omega arith) p.1.leave_long,
+      list_whole t.brought (omega arith) p.1.bring_long,
     )
 
 pub deleted-requires : goal.deleted-requires
 deleted-requires c =
-    (c.loop-a.invariant.taken, omega (arith, c.loop-a.invariant.all, c.loop-a.invariant.own))
+    omega (arith, c.loop-a.invariant.all, c.loop-a.invariant.own)
 
 pub added-requires : goal.added-requires
 added-requires c =
-    (c.loop-a.invariant.taken, omega (arith, c.loop-a.invariant.all, c.loop-a.invariant.own))
+    omega (arith, c.loop-a.invariant.all, c.loop-a.invariant.own)
 
 pub precondition-requires : goal.precondition-requires
 precondition-requires c =
-    (c.loop-a.invariant.taken, omega (arith, c.loop-a.invariant.all))
+    omega (arith, c.loop-a.invariant.all)
 
 pub bounds-needs-a : goal.bounds-needs-a
 bounds-needs-a c =

@@ -8,12 +8,12 @@ use Rattle.run.proofs.shared_by_members.Goals as goal
 
 pub loop-left-init : goal.loop-left-init
 loop-left-init c =
-    sharing_none c.requires.0.ranged.states c.requires.1.inside c.first-all.ensures
+    sharing_none c.args.file.now.taken.ranged.states c.requires.inside c.first-all.ensures
 
 pub loop-left-preserved : goal.loop-left-preserved
 loop-left-preserved c =
     sharing_more c.loop-left.invariant (search rules)
-    (c.start-x.ensures ∙ ap (start_of c.args.file.now c.args.c) c.lowest.ensures) c.others-left.ensures.0
+    (c.start-x.ensures ∙ ap (start_of c.args.file.now.bytes.now c.args.file.now.counts) c.lowest.ensures) c.others-left.ensures.0
 
 pub returns : goal.returns
 returns c = sharing_done c.loop-left.invariant (omega arith)
@@ -21,7 +21,7 @@ returns c = sharing_done c.loop-left.invariant (omega arith)
 pub start-x-requires : goal.start-x-requires
 start-x-requires c =
     let l = c.loop-left in
-    (c.requires.0, omega (arith, c.lowest.ensures, lowest_lt c.args.c.states l.left l.invariant.few l.invariant.met.inside (search rules)))
+    omega (arith, c.lowest.ensures, lowest_lt c.args.file.now.counts.states l.left l.invariant.few l.invariant.met.inside (search rules))
 
 pub loop-left-smaller : goal.loop-left-smaller
 loop-left-smaller c = c.others-left.ensures.1

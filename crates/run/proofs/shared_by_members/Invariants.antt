@@ -4,7 +4,7 @@ use Rattle.run.proofs.Starts.{Sharing}
 use Rattle.run.proofs.shared_by_members.Given as goal
 
 abbrev pub invariant-loop-left : goal.invariant-loop-left
-invariant-loop-left l = Sharing (start_of l.file l.c) l.c.states l.initial.left l.left l.all l.some
+invariant-loop-left l = Sharing (start_of l.file.bytes.now l.file.counts) l.file.counts.states l.initial.left l.left l.all l.some
 
 abbrev pub decreases-loop-left : goal.decreases-loop-left
 decreases-loop-left l = l.left

@@ -6,11 +6,10 @@ use Rattle.plan.proofs.Descents.{fall_none, fall_on, fall_off, fall_whole, fall_
 use Rattle.plan.proofs.descent.descend.Goals as goal
 
 pub loop-t-init : goal.loop-t-init
-loop-t-init c = fall_none c.requires.0 c.requires.1 c.requires.2 c.requires.3
+loop-t-init c = fall_none c.args.effects.now.tables c.requires.0 c.requires.1 c.requires.2
 
 pub fall-answer-requires : goal.fall-answer-requires
 fall-answer-requires c = let l = c.loop-t in (
-  l.invariant.tables,
   fewer l.invariant.room (l.t - 1 + 1) (omega (arith, c.loop-t-test.true, l.invariant.inside)),
   l.invariant.wide,
   l.invariant.live_in,
@@ -21,7 +20,7 @@ overflow_add-result c =
     omega (arith, c.loop-t.invariant.room.deep, c.loop-t.invariant.inside)
 
 pub shape_of-needed-in_default : goal.shape_of-needed-in_default
-shape_of-needed-in_default c = c.fall-answer.auto.needed ∙ c.loop-t.invariant.wide ∙ sym c.requires.2
+shape_of-needed-in_default c = c.fall-answer.auto.needed ∙ c.loop-t.invariant.wide ∙ sym c.requires.1
 
 pub shape_of-plan-in_default : goal.shape_of-plan-in_default
 shape_of-plan-in_default c = c.loop-t.invariant.long
@@ -39,13 +38,13 @@ loop-t-smaller c = omega (arith, c.loop-t-test.true)
 
 pub loop-t-preserved : goal.loop-t-preserved
 loop-t-preserved c =
-    fall_on c.loop-t.invariant (c.loop-t.t - 1) (omega (arith, c.loop-t-test.true)) _ _ c.fall-answer.ensures c.in-Marked.is c.fall-answer.auto.needed
+    fall_on c.loop-t.invariant (c.loop-t.t - 1) (omega (arith, c.loop-t-test.true)) _ c.fall-answer.ensures c.in-Some.is c.fall-answer.auto.needed
 
 pub grounded-requires : goal.grounded-requires
 grounded-requires c = let l = c.loop-t in room_front l.invariant.wide l.invariant.room
 
 pub shape_of-needed-then-grounded : goal.shape_of-needed-then-grounded
-shape_of-needed-then-grounded c = c.loop-t.invariant.wide ∙ sym c.requires.2
+shape_of-needed-then-grounded c = c.loop-t.invariant.wide ∙ sym c.requires.1
 
 pub shape_of-plan-then-grounded : goal.shape_of-plan-then-grounded
 shape_of-plan-then-grounded c = c.loop-t.invariant.long
@@ -54,7 +53,7 @@ pub returns-then-grounded : goal.returns-then-grounded
 returns-then-grounded c = fall_whole c.loop-t.invariant c.loop-t-test.false _ c.grounded.ensures c.if-grounded.true
 
 pub shape_of-needed : goal.shape_of-needed
-shape_of-needed c = c.loop-t.invariant.wide ∙ sym c.requires.2
+shape_of-needed c = c.loop-t.invariant.wide ∙ sym c.requires.1
 
 pub shape_of-plan : goal.shape_of-plan
 shape_of-plan c = c.loop-t.invariant.long

@@ -13,26 +13,26 @@ use Rattle.plan.proofs.layer.fall.Goals as goal
 
 pub slice_bounds-down-end : goal.slice_bounds-down-end
 slice_bounds-down-end c =
-    fall_fits c.args.t _ _ c.requires.1 (ap₂ ◌+◌ c.layer_start.ensures.0 c.layer_size.ensures.0) c.layer_size-2.ensures.0
+    fall_fits c.args.t _ _ c.requires.0 (ap₂ ◌+◌ c.layer_start.ensures.0 c.layer_size.ensures.0) c.layer_size-2.ensures.0
 
 pub slice_bounds-down-end-2 : goal.slice_bounds-down-end-2
-slice_bounds-down-end-2 c = sym (length-take-le _ _ (omega (arith, c.requires.0.props)))
+slice_bounds-down-end-2 c = sym (length-take-le _ _ (omega (arith, c.args.effects.now.tables.props)))
 
 pub down-requires : goal.down-requires
 down-requires c = (
   record {
-    tables = c.requires.0;
-    wide = c.requires.2;
-    live = c.requires.3;
-    labelled = simp (length-take, length-drop) (omega (arith, c.layer_size-2.ensures, fall_fits c.args.t _ _ c.requires.1 (ap₂ ◌+◌ c.layer_start.ensures.0 c.layer_size.ensures.0) c.layer_size-2.ensures.0));
+    tables = c.args.effects.now.tables;
+    wide = c.requires.1;
+    live = c.requires.2;
+    labelled = simp (length-take, length-drop) (omega (arith, c.layer_size-2.ensures, fall_fits c.args.t _ _ c.requires.0 (ap₂ ◌+◌ c.layer_start.ensures.0 c.layer_size.ensures.0) c.layer_size-2.ensures.0));
   },
-  zeros _ prop_width c.requires.0.props,
+  zeros _ prop_width c.args.effects.now.tables.props,
 )
 
 pub returns : goal.returns
 returns c =
     let a = c.args in
-    subst (λ (l : List ℕ). Covers (listed_actions a.needs.now a.owners.now a.adders.now) l a.needed.now c.down.result c.down.new.needed)
-    (fall_part a.needs.now a.owners.now a.adders.now a.words.now a.t _ _
+    subst (λ (l : List ℕ). Covers (listed_actions a.effects.now.needs.now a.effects.now.owners.now a.effects.now.adders.now) l a.needed.now c.down.result c.down.new.needed)
+    (fall_part a.effects.now.needs.now a.effects.now.owners.now a.effects.now.adders.now a.words.now a.t _ _
     (ap₂ ◌+◌ c.layer_start.ensures.0 c.layer_size.ensures.0) c.layer_size-2.ensures.0)
     c.down.ensures

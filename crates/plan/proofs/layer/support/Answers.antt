@@ -21,16 +21,16 @@ pub bounds-wanted-p : goal.bounds-wanted-p
 bounds-wanted-p c =
     omega (arith, c.lowest-p.ensures, lay_lt c.props.invariant c.props-test.true, c.props.invariant.lists.wide)
 
-pub overflow_add-needs : goal.overflow_add-needs
-overflow_add-needs c =
+pub overflow_add-effects : goal.overflow_add-effects
+overflow_add-effects c =
     omega (arith, c.lowest-p.ensures, lay_lt c.props.invariant c.props-test.true, c.props.invariant.lists.wide, c.props.invariant.lists.tables.few, c.props.invariant.lists.tables.props)
 
-pub offset_bounds-labels-needs : goal.offset_bounds-labels-needs
-offset_bounds-labels-needs c =
+pub offset_bounds-labels-effects : goal.offset_bounds-labels-effects
+offset_bounds-labels-effects c =
     omega (arith, c.lowest-p.ensures, lay_lt c.props.invariant c.props-test.true, c.props.invariant.lists.wide, c.props.invariant.lists.tables.few, c.props.invariant.lists.tables.props)
 
-pub bounds-labels-needs : goal.bounds-labels-needs
-bounds-labels-needs c =
+pub bounds-labels-effects : goal.bounds-labels-effects
+bounds-labels-effects c =
     omega (arith, c.lowest-p.ensures, lay_lt c.props.invariant c.props-test.true, c.props.invariant.lists.wide, c.props.invariant.lists.labelled)
 
 pub carry-s-requires : goal.carry-s-requires
@@ -41,12 +41,12 @@ carry-s-requires c =
       l.invariant.live,
     )
 
-pub offset_bounds-adders-p : goal.offset_bounds-adders-p
-offset_bounds-adders-p c =
+pub offset_bounds-effects-p : goal.offset_bounds-effects-p
+offset_bounds-effects-p c =
     omega (arith, c.lowest-p.ensures, lay_lt c.props.invariant c.props-test.true, c.props.invariant.lists.wide, c.props.invariant.lists.tables.props)
 
-pub bounds-adders-p : goal.bounds-adders-p
-bounds-adders-p c =
+pub bounds-effects-p : goal.bounds-effects-p
+bounds-effects-p c =
     omega (arith, c.lowest-p.ensures, lay_lt c.props.invariant c.props-test.true, c.props.invariant.lists.wide)
 
 pub loop-by-init : goal.loop-by-init
@@ -60,17 +60,17 @@ props-preserved-then-s-eq0 c = seek_clear c.props.invariant c.props-test.true c.
 
 -- the effect that takes its turn is one of the lists
 listed : (c : After-lowest-e)
-    → c.lowest-e.result < length c.args.needs.now
+    → c.lowest-e.result < length c.args.effects.now.needs.now
 listed c =
     omega (arith, c.lowest-e.ensures, seek_lt c.loop-by.invariant c.loop-by-test.true)
 
-pub bounds-owners-e : goal.bounds-owners-e
-bounds-owners-e c =
+pub bounds-effects-e : goal.bounds-effects-e
+bounds-effects-e c =
     let tables = c.loop-by.invariant.lists.tables in
-    omega (arith, listed (goal.at.bounds-owners-e c).After-lowest-e, tables.owned, tables.few)
+    omega (arith, listed (goal.at.bounds-effects-e c).After-lowest-e, tables.owned, tables.few)
 
-pub overflow_cast-owners : goal.overflow_cast-owners
-overflow_cast-owners c = omega (arith, c.loop-by.invariant.lists.tables.owner _ (listed (goal.at.overflow_cast-owners c).After-lowest-e))
+pub overflow_cast-effects : goal.overflow_cast-effects
+overflow_cast-effects c = omega (arith, c.loop-by.invariant.lists.tables.owner _ (listed (goal.at.overflow_cast-effects c).After-lowest-e))
 
 pub offset_bounds-labels-e : goal.offset_bounds-labels-e
 offset_bounds-labels-e c = omega (arith, listed (goal.at.offset_bounds-labels-e c).After-lowest-e, c.loop-by.invariant.lists.tables.few)
@@ -78,17 +78,17 @@ offset_bounds-labels-e c = omega (arith, listed (goal.at.offset_bounds-labels-e 
 pub bounds-labels-e : goal.bounds-labels-e
 bounds-labels-e c = omega (arith, listed (goal.at.bounds-labels-e c).After-lowest-e, c.loop-by.invariant.lists.labelled)
 
-pub offset_bounds-needs-e : goal.offset_bounds-needs-e
-offset_bounds-needs-e c = omega (arith, listed (goal.at.offset_bounds-needs-e c).After-lowest-e, c.loop-by.invariant.lists.tables.few)
+pub offset_bounds-effects-e : goal.offset_bounds-effects-e
+offset_bounds-effects-e c = omega (arith, listed (goal.at.offset_bounds-effects-e c).After-lowest-e, c.loop-by.invariant.lists.tables.few)
 
-pub bounds-needs-e : goal.bounds-needs-e
-bounds-needs-e c = omega (arith, listed (goal.at.bounds-needs-e c).After-lowest-e)
+pub bounds-effects-e-in-loop-by : goal.bounds-effects-e-in-loop-by
+bounds-effects-e-in-loop-by c = omega (arith, listed (goal.at.bounds-effects-e-in-loop-by c).After-lowest-e)
 
 pub turn-s-requires : goal.turn-s-requires
 turn-s-requires c =
     let l = c.loop-by.invariant in (
       l.lists.tables.owner _ (listed (goal.at.turn-s-requires c).After-lowest-e),
-      subst (λ (x : ℕ). get_or c.args.needs.now c.lowest-e.result 0 < 2 ^ x) (sym l.long) (l.lists.tables.need _ (listed (goal.at.turn-s-requires c).After-lowest-e)),
+      subst (λ (x : ℕ). get_or c.args.effects.now.needs.now c.lowest-e.result 0 < 2 ^ x) (sym l.long) (l.lists.tables.need _ (listed (goal.at.turn-s-requires c).After-lowest-e)),
       omega (arith, l.long, l.lists.tables.props),
       l.live,
     )

@@ -7,8 +7,5 @@ use Prim.Native.Nat.{◌+◌, ◌-◌, ◌*◌, ◌≤◌}
 use mathlib.Core.Path.{◌≡◌}
 use Rattle.plan.proofs.output.count.Given as goal
 
-abbrev pub invariant-loop-i : goal.invariant-loop-i
-invariant-loop-i l = (length l.plan ≤ max_depth) × (l.i ≤ length l.plan) × (l.n ≤ prop_width * l.i) × (plan_count l.plan ≡ l.n + plan_count (drop l.i l.plan))
-
-abbrev pub decreases-loop-i : goal.decreases-loop-i
-decreases-loop-i l = length l.plan - l.i
+abbrev pub invariant-loop-marks : goal.invariant-loop-marks
+invariant-loop-marks l = (length l.plan ≤ max_depth) × (l.marks-index ≤ length l.plan) × (l.n ≤ prop_width * l.marks-index) × (plan_count l.plan ≡ l.n + plan_count (drop l.marks-index l.plan))

@@ -6,4 +6,4 @@ use Rattle.run.proofs.effects.read_effects.Given as goal
 
 abbrev pub invariant-loop-e : goal.invariant-loop-e
 invariant-loop-e l =
-    Lists (actions_of l.file l.c).when 0 l.c.effects l.initial.when l.e l.when × Lists (goes_of (actions_of l.file l.c)) 0 l.c.effects l.initial.goes l.e l.goes
+    Lists (actions_of l.file.bytes.now l.file.counts).when 0 l.file.counts.effects l.initial.when l.e l.when × Lists (goes_of (actions_of l.file.bytes.now l.file.counts)) 0 l.file.counts.effects l.initial.goes l.e l.goes

@@ -8,35 +8,35 @@ use Rattle.run.proofs.even.foretell.Goals as goal
 use Rattle.run.proofs.even.foretell.Goals.{After-lowest-e}
 
 pub loop-left-init : goal.loop-left-init
-loop-left-init c = let p = c.requires in foretell_none p.2 p.0
+loop-left-init c = foretell_none c.args.evens.now.fit.few c.requires
 
 -- the lowest effect that is left has its words in both lists
-named : (c : After-lowest-e) → c.lowest-e.result < length c.args.when.now
+named : (c : After-lowest-e) → c.lowest-e.result < length c.args.evens.now.when.now
 named c = foretell_lt c.loop-left.invariant c.loop-left-test.true c.lowest-e.ensures
 
-pub offset_bounds-when-e : goal.offset_bounds-when-e
-offset_bounds-when-e c = omega (arith, named (goal.at.offset_bounds-when-e c).After-lowest-e, c.loop-left.invariant.few)
+pub offset_bounds-evens-e : goal.offset_bounds-evens-e
+offset_bounds-evens-e c = omega (arith, named (goal.at.offset_bounds-evens-e c).After-lowest-e, c.loop-left.invariant.few)
 
-pub bounds-when-e : goal.bounds-when-e
-bounds-when-e c = named (goal.at.bounds-when-e c).After-lowest-e
+pub bounds-evens-e : goal.bounds-evens-e
+bounds-evens-e c = named (goal.at.bounds-evens-e c).After-lowest-e
 
 pub returns-then-untold : goal.returns-then-untold
 returns-then-untold c =
     foretell_part c.loop-left.invariant c.loop-left-test.true c.lowest-e.ensures
     (sym c.untold.ensures ∙ c.if-untold.true)
 
-pub offset_bounds-when-e-in-loop-left : goal.offset_bounds-when-e-in-loop-left
-offset_bounds-when-e-in-loop-left c = omega (arith, named (goal.at.offset_bounds-when-e-in-loop-left c).After-lowest-e, c.loop-left.invariant.few)
+pub offset_bounds-evens-e-in-loop-left : goal.offset_bounds-evens-e-in-loop-left
+offset_bounds-evens-e-in-loop-left c = omega (arith, named (goal.at.offset_bounds-evens-e-in-loop-left c).After-lowest-e, c.loop-left.invariant.few)
 
-pub bounds-when-e-in-loop-left : goal.bounds-when-e-in-loop-left
-bounds-when-e-in-loop-left c = named (goal.at.bounds-when-e-in-loop-left c).After-lowest-e
+pub bounds-evens-e-in-loop-left : goal.bounds-evens-e-in-loop-left
+bounds-evens-e-in-loop-left c = named (goal.at.bounds-evens-e-in-loop-left c).After-lowest-e
 
-pub offset_bounds-goes-e : goal.offset_bounds-goes-e
-offset_bounds-goes-e c = omega (arith, named (goal.at.offset_bounds-goes-e c).After-lowest-e, c.loop-left.invariant.few)
+pub offset_bounds-evens-e-in-loop-left-2 : goal.offset_bounds-evens-e-in-loop-left-2
+offset_bounds-evens-e-in-loop-left-2 c = omega (arith, named (goal.at.offset_bounds-evens-e-in-loop-left-2 c).After-lowest-e, c.loop-left.invariant.few)
 
-pub bounds-goes-e : goal.bounds-goes-e
-bounds-goes-e c =
-    omega (arith, named (goal.at.bounds-goes-e c).After-lowest-e, c.requires.1)
+pub bounds-evens-e-in-loop-left-2 : goal.bounds-evens-e-in-loop-left-2
+bounds-evens-e-in-loop-left-2 c =
+    omega (arith, named (goal.at.bounds-evens-e-in-loop-left-2 c).After-lowest-e, c.args.evens.now.fit.as_goes)
 
 pub others-left-requires : goal.others-left-requires
 others-left-requires c = omega (arith, c.loop-left-test.true)

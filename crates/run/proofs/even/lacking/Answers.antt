@@ -8,12 +8,12 @@ use Rattle.rules.specs.Word.{common}
 use Rattle.run.proofs.Idles.{as_fails}
 use Rattle.run.proofs.even.lacking.Goals as goal
 
-pub bounds-needs-a : goal.bounds-needs-a
-bounds-needs-a c =
+pub bounds-evens-a : goal.bounds-evens-a
+bounds-evens-a c =
     omega (arith, c.byte-a.ensures.0, c.requires.0 c.args.led.made c.requires.1)
 
 pub returns : goal.returns
 unfolding same
 returns c =
     let a = c.args in
-    as_fails _ ∙ ap (λ (x : ℕ). fails (same (common a.led.course (get_or a.needs.now x 0)) 0)) c.byte-a.ensures.0
+    as_fails _ ∙ ap (λ (x : ℕ). fails (same (common a.led.course (get_or a.evens.now.needs.now x 0)) 0)) c.byte-a.ensures.0

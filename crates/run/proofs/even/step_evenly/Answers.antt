@@ -18,11 +18,11 @@ pub returns-in_default : goal.returns-in_default
 unfolding TriedEvenly
 returns-in_default c =
     let a = c.args in
-    subst (Foretold a.when.now a.goes.now a.by a.course) c.in_default.is c.foretell-even.ensures
+    subst (Foretold a.evens.now.when.now a.evens.now.goes.now a.by a.course) c.in_default.is c.foretell-even.ensures
 
 pub overflow_sub-left : goal.overflow_sub-left
 overflow_sub-left c =
-    let g = c.in-Goes.all in
+    let g = c.in-Some.all in
     let l : g < 2 ^ word_width = omega arith in
     omega (arith, without_lt word_width {a = g} ((g * 2 ^ prop_width) % 2 ^ word_width) l)
 
@@ -32,8 +32,8 @@ returns c =
     let a = c.args in (
       c.if-course-need-ne0.false,
       (
-        c.in-Goes.all,
-        subst (Foretold a.when.now a.goes.now a.by a.course) c.in-Goes.is c.foretell-even.ensures,
+        c.in-Some.all,
+        subst (Foretold a.evens.now.when.now a.evens.now.goes.now a.by a.course) c.in-Some.is c.foretell-even.ensures,
         λ del add d b e. (
           ap (common a.course) (leave_is d b e refl),
           ap₂ (λ (x y : ℕ). union (common a.course x) y) (leave_is d b e refl) (bring_is d b e refl),

@@ -1,13 +1,8 @@
 -- Each step that is made leads on; at any other the word stays as it was.
-use Prim.Native.Nat.{◌-◌}
-use lib.ListN.{length}
-use Rattle.run.specs.Even.{Listed, GoesOn}
+use Rattle.run.specs.Even.{GoesOn}
 use Rattle.run.proofs.Evens.{walked}
 use Rattle.run.proofs.even.walk_evenly.Given as goal
 
 abbrev pub invariant-loop-i : goal.invariant-loop-i
 invariant-loop-i l =
-    Listed l.needs l.owned l.when l.goes l.list × GoesOn l.needs l.owned l.when l.goes l.list (walked l.initial.course l.initial.i l.initial.idle) (walked l.course l.i l.idle)
-
-abbrev pub decreases-loop-i : goal.decreases-loop-i
-decreases-loop-i l = length l.list - l.i
+    GoesOn l.evens.needs.now l.evens.owned.now l.evens.when.now l.evens.goes.now l.list (walked l.initial.course l.initial.i l.initial.idle) (walked l.course l.i l.idle)

@@ -13,9 +13,6 @@ pub loop-p-init : goal.loop-p-init
 unfolding join_over
 loop-p-init c = (omega arith, refl)
 
-pub bounds-labels-p : goal.bounds-labels-p
-bounds-labels-p c = omega (arith, c.requires)
-
 pub literals-course-requires : goal.literals-course-requires
 literals-course-requires c = c.loop-p-test.true
 

@@ -10,9 +10,3 @@ loop-p-preserved c = alike_more c.loop-p.invariant c.loop-p-test.true
 
 pub returns : goal.returns
 returns c = alike_done c.loop-p.invariant c.loop-p-test.false
-
-pub bounds-xs-p : goal.bounds-xs-p
-bounds-xs-p c = omega (arith, c.requires.0)
-
-pub bounds-ys-p : goal.bounds-ys-p
-bounds-ys-p c = omega (arith, c.requires.1)

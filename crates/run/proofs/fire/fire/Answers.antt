@@ -15,20 +15,20 @@ use Rattle.run.proofs.fire.fire.Goals.{After-lowest-e}
 pub loop-left-init : goal.loop-left-init
 unfolding actions_of
 loop-left-init c = let p = c.requires in
-    firing_none (omega (arith, p.0.ranged.effects)) (omega (arith, p.0.ranged.effects, p.3)) p.1
+    firing_none (omega (arith, c.args.file.now.taken.ranged.effects)) (omega (arith, c.args.file.now.taken.ranged.effects, c.told-fired)) p.0
 
 -- the lowest effect that is left is one of the file's
-named : (c : After-lowest-e) → c.lowest-e.result < c.args.c.effects
+named : (c : After-lowest-e) → c.lowest-e.result < c.args.file.now.counts.effects
 unfolding actions_of
 named c =
     let m = c.loop-left.invariant.changes in
     omega (arith, c.lowest-e.ensures, lowest_lt _ c.loop-left.left m.few m.inside c.loop-left-test.true)
 
 pub antecedent-requires : goal.antecedent-requires
-antecedent-requires c = (c.requires.0, named (goal.at.antecedent-requires c).After-lowest-e)
+antecedent-requires c = named (goal.at.antecedent-requires c).After-lowest-e
 
 pub firing-t-requires : goal.firing-t-requires
-firing-t-requires c = let p = c.requires in (p.2, p.4)
+firing-t-requires c = c.requires.1
 
 pub offset_bounds-fired-e : goal.offset_bounds-fired-e
 unfolding actions_of
@@ -39,7 +39,7 @@ unfolding actions_of
 bounds-fired-e c = let m = c.loop-left.invariant.changes in omega (arith, named (goal.at.bounds-fired-e c).After-lowest-e, m.room, m.long)
 
 pub with_effect-did-requires : goal.with_effect-did-requires
-with_effect-did-requires c = (c.requires.0, named (goal.at.with_effect-did-requires c).After-lowest-e)
+with_effect-did-requires c = named (goal.at.with_effect-did-requires c).After-lowest-e
 
 pub others-left-requires : goal.others-left-requires
 others-left-requires c = omega (arith, c.loop-left-test.true)
@@ -57,17 +57,14 @@ loop-left-preserved c =
     (ap (having now a.set.0) c.antecedent.ensures))
     c.with_effect-did.ensures c.others-left.ensures.0
 
-pub shape_of-fired : goal.shape_of-fired
-shape_of-fired c = c.loop-left.invariant.changes.long
-
 pub returns : goal.returns
 unfolding fired_by
 returns c =
     let a = c.args in
-    let A = actions_of a.file.now a.c in
+    let A = actions_of a.file.now.bytes.now a.file.now.counts in
     let now = settled a.set.0 a.course a.labels.now in
     let m = c.loop-left.invariant in (
       firing_done m (omega arith),
       changes_done m.changes (omega arith)
-          ∙ ap (λ (n : ℕ). list_over n (λ e. choose (bit e a.by) (fired_in A a.set.0 now e) (get_or a.fired.now e 0))) c.requires.3,
+          ∙ ap (λ (n : ℕ). list_over n (λ e. choose (bit e a.by) (fired_in A a.set.0 now e) (get_or a.fired.now e 0))) c.told-fired,
     )

@@ -6,7 +6,7 @@ use Rattle.run.proofs.fire.fire.Given as goal
 
 abbrev pub invariant-loop-left : goal.invariant-loop-left
 invariant-loop-left l =
-    Firing (actions_of l.file l.c) l.set.0 l.by (settled l.set.0 l.course l.labels) l.initial.fired l.left l.did l.fired
+    Firing (actions_of l.file.bytes.now l.file.counts) l.set.0 l.by (settled l.set.0 l.course l.labels) l.initial.fired l.left l.did l.fired
 
 abbrev pub decreases-loop-left : goal.decreases-loop-left
 decreases-loop-left l = l.left

@@ -16,7 +16,7 @@ returns-then-course-needed-eq0 c =
     let a = c.args in
     let small : a.when < 2 ^ prop_width = omega arith in
     had_all a.set.0 (settled a.set.0 a.course a.labels.now) a.when small
-    (sym (ap₂ common c.requires.1 c.wide-needed.ensures) ∙ c.if-course-needed-eq0.true)
+    (sym (ap₂ common c.requires c.wide-needed.ensures) ∙ c.if-course-needed-eq0.true)
 
 -- the antecedent, as bits of what some state has
 above : (c : After-wide-needed) → (c.wide-needed.result * 2 ^ prop_width) % 2 ^ word_width ≡ pack 0 c.args.when
@@ -30,7 +30,7 @@ returns-then-course-somewhere c =
     let a = c.args in
     let small : a.when < 2 ^ prop_width = omega arith in
     had_none a.set.0 (settled a.set.0 a.course a.labels.now) a.when small (above (goal.at.returns-then-course-somewhere c).After-wide-needed)
-    (λ e. c.if-course-somewhere.true (ap (λ (x : ℕ). common x ((c.wide-needed.result * 2 ^ prop_width) % 2 ^ word_width)) c.requires.1 ∙ e))
+    (λ e. c.if-course-somewhere.true (ap (λ (x : ℕ). common x ((c.wide-needed.result * 2 ^ prop_width) % 2 ^ word_width)) c.requires ∙ e))
 
 pub returns : goal.returns
 returns c =

@@ -11,23 +11,16 @@ use Rattle.run.proofs.fire.join_adds.Goals as goal
 use Rattle.run.proofs.fire.join_adds.Goals.{After-lowest-e}
 
 pub loop-left-init : goal.loop-left-init
-loop-left-init c = let p = c.requires in
-    touches_none (λ x y. union x y) union_twice or_zero_r (omega (arith, p.0.ranged.effects)) p.1 p.3
+loop-left-init c =
+    touches_none (λ x y. union x y) union_twice or_zero_r (omega (arith, c.args.file.now.taken.ranged.effects)) c.requires c.told-labels
 
 -- the lowest effect that is left is one of the file's
-named : (c : After-lowest-e) → c.lowest-e.result < c.args.c.effects
+named : (c : After-lowest-e) → c.lowest-e.result < c.args.file.now.counts.effects
 named c =
     omega (arith, c.lowest-e.ensures, lowest_lt _ c.loop-left.left c.loop-left.invariant.few c.loop-left.invariant.inside c.loop-left-test.true)
 
 pub added-requires : goal.added-requires
-added-requires c = (c.requires.0, named (goal.at.added-requires c).After-lowest-e)
-
-pub offset_bounds-fired-e : goal.offset_bounds-fired-e
-offset_bounds-fired-e c = omega (arith, named (goal.at.offset_bounds-fired-e c).After-lowest-e, c.requires.0.ranged.effects)
-
-pub bounds-fired-e : goal.bounds-fired-e
-bounds-fired-e c =
-    omega (arith, named (goal.at.bounds-fired-e c).After-lowest-e, c.requires.0.ranged.effects, c.requires.2)
+added-requires c = named (goal.at.added-requires c).After-lowest-e
 
 pub spread-requires : goal.spread-requires
 spread-requires c = omega (arith, c.loop-left.invariant.long)
@@ -43,9 +36,9 @@ loop-left-preserved c =
     touches_more (λ x y. union x y) union_twice or_zero_r c.loop-left.invariant c.loop-left-test.true c.lowest-e.ensures
     c.added.ensures refl c.spread.ensures c.others-left.ensures.0
 
-pub shape_of-labels : goal.shape_of-labels
-shape_of-labels c = c.loop-left.invariant.long ∙ sym c.requires.3
-
 pub returns : goal.returns
 unfolding joined_by actions_of
 returns c = touches_done (λ x y. union x y) union_twice or_zero_r c.loop-left.invariant (omega arith)
+
+pub bounds-fired-e : goal.bounds-fired-e
+bounds-fired-e c = omega (arith, named (goal.at.bounds-fired-e c).After-lowest-e, c.args.file.now.taken.ranged.effects)

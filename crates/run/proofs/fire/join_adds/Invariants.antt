@@ -7,7 +7,7 @@ use Rattle.run.proofs.fire.join_adds.Given as goal
 
 abbrev pub invariant-loop-left : goal.invariant-loop-left
 invariant-loop-left l =
-    Touches (λ x y. union x y) union_twice or_zero_r l.c.effects (actions_of l.file l.c).add l.by l.fired l.initial.labels l.left l.labels
+    Touches (λ x y. union x y) union_twice or_zero_r l.file.counts.effects (actions_of l.file.bytes.now l.file.counts).add l.by l.fired l.initial.labels l.left l.labels
 
 abbrev pub decreases-loop-left : goal.decreases-loop-left
 decreases-loop-left l = l.left

@@ -5,10 +5,10 @@ use Rattle.words.proofs.Writes.{list_none, list_more, list_done}
 use Rattle.run.proofs.fire.lay_labels.Goals as goal
 
 pub loop-s-init : goal.loop-s-init
-loop-s-init c = list_none (omega (arith, c.requires.2))
+loop-s-init c = list_none (omega (arith, c.requires.1))
 
 pub set_in-requires : goal.set_in-requires
-set_in-requires c = (c.requires.0, omega (arith, c.loop-s-test.true, c.requires.1))
+set_in-requires c = omega (arith, c.loop-s-test.true, c.requires.0)
 
 pub bounds-out-s : goal.bounds-out-s
 bounds-out-s c = omega (arith, c.loop-s.invariant.long, c.loop-s.invariant.room)

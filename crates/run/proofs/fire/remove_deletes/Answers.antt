@@ -10,23 +10,16 @@ use Rattle.run.proofs.fire.remove_deletes.Goals as goal
 use Rattle.run.proofs.fire.remove_deletes.Goals.{After-lowest-e}
 
 pub loop-left-init : goal.loop-left-init
-loop-left-init c = let p = c.requires in
-    touches_none (λ x y. without x y) without_twice without_none (omega (arith, p.0.ranged.effects)) p.1 p.3
+loop-left-init c =
+    touches_none (λ x y. without x y) without_twice without_none (omega (arith, c.args.file.now.taken.ranged.effects)) c.requires c.told-labels
 
 -- the lowest effect that is left is one of the file's
-named : (c : After-lowest-e) → c.lowest-e.result < c.args.c.effects
+named : (c : After-lowest-e) → c.lowest-e.result < c.args.file.now.counts.effects
 named c =
     omega (arith, c.lowest-e.ensures, lowest_lt _ c.loop-left.left c.loop-left.invariant.few c.loop-left.invariant.inside c.loop-left-test.true)
 
 pub deleted-requires : goal.deleted-requires
-deleted-requires c = (c.requires.0, named (goal.at.deleted-requires c).After-lowest-e)
-
-pub offset_bounds-fired-e : goal.offset_bounds-fired-e
-offset_bounds-fired-e c = omega (arith, named (goal.at.offset_bounds-fired-e c).After-lowest-e, c.requires.0.ranged.effects)
-
-pub bounds-fired-e : goal.bounds-fired-e
-bounds-fired-e c =
-    omega (arith, named (goal.at.bounds-fired-e c).After-lowest-e, c.requires.0.ranged.effects, c.requires.2)
+deleted-requires c = named (goal.at.deleted-requires c).After-lowest-e
 
 pub strip-requires : goal.strip-requires
 strip-requires c = omega (arith, c.loop-left.invariant.long)
@@ -42,9 +35,9 @@ loop-left-preserved c =
     touches_more (λ x y. without x y) without_twice without_none c.loop-left.invariant c.loop-left-test.true c.lowest-e.ensures
     c.deleted.ensures refl c.strip.ensures c.others-left.ensures.0
 
-pub shape_of-labels : goal.shape_of-labels
-shape_of-labels c = c.loop-left.invariant.long ∙ sym c.requires.3
-
 pub returns : goal.returns
 unfolding removed_by actions_of
 returns c = touches_done (λ x y. without x y) without_twice without_none c.loop-left.invariant (omega arith)
+
+pub bounds-fired-e : goal.bounds-fired-e
+bounds-fired-e c = omega (arith, named (goal.at.bounds-fired-e c).After-lowest-e, c.args.file.now.taken.ranged.effects)

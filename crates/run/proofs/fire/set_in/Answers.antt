@@ -14,11 +14,8 @@ pub loop-p-init : goal.loop-p-init
 unfolding join_over
 loop-p-init c = (omega arith, refl)
 
-pub bounds-labels-p : goal.bounds-labels-p
-bounds-labels-p c = omega (arith, c.requires.0)
-
 pub moved_bit-set-requires : goal.moved_bit-set-requires
-moved_bit-set-requires c = (c.requires.1, c.loop-p-test.true)
+moved_bit-set-requires c = (c.requires, c.loop-p-test.true)
 
 pub loop-p-preserved : goal.loop-p-preserved
 loop-p-preserved c =

@@ -6,7 +6,7 @@ use Rattle.run.specs.Fire.{settled_label, settled}
 use Rattle.run.proofs.fire.settle.Goals as goal
 
 pub loop-p-init : goal.loop-p-init
-loop-p-init c = list_none (omega (arith, c.requires))
+loop-p-init c = list_none (omega (arith, c.told-labels))
 
 pub loop-p-preserved : goal.loop-p-preserved
 loop-p-preserved c =
@@ -15,15 +15,6 @@ loop-p-preserved c =
     list_more l.invariant (omega arith) (sym (zero-add _))
     (c.settled_label.ensures ∙ ap (settled_label a.set.0 a.course l.p) (list_ahead l.invariant (sym (zero-add _))))
 
-pub shape_of-labels : goal.shape_of-labels
-shape_of-labels c = c.loop-p.invariant.long
-
 pub returns : goal.returns
 unfolding settled
-returns c = list_whole c.loop-p.invariant (omega arith) c.requires
-
-pub bounds-labels-p : goal.bounds-labels-p
-bounds-labels-p c = omega (arith, c.loop-p.invariant.long, c.requires)
-
-pub bounds-labels-p-in-loop-p : goal.bounds-labels-p-in-loop-p
-bounds-labels-p-in-loop-p c = omega (arith, c.loop-p.invariant.long, c.requires)
+returns c = list_whole c.loop-p.invariant (omega arith) c.told-labels

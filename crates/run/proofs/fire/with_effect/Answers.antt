@@ -12,15 +12,15 @@ returns-then-t-set c =
     let a = c.args in
     ap₂ (λ (x y : ℕ). made (union a.did.del x) (union a.did.add y) a.did.some) c.deleted.ensures
     c.added.ensures
-    ∙ fires_all (actions_of a.file.now a.c) a.set.0 a.e a.t a.did c.if-t-set.true
+    ∙ fires_all (actions_of a.file.now.bytes.now a.file.now.counts) a.set.0 a.e a.t a.did c.if-t-set.true
 
 pub returns-then-t-eq0 : goal.returns-then-t-eq0
 returns-then-t-eq0 c =
     let a = c.args in
-    fires_none (actions_of a.file.now a.c) a.set.0 a.e a.t a.did c.if-t-set.false c.if-t-eq0.true
+    fires_none (actions_of a.file.now.bytes.now a.file.now.counts) a.set.0 a.e a.t a.did c.if-t-set.false c.if-t-eq0.true
 
 pub returns : goal.returns
 returns c =
     let a = c.args in
     ap (λ (x : ℕ). made a.did.del a.did.add (union a.did.some x)) c.single.ensures
-    ∙ fires_some (actions_of a.file.now a.c) a.set.0 a.e a.t a.did c.if-t-set.false c.if-t-eq0.false
+    ∙ fires_some (actions_of a.file.now.bytes.now a.file.now.counts) a.set.0 a.e a.t a.did c.if-t-set.false c.if-t-eq0.false

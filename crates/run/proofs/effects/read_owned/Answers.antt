@@ -10,35 +10,35 @@ use Rattle.words.specs.Rows.{row_length}
 use Rattle.words.proofs.Spreads.{columns_none, columns_more}
 use Rattle.graph.specs.Format.{actions_of}
 use Rattle.run.proofs.Touches.{owned_one, owned_all}
-use Rattle.run.proofs.fire.read_owned.Goals as goal
-use Rattle.run.proofs.fire.read_owned.Goals.{After-owner-a}
+use Rattle.run.proofs.effects.read_owned.Goals as goal
+use Rattle.run.proofs.effects.read_owned.Goals.{After-owner-a}
 
 pub loop-e-init : goal.loop-e-init
-loop-e-init c = (omega arith, refl, columns_none _ _ _ c.requires.1)
+unfolding list_over
+loop-e-init c = (omega arith, refl, columns_none row_length (λ e. single ((actions_of c.args.file.now.bytes.now c.args.file.now.counts).owner e)) _ refl)
 
 pub owner-a-requires : goal.owner-a-requires
-owner-a-requires c = (c.requires.0, c.loop-e-test.true)
+owner-a-requires c = c.loop-e-test.true
 
 -- the row has a word for the owner
 owner_in : (c : After-owner-a) → c.owner-a.result < length c.loop-e.owned
 owner_in c =
-    let p = c.requires in
-    omega (arith, c.owner-a.ensures.1, p.0.ranged.actions, c.loop-e.invariant.1, ap length p.1, length_list_over row_length (λ i. 0))
+    omega (arith, c.owner-a.ensures.1, c.args.file.now.taken.ranged.actions, c.loop-e.invariant.1)
 
 pub offset_bounds-owned-a : goal.offset_bounds-owned-a
-offset_bounds-owned-a c = omega (arith, c.owner-a.ensures.1, c.requires.0.ranged.actions)
+offset_bounds-owned-a c = omega (arith, c.owner-a.ensures.1, c.args.file.now.taken.ranged.actions)
 
 pub bounds-owned-a : goal.bounds-owned-a
-bounds-owned-a c = owner_in (goal.at.bounds-owned-a c).After-owner-a
+bounds-owned-a c = omega (arith, c.owner-a.ensures.1, c.args.file.now.taken.ranged.actions)
 
 pub single-requires : goal.single-requires
-single-requires c = omega (arith, c.loop-e-test.true, c.requires.0.ranged.effects)
+single-requires c = omega (arith, c.loop-e-test.true, c.args.file.now.taken.ranged.effects)
 
 pub offset_bounds-owned-a-in-loop-e : goal.offset_bounds-owned-a-in-loop-e
-offset_bounds-owned-a-in-loop-e c = omega (arith, c.owner-a.ensures.1, c.requires.0.ranged.actions)
+offset_bounds-owned-a-in-loop-e c = omega (arith, c.owner-a.ensures.1, c.args.file.now.taken.ranged.actions)
 
 pub bounds-owned-a-in-loop-e : goal.bounds-owned-a-in-loop-e
-bounds-owned-a-in-loop-e c = owner_in (goal.at.bounds-owned-a-in-loop-e c).After-owner-a
+bounds-owned-a-in-loop-e c = omega (arith, c.owner-a.ensures.1, c.args.file.now.taken.ranged.actions)
 
 pub loop-e-preserved : goal.loop-e-preserved
 loop-e-preserved c =
@@ -50,14 +50,11 @@ loop-e-preserved c =
           (owned_one l.owned a.result c.single.result (owner_in (goal.at.loop-e-preserved c).After-owner-a)),
     )
 
-pub shape_of-owned : goal.shape_of-owned
-shape_of-owned c = c.loop-e.invariant.1
-
 pub returns : goal.returns
 unfolding actions_of
 returns c =
     let l = c.loop-e in
     let a = c.args in
-    let A = actions_of a.file.now a.c in
-    let k : l.e ≡ a.c.effects = omega (arith, l.invariant.0) in
+    let A = actions_of a.file.now.bytes.now a.file.now.counts in
+    let k : l.e ≡ a.file.now.counts.effects = omega (arith, l.invariant.0) in
     l.invariant.2 ∙ ap (λ (x : ℕ). list_over row_length (start_label x (λ e. single (A.owner e)))) k ∙ owned_all A
