@@ -3,14 +3,12 @@ use Rattle.std.specs.Prelude.{ℕ, zero, suc, Bool, List}
 use Rattle.rules.specs.Test.{fails, below, choose}
 use Rattle.rules.specs.Layer.{word_count}
 use Rattle.rules.specs.declared.Shape.{Shape}
-use Rattle.graph.specs.Verdict.{Verdict, accepted, turned_away, and_then}
+use Rattle.graph.specs.Verdict.{Verdict, accepted, and_then}
 use Rattle.graph.specs.Limits.{max_depth}
 use Rattle.graph.specs.Format.{shape_in}
 use Rattle.graph.specs.File.{file_rule}
 use Rattle.graph.specs.Checks.{memory_rule}
 use Rattle.graph.specs.declared.format.Counts.{Counts}
-use Rattle.report.specs.declared.depth.DepthAnswer.{DepthAnswer}
-use Rattle.report.specs.declared.depth.DepthAnswer.TheVariants as answer
 
 -- the greatest number up to n at which the test holds, and 0 where it holds at none of them
 unfoldable pub greatest_with : ℕ → (ℕ → Bool) → ℕ
@@ -24,11 +22,6 @@ fits S room k = fails (below room (word_count S k))
 -- 'the greatest depth up to 255 that fits' so many words
 unfoldable pub depth_for : Shape → ℕ → ℕ
 depth_for S room = greatest_with max_depth (fits S room)
-
--- what the answer says
-abbrev pub depth_verdict : DepthAnswer → Verdict ℕ
-depth_verdict (answer.Depth k) = accepted k
-depth_verdict (answer.Refused why) = turned_away why
 
 -- the file being taken: 9, with the words of depth 0, where not even these fit
 unfoldable pub fitting_taken : Counts → ℕ → Verdict ℕ

@@ -2,4 +2,5 @@
 pub mod Depth
 pub mod Decimal
 pub mod Text
+pub mod Lines
 pub mod Wrote

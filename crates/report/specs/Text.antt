@@ -1,11 +1,10 @@
 -- What `levels` prints, byte for byte, in ASCII.
-use Rattle.std.specs.Prelude.{ℕ, suc, List, [], ◌∷◌, ◌++◌}
-use Rattle.rules.specs.Test.{below, choose}
+use Rattle.std.specs.Prelude.{ℕ, List, [], ◌∷◌, ◌++◌}
 use Rattle.rules.specs.Word.{single, first}
 use Rattle.rules.specs.Lists.{run_over}
 use Rattle.rules.specs.Level.{Level, level, never, not_by_depth, level_of, Rest, rests_at, none, rest_of}
 use Rattle.rules.specs.declared.Shape.{Shape}
-use Rattle.graph.specs.Verdict.{Verdict, accepted, refused, turned_away, and_then}
+use Rattle.graph.specs.Verdict.{Verdict, accepted, refused, and_then}
 use Rattle.graph.specs.Format.{shape_in}
 use Rattle.graph.specs.File.{file_rule}
 use Rattle.graph.specs.Checks.{output_rule}
@@ -13,27 +12,17 @@ use Rattle.graph.specs.Build.{graph_of}
 use Rattle.graph.specs.declared.format.Counts.{Counts}
 use Rattle.report.specs.Depth.{depth_for}
 use Rattle.report.specs.Decimal.{decimal}
-use Rattle.report.specs.declared.TextAnswer.{TextAnswer}
-use Rattle.report.specs.declared.TextAnswer.TheVariants as answer
 
 -- 'rest (`?` if none)'
 abbrev pub rest_text : Rest → List ℕ
 rest_text (rests_at t) = decimal t
 rest_text none = 63 ∷ []
 
--- the rest of a graph whose layer u rests first
-abbrev pub rest_from : ℕ → ℕ → Rest
-rest_from u depth = choose (below u depth) (rests_at u) none
-
 -- 'level (`-` never, `?` not by depth)'
 abbrev pub level_text : Level → List ℕ
 level_text (level t) = decimal t
 level_text never = 45 ∷ []
 level_text not_by_depth = 63 ∷ []
-
--- the level of a goal that layer t meets first, in a graph whose layer u rests first, as the rule of the level has it
-abbrev pub level_from : ℕ → ℕ → ℕ → Level
-level_from t u depth = choose (below t (suc depth)) (level t) (choose (below u depth) never not_by_depth)
 
 -- a space and the level
 abbrev pub cell_text : Level → List ℕ
@@ -88,10 +77,6 @@ verdict_text file (refused number place) = refused_text number place
 unfoldable pub levels_text : List ℕ → List ℕ
 levels_text file = verdict_text file (file_rule file)
 
--- a number below this one has up to three digits, as every depth, rest and level has
-abbrev pub three_digits : ℕ
-three_digits = 1000
-
 -- no first line is longer
 abbrev pub head_room : ℕ
 head_room = 19
@@ -99,11 +84,6 @@ head_room = 19
 -- no text is longer: a first line of 19 bytes, 64 lines of 132 and one of 133
 abbrev pub text_room : ℕ
 text_room = 8600
-
--- what the answer says
-abbrev pub text_verdict : TextAnswer → Verdict ℕ
-text_verdict (answer.Written n) = accepted n
-text_verdict (answer.Refused why) = turned_away why
 
 -- 10, or the text: any file has one
 unfoldable pub text_rule : List ℕ → ℕ → Verdict (List ℕ)

@@ -4,76 +4,61 @@
 pub mod depth;
 mod fit;
 mod lines;
-mod put;
+mod writer;
 
-ghost use Rattle.std.specs.Prelude.{◌≡◌, ◌≤◌, length};
-ghost use Rattle.graph.specs.Verdict.{accepted, laid, written};
+ghost use Rattle.std.specs.Prelude.{◌≡◌, ◌+◌, ◌≤◌, length, IsOk, IsErr};
+ghost use Rattle.graph.specs.Verdict.{verdict, verdict_by, accepted, and_then, laid, written};
 ghost use Rattle.graph.specs.File.{file_rule};
-ghost use Rattle.report.specs.Text.{levels_room, text_room, levels_text, taken_text, text_verdict, text_rule};
-ghost use Rattle.report.specs.Wrote.{Wrote};
+ghost use Rattle.report.specs.Text.{levels_room, text_room, levels_text, text_rule};
+ghost use Rattle.report.specs.Wrote.{Adds};
 
 use crate::fit::depth_for;
-use crate::lines::{put_graph, put_refused};
+use crate::lines::Lines;
+use crate::writer::Writer;
 use build::build;
 use graph::checks::check_output;
-use graph::file::{FileAnswer, check_file};
-use graph::format::Counts;
-use graph::layout::word_count;
-use graph::refusal::{Check, Refusal};
+use graph::file::check_file;
+use graph::refusal::Refusal;
+use level::layers::Layers;
 
 // Room for the words of the graph, and for the longest text.
 const LEVELS_ROOM: usize = 8192;
 
 pub const TEXT_ROOM: usize = 8600;
 
-// The number of bytes written, or why the call is turned away.
-#[derive(Clone, Copy)]
-pub enum TextAnswer {
-    Written(usize),
-    Refused(Refusal),
+// The text of a file that is taken: the graph is built into the words, and read from there. Of another file the cause, and no byte is written.
+fn taken_text(file: &[u8], words: &mut [u64], text: &mut Writer<'_>) -> Result<(), Refusal>
+    requires { (length words.old ≡ levels_room) × (text.old.end + text_room ≤ length text.old.out.now) }
+    ensures rule { verdict result ≡ and_then (file_rule file.now) (λ c. accepted tt) }
+    ensures text { IsOk result → Adds text.old (levels_text file.now) text.new }
+    ensures none { IsErr result → text.new ≡ text.old }
+{
+    let c = check_file(file)?.counts;
+    let depth = depth_for(c.shape(), words.len());
+    let built = build(file, depth, &mut *words)?;
+    let layers = Layers::lent(c, depth, Ok(()), &words[..built.words])?;
+    Lines::new(layers).put_graph(c.states, text);
+    Ok(())
 }
 
-// The text of a file that was taken: the graph is built into the words, and read from there.
-fn taken_text(file: &[u8], c: Counts, words: &mut [u64], out: &mut [u8]) -> usize
-    requires { (file_rule file.now ≡ accepted c) × (length words.old ≡ levels_room) × (text_room ≤ length out.old) }
-    ensures { Wrote out.old 0 (taken_text file.now c) out.new result }
+// The text of any file: of one that is turned away the line of its refusal.
+fn file_text(file: &[u8], words: &mut [u64], text: &mut Writer<'_>)
+    requires { (length words.old ≡ levels_room) × (text.old.end + text_room ≤ length text.old.out.now) }
+    ensures { Adds text.old (levels_text file.now) text.new }
 {
-    let shape = c.shape();
-    let depth = depth_for(shape, words.len());
-    let count = word_count(shape, depth);
-    build(file, depth, &mut *words);
-    put_graph(&words[..count], shape, c.states, depth, out)
-}
-
-// The text of any file.
-fn file_text(file: &[u8], words: &mut [u64], out: &mut [u8]) -> usize
-    requires { (length words.old ≡ levels_room) × (text_room ≤ length out.old) }
-    ensures { Wrote out.old 0 (levels_text file.now) out.new result }
-{
-    let taken = check_file(file);
-    match taken {
-        FileAnswer::Taken(c) => taken_text(file, c, words, out),
-        FileAnswer::Refused(why) => put_refused(out, why),
+    if let Err(why) = taken_text(file, words, &mut *text) {
+        text.refused(why.number(), why.place());
     }
-}
-
-// The text, with the words that the graph is built in.
-fn own_text(file: &[u8], out: &mut [u8]) -> usize
-    requires { text_room ≤ length out.old }
-    ensures { Wrote out.old 0 (levels_text file.now) out.new result }
-{
-    let mut words = [0u64; LEVELS_ROOM];
-    file_text(file, &mut words, out)
 }
 
 // What `levels` prints for a file, at the front of the output; what lies behind it stays. The output has room for the longest text, or no byte changes.
-pub fn levels_text(file: &[u8], out: &mut [u8]) -> TextAnswer
-    ensures { (text_verdict result ≡ written (text_rule file.now (length out.old)))
+pub fn levels_text(file: &[u8], out: &mut [u8]) -> Result<usize, Refusal>
+    ensures { (verdict result ≡ written (text_rule file.now (length out.old)))
         × (out.new ≡ laid (text_rule file.now (length out.old)) out.old) }
 {
-    let check = check_output(TEXT_ROOM, out.len());
-    match check {
-        Check::Refused(why) => TextAnswer::Refused(why),
-        Check::Passed => TextAnswer::Written(own_text(file, out)),
-    }
+    check_output(TEXT_ROOM, out.len())?;
+    let mut words = [0u64; LEVELS_ROOM];
+    let mut text = Writer::new(out);
+    file_text(file, &mut words, &mut text);
+    Ok(text.end)
 }

@@ -1,155 +1,117 @@
-// The lines of the text, each from what the graph words say.
-ghost use Rattle.std.specs.Prelude.{◌≡◌, ◌+◌, ◌*◌, ◌≤◌, ◌<◌, length};
+// The lines of the text, each from what the layers of a graph say.
+ghost use Rattle.std.specs.Prelude.{◌≡◌, ◌≤◌, ◌<◌};
 ghost use Rattle.rules.specs.Word as W;
 ghost use Rattle.rules.specs.Lists.{run_over};
 ghost use Rattle.rules.specs.Level as L;
-ghost use Rattle.words.specs.Width.{state_width};
-ghost use Rattle.graph.specs.Verdict.{number_of, place_of};
-ghost use Rattle.graph.specs.Checks.{Room};
+ghost use Rattle.words.specs.Width.{prop_width, state_width};
+ghost use Rattle.level.specs.Rule.{level_said, rest_said};
 ghost use Rattle.report.specs.Text as T;
-ghost use Rattle.report.specs.Wrote.{Wrote};
+ghost use Rattle.report.specs.Lines.{level_in, cells_of, line_of, state_of, all_of, graph_text_of};
+ghost use Rattle.report.specs.Wrote.{Fits, Adds};
 
-use crate::put::{put, put_decimal, put_level};
-use graph::refusal::{Refusal, number, place};
-use level::layers::{first_met, first_rest};
-use rules::Shape;
+use crate::writer::Writer;
+use level::layers::{Layers, Level};
 use words::sets::{Props, Set, States};
 
-// The levels of each single proposition for a set of states.
-fn put_levels(
-    words: &[u64],
-    shape: Shape,
-    depth: usize,
-    rest: usize,
-    set: States,
-    out: &mut [u8],
-    at: usize,
-) -> usize
-    requires { Room shape depth words.now × (rest ≡ L.first_rest shape depth words.now) × (at + 4 * shape.props ≤ length out.old) }
-    ensures { Wrote out.old at (T.cells_text shape.props (λ p. L.level_of shape depth set.0 (W.single p) words.now)) out.new result }
-{
-    let mut to = at;
-    for p in 0..shape.props {
-        let t = first_met(words, shape, depth, set, Props::single(p));
-        to = put_level(&mut *out, to, t, rest, depth);
+// The layers that the lines are read from, and the first of them that rests, where one does: it is sought once.
+#[derive(Clone, Copy)]
+pub struct Lines<'a> {
+    pub layers: Layers<'a>,
+    pub rest: Option<usize>,
+    pub ghost rest_is: { rest_said rest ≡ L.rest_of layers.shape layers.depth layers.words.now },
+}
+
+impl<'a> Lines<'a> {
+    pub fn new(layers: Layers<'a>) -> Lines<'a>
+        ensures { result.layers ≡ layers.entry }
+    {
+        let t = layers.first_rest();
+        let rest = if t < layers.depth { Some(t) } else { None };
+        Lines { layers, rest }
     }
-    to
-}
 
-// What follows the name of a line.
-fn put_line(
-    words: &[u64],
-    shape: Shape,
-    depth: usize,
-    rest: usize,
-    set: States,
-    out: &mut [u8],
-    at: usize,
-) -> usize
-    requires { Room shape depth words.now × (rest ≡ L.first_rest shape depth words.now) × (at + (2 + 4 * shape.props) ≤ length out.old) }
-    ensures { Wrote out.old at (T.line_text shape.props (λ p. L.level_of shape depth set.0 (W.single p) words.now)) out.new result }
-{
-    let cells = put(&mut *out, at, b":");
-    let end = put_levels(words, shape, depth, rest, set, &mut *out, cells);
-    put(out, end, b"\n")
-}
-
-// The line of state s.
-fn put_state(
-    words: &[u64],
-    shape: Shape,
-    depth: usize,
-    rest: usize,
-    s: usize,
-    out: &mut [u8],
-    at: usize,
-) -> usize
-    requires { Room shape depth words.now × (rest ≡ L.first_rest shape depth words.now) × (s < state_width) × (at + (4 + 4 * shape.props) ≤ length out.old) }
-    ensures { Wrote out.old at (T.state_text shape depth words.now s) out.new result }
-{
-    let line = put_decimal(&mut *out, at, s);
-    put_line(words, shape, depth, rest, States::single(s), out, line)
-}
-
-// The lines of the states.
-fn put_states(
-    words: &[u64],
-    shape: Shape,
-    depth: usize,
-    rest: usize,
-    states: usize,
-    out: &mut [u8],
-    at: usize,
-) -> usize
-    requires { Room shape depth words.now × (rest ≡ L.first_rest shape depth words.now) × (states ≤ state_width) × (at + states * (4 + 4 * shape.props) ≤ length out.old) }
-    ensures { Wrote out.old at (run_over states (T.state_text shape depth words.now)) out.new result }
-{
-    let mut to = at;
-    for s in 0..states {
-        to = put_state(words, shape, depth, rest, s, &mut *out, to);
+    // The level of proposition p for a set of states.
+    fn level(&self, set: States, p: usize) -> Level
+        requires { p < prop_width }
+        ensures { level_said result ≡ level_in self.now.layers set.0 p }
+    {
+        let t = self.layers.first_met(set, Props::single(p));
+        if t <= self.layers.depth {
+            return Level::At(t);
+        }
+        match self.rest {
+            Some(_) => Level::Never,
+            None => Level::NotByDepth,
+        }
     }
-    to
-}
 
-// The line of all states.
-fn put_all(
-    words: &[u64],
-    shape: Shape,
-    depth: usize,
-    rest: usize,
-    states: usize,
-    out: &mut [u8],
-    at: usize,
-) -> usize
-    requires { Room shape depth words.now × (rest ≡ L.first_rest shape depth words.now) × (states ≤ state_width) × (at + (5 + 4 * shape.props) ≤ length out.old) }
-    ensures { Wrote out.old at (T.all_text shape states depth words.now) out.new result }
-{
-    let line = put(&mut *out, at, b"all");
-    put_line(words, shape, depth, rest, States::first(states), out, line)
-}
-
-// The layer that rests, or `?` where none does.
-fn put_rest(out: &mut [u8], at: usize, rest: usize, depth: usize) -> usize
-    requires { (depth < T.three_digits) × (at + 3 ≤ length out.old) }
-    ensures { Wrote out.old at (T.rest_text (T.rest_from rest depth)) out.new result }
-{
-    if rest < depth {
-        return put_decimal(out, at, rest);
+    // The levels of each single proposition for a set of states.
+    fn put_levels(&self, set: States, text: &mut Writer<'_>)
+        requires { Fits text.old (cells_of self.now.layers set.0) }
+        ensures { Adds text.old (cells_of self.now.layers set.0) text.new }
+    {
+        for p in 0..self.layers.shape.props {
+            text.cell(self.level(set, p));
+        }
     }
-    put(out, at, b"?")
-}
 
-// The first line.
-fn put_head(out: &mut [u8], rest: usize, depth: usize) -> usize
-    requires { (depth < T.three_digits) × (T.head_room ≤ length out.old) }
-    ensures { Wrote out.old 0 (T.head_text depth (T.rest_from rest depth)) out.new result }
-{
-    let number = put(&mut *out, 0, b"depth ");
-    let word = put_decimal(&mut *out, number, depth);
-    let layer = put(&mut *out, word, b" rest ");
-    let end = put_rest(&mut *out, layer, rest, depth);
-    put(out, end, b"\n")
-}
+    // What follows the name of a line.
+    fn put_line(&self, set: States, text: &mut Writer<'_>)
+        requires { Fits text.old (line_of self.now.layers set.0) }
+        ensures { Adds text.old (line_of self.now.layers set.0) text.new }
+    {
+        text.put(b":");
+        self.put_levels(set, &mut *text);
+        text.put(b"\n");
+    }
 
-// The text of a graph; the rest is sought once.
-pub fn put_graph(words: &[u64], shape: Shape, states: usize, depth: usize, out: &mut [u8]) -> usize
-    requires { Room shape depth words.now × (states ≤ state_width) × (T.text_room ≤ length out.old) }
-    ensures { Wrote out.old 0 (T.graph_text shape states depth words.now) out.new result }
-{
-    let rest = first_rest(words, shape, depth);
-    let lines = put_head(&mut *out, rest, depth);
-    let all = put_states(words, shape, depth, rest, states, &mut *out, lines);
-    put_all(words, shape, depth, rest, states, out, all)
-}
+    // The line of state s.
+    fn put_state(&self, s: usize, text: &mut Writer<'_>)
+        requires { (s < state_width) × Fits text.old (state_of self.now.layers s) }
+        ensures { Adds text.old (state_of self.now.layers s) text.new }
+    {
+        text.decimal(s);
+        self.put_line(States::single(s), text);
+    }
 
-// The line of a file that is turned away.
-pub fn put_refused(out: &mut [u8], why: Refusal) -> usize
-    requires { T.text_room ≤ length out.old }
-    ensures { Wrote out.old 0 (T.refused_text (number_of why) (place_of why)) out.new result }
-{
-    let cause = put(&mut *out, 0, b"refused ");
-    let space = put_decimal(&mut *out, cause, number(why));
-    let at = put(&mut *out, space, b" ");
-    let end = put_decimal(&mut *out, at, place(why));
-    put(out, end, b"\n")
+    // The lines of the states.
+    fn put_states(&self, states: usize, text: &mut Writer<'_>)
+        requires { (states ≤ state_width) × Fits text.old (run_over states (state_of self.now.layers)) }
+        ensures { Adds text.old (run_over states (state_of self.now.layers)) text.new }
+    {
+        for s in 0..states {
+            self.put_state(s, &mut *text);
+        }
+    }
+
+    // The line of all states.
+    fn put_all(&self, states: usize, text: &mut Writer<'_>)
+        requires { (states ≤ state_width) × Fits text.old (all_of self.now.layers states) }
+        ensures { Adds text.old (all_of self.now.layers states) text.new }
+    {
+        text.put(b"all");
+        self.put_line(States::first(states), text);
+    }
+
+    // The first line.
+    fn put_head(&self, text: &mut Writer<'_>)
+        requires { Fits text.old (T.head_text self.now.layers.depth (rest_said self.now.rest)) }
+        ensures { Adds text.old (T.head_text self.now.layers.depth (rest_said self.now.rest)) text.new }
+    {
+        text.put(b"depth ");
+        text.decimal(self.layers.depth);
+        text.put(b" rest ");
+        text.rest(self.rest);
+        text.put(b"\n");
+    }
+
+    // All of them, for so many states.
+    pub fn put_graph(&self, states: usize, text: &mut Writer<'_>)
+        requires { (states ≤ state_width) × Fits text.old (graph_text_of self.now.layers states) }
+        ensures { Adds text.old (graph_text_of self.now.layers states) text.new }
+    {
+        self.put_head(&mut *text);
+        self.put_states(states, &mut *text);
+        self.put_all(states, text);
+    }
 }

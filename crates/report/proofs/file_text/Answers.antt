@@ -1,24 +1,20 @@
--- A file that is taken has the text of its graph; one that is turned away has the line of its refusal.
-use Rattle.graph.specs.File.{file_verdict}
-use Rattle.graph.proofs.Verdicts.{told}
-use Rattle.report.proofs.Texts.{wrote_same}
-use Rattle.report.proofs.FileTexts.{text_taken, text_refused}
-use borrow.Author.Rules.{rules}
+-- Of a file that is turned away, the line of its refusal.
+use mathlib.Core.Path.{refl, sym, ap₂, subst, ◌∙◌}
+use native.Mathlib.Omega.{arith}
+use Rattle.report.specs.Text.{refused_text, levels_text}
+use Rattle.report.specs.Wrote.{Fits, Adds}
+use Rattle.report.specs.declared.writer.Writer.{Writer}
+use Rattle.report.proofs.Texts.{adds_same}
+use Rattle.report.proofs.Marks.{refused_short}
+use Rattle.report.proofs.FileTexts.{text_refused, away_first}
 use Rattle.report.proofs.file_text.Goals as goal
 
-pub taken_text-requires : goal.taken_text-requires
-taken_text-requires c = (
-  told file_verdict c.check_file-taken.ensures
-      c.in-Taken.is,
-  search rules,
-  search rules,
-)
+pub refused-requires : goal.refused-requires
+refused-requires c =
+    subst (λ (w : Writer). Fits w (refused_text c.number.result c.place.result)) (sym (c.in-Err.ensures.none refl))
+    (record { room = omega (arith, c.requires.1, refused_short c.number.result c.place.result (omega arith) (omega arith)) })
 
-pub returns-in-Taken : goal.returns-in-Taken
-returns-in-Taken c = wrote_same c.taken_text.ensures (text_taken _ _ (told file_verdict
-    c.check_file-taken.ensures
-    c.in-Taken.is))
-
-pub returns-in-Refused : goal.returns-in-Refused
-returns-in-Refused c = wrote_same c.put_refused.ensures (text_refused _ _ _ (told file_verdict
-    c.check_file-taken.ensures c.in-Refused.is))
+pub returns-in-Err : goal.returns-in-Err
+returns-in-Err c =
+    subst (λ (w : Writer). Adds w (levels_text c.args.file.now) c.refused.new.self) (c.in-Err.ensures.none refl)
+    (adds_same c.refused.ensures (ap₂ refused_text c.number.ensures c.place.ensures ∙ text_refused _ _ _ (away_first _ _ _ c.in-Err.ensures.rule)))

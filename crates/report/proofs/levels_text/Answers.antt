@@ -1,22 +1,23 @@
 -- Room for the longest text is asked for first; then any file has a text.
-use mathlib.Core.Path.{◌∙◌}
-use native.Mathlib.Nat.{zero-add}
-use Rattle.graph.specs.Checks.{check_verdict}
+use mathlib.Core.Path.{refl, sym, ap}
+use mathlib.Core.List.{List}
+use Prim.Native.Nat.{ℕ}
+use native.Mathlib.Omega.{arith}
+use borrow.Author.Rules.{rules}
+use denote.MutBor.{MutBor}
+use lib.ListN.{length}
 use Rattle.graph.proofs.Ladder.{output_means}
-use Rattle.graph.proofs.Verdicts.{told, then_refused, then_accepted, laid_refused, laid_accepted}
+use Rattle.graph.proofs.Verdicts.{stops, laid_away}
 use Rattle.report.specs.Text.{text_rule}
+use Rattle.report.proofs.FileTexts.{text_laid}
 use Rattle.report.proofs.levels_text.Goals as goal
 
-pub own_text-requires : goal.own_text-requires
-own_text-requires c = output_means _ _ (told check_verdict c.check_output-check.ensures c.in-Passed.is)
-
-pub returns-in-Refused : goal.returns-in-Refused
+pub returns-in_err-check_output : goal.returns-in_err-check_output
 unfolding text_rule
-returns-in-Refused c = laid_refused _ _ _ _ (then_refused _ _ _ _ (told check_verdict c.check_output-check.ensures c.in-Refused.is))
+returns-in_err-check_output c = laid_away _ _ _ _ c.from_residual.ensures.1 (stops _ _ _ c.in_err-check_output.ensures)
 
-pub returns-in-Passed : goal.returns-in-Passed
-unfolding text_rule
-returns-in-Passed c =
-    laid_accepted _ _ _ _ _ (then_accepted _ _ _ (told check_verdict c.check_output-check.ensures
-    c.in-Passed.is))
-    (c.own_text.ensures.ends ∙ zero-add _) c.own_text.ensures.is
+pub file_text-requires : goal.file_text-requires
+file_text-requires c = (refl, omega (arith, output_means _ _ (sym c.in_ok-check_output.ensures), c.new-text.ensures.1, ap (λ (m : MutBor (List ℕ)). length m.now) c.new-text.ensures.0))
+
+pub returns : goal.returns
+returns c = text_laid _ _ _ _ _ (sym c.in_ok-check_output.ensures) c.new-text.ensures.1 (ap (λ (m : MutBor (List ℕ)). m.now) c.new-text.ensures.0) c.file_text.ensures (search rules)

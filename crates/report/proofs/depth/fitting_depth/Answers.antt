@@ -1,21 +1,41 @@
--- A file turned away turns the call away.
-use mathlib.Core.Path.{sym, ◌∙◌}
-use Rattle.graph.specs.File.{file_verdict}
-use Rattle.graph.proofs.Ladder.{taken_means}
-use Rattle.graph.proofs.Verdicts.{told, then_refused, then_accepted}
-use Rattle.report.specs.Depth.{fitting_rule}
+-- `fitting_depth` meets its contract: the file's causes, then the words of depth 0 decide whether there is a depth.
+use mathlib.Core.Path.{◌≡◌, sym, ap, subst, ◌∙◌}
+use Prim.Native.Nat.{ℕ, ◌≤◌}
+use Rattle.rules.specs.Layer.{word_count}
+use Rattle.rules.specs.declared.Shape.{Shape}
+use Rattle.graph.specs.Verdict.{accepted}
+use Rattle.graph.specs.Format.{shape_in}
+use Rattle.graph.specs.Checks.{memory_rule, Small}
+use Rattle.graph.proofs.Ladder.{small_of, memory_means}
+use Rattle.graph.proofs.Verdicts.{ends_at, goes_on}
+use Rattle.report.specs.Depth.{depth_for, fitting_rule, fitting_taken}
 use Rattle.report.proofs.depth.fitting_depth.Goals as goal
+use Rattle.report.proofs.depth.fitting_depth.Goals.{After-word_count}
 
-pub fitting_taken-requires : goal.fitting_taken-requires
-fitting_taken-requires c =
-    (taken_means _ _ (told file_verdict c.check_file-taken.ensures c.in-Taken.is)).ranged
+-- the words of depth 0
+zero_words : (c : After-word_count) → c.word_count.result ≡ word_count (shape_in c.in_ok-check_file.field-0.counts) 0
+zero_words c = c.word_count.ensures ∙ ap (λ (s : Shape). word_count s 0) c.shape-shape.ensures
 
-pub returns-in-Refused : goal.returns-in-Refused
+pub returns-in_err-check_file : goal.returns-in_err-check_file
 unfolding fitting_rule
-returns-in-Refused c = sym (then_refused _ _ _ _ (told file_verdict c.check_file-taken.ensures c.in-Refused.is))
+returns-in_err-check_file c = ends_at _ _ _ _ _ c.from_residual.ensures.1 c.in_err-check_file.ensures.rule
 
-pub returns-in-Taken : goal.returns-in-Taken
-unfolding fitting_rule
-returns-in-Taken c =
-    c.fitting_taken.ensures
-    ∙ sym (then_accepted _ _ _ (told file_verdict c.check_file-taken.ensures c.in-Taken.is))
+pub returns-in_err-check_memory : goal.returns-in_err-check_memory
+unfolding fitting_rule fitting_taken
+returns-in_err-check_memory c = goes_on _ _ _ c.in_ok-check_file.ensures.rule
+    (ends_at _ _ _ _ _ c.from_residual-in_err-check_memory.ensures.1
+    (c.in_err-check_memory.ensures ∙ ap (λ (x : ℕ). memory_rule x c.args.room) (zero_words (goal.at.returns-in_err-check_memory c).After-word_count)))
+
+pub depth_for-requires : goal.depth_for-requires
+depth_for-requires c = let shape = sym c.shape-shape.ensures in (
+  subst Small shape (small_of _ c.in_ok-check_file.field-0.taken.ranged),
+  subst (λ (s : Shape). 1 ≤ s.props) shape c.in_ok-check_file.field-0.taken.ranged.some_props,
+  subst (λ (x : ℕ). x ≤ c.args.room) c.word_count.ensures (memory_means _ _ (sym c.in_ok-check_memory.ensures)),
+)
+
+pub returns : goal.returns
+unfolding fitting_rule fitting_taken
+returns c = goes_on _ _ _ c.in_ok-check_file.ensures.rule
+    (goes_on _ _ tt
+    (c.in_ok-check_memory.ensures ∙ ap (λ (x : ℕ). memory_rule x c.args.room) (zero_words (goal.at.returns c).After-word_count))
+    (ap accepted (c.depth_for.ensures.0 ∙ ap (λ (s : Shape). depth_for s c.args.room) c.shape-shape.ensures)))
