@@ -17,11 +17,11 @@ mod step;
 
 use answer::{Answer, Listed};
 use line::{Column, Line};
-use memory::Memory;
+use memory::{Memory, first_mut};
 use std::fmt::Display;
 use std::io;
 use std::io::Write;
-use step::Step;
+use step::{NoSuchStep, Step};
 use streams::read_full;
 
 // Room for the script.
@@ -45,15 +45,17 @@ fn say_built(to: &mut impl Write, line: Line, answer: Answer) -> io::Result<()> 
     writeln!(to, "{answer}")
 }
 
-// What a call answers, and what it then left of what it was lent.
+// Lends as many of the room's elements as the line says to a call that writes them: what it answers, and what they then are.
 fn say_output<T: Display, F: FnOnce(&mut [T]) -> Answer>(
     to: &mut impl Write,
+    line: Line,
     name: &str,
-    out: &mut [T],
+    room: &mut [T],
     call: F,
 ) -> io::Result<()>
     requires { F.IsAlwaysCallable call }
 {
+    let out = first_mut(room, line.size(Column::Out));
     let answer = call(&mut *out);
     writeln!(to, "{answer}")?;
     writeln!(to, "{name}: {}", Listed(&out[..]))
@@ -67,27 +69,10 @@ fn say_sets<F: FnOnce(&mut [u32]) -> Answer>(
 ) -> io::Result<()>
     requires { F.IsAlwaysCallable call }
 {
-    let mut sets = [FRESH; SETS];
-    let out = sets.get_mut(..line.size(Column::Out)).unwrap_or_default();
-    say_output(to, "sets", out, call)
+    say_output(to, line, "sets", &mut [FRESH; SETS], call)
 }
 
-// A call that writes the entries of a page.
-fn say_entries<F: FnOnce(&mut [u16]) -> Answer>(
-    to: &mut impl Write,
-    line: Line,
-    call: F,
-) -> io::Result<()>
-    requires { F.IsAlwaysCallable call }
-{
-    let mut entries = [FRESH_ENTRY; ENTRIES];
-    let out = entries
-        .get_mut(..line.size(Column::Out))
-        .unwrap_or_default();
-    say_output(to, "entries", out, call)
-}
-
-fn take(to: &mut impl Write, memory: &mut Memory, line: Line) -> io::Result<()> {
+fn take_step(to: &mut impl Write, memory: &mut Memory, line: Line) -> io::Result<()> {
     to.write_all(line.text())?;
     match line.step() {
         Ok(Step::PutByte) => {
@@ -107,17 +92,23 @@ fn take(to: &mut impl Write, memory: &mut Memory, line: Line) -> io::Result<()> 
         Ok(Step::Extract) => writeln!(to, "{}", memory.extract(line)),
         Ok(Step::Plan) => say_sets(to, line, |out| memory.plan(line, out)),
         Ok(Step::Run) => say_sets(to, line, |out| memory.run(line, out)),
-        Ok(Step::Page) => say_entries(to, line, |out| memory.page(line, out)),
-        Ok(Step::ShowGraph) => writeln!(to, "{}", Listed(memory.graph_part(line))),
-        Ok(Step::ShowPossible) => writeln!(to, "{}", Listed(memory.possible_part(line))),
-        Ok(Step::ShowExtract) => writeln!(to, "{}", Listed(memory.extract_part(line))),
-        Err(_none) => say_sets(to, line, |_out| Answer::NoSuchStep),
+        Ok(Step::Page) => say_output(
+            to,
+            line,
+            "entries",
+            &mut [FRESH_ENTRY; ENTRIES],
+            |out| memory.page(line, out),
+        ),
+        Ok(Step::ShowGraph) => writeln!(to, "{}", memory.graph_part(line)),
+        Ok(Step::ShowPossible) => writeln!(to, "{}", memory.possible_part(line)),
+        Ok(Step::ShowExtract) => writeln!(to, "{}", memory.extract_part(line)),
+        Err(NoSuchStep) => say_sets(to, line, |_out| Answer::NoSuchStep),
     }
 }
 
-fn take_all(to: &mut impl Write, memory: &mut Memory, script: &[u8]) -> io::Result<()> {
+fn take_steps(to: &mut impl Write, memory: &mut Memory, script: &[u8]) -> io::Result<()> {
     for line in script.split_inclusive(|b| *b == b'\n') {
-        take(to, memory, Line(line.strip_suffix(b"\n").unwrap_or(line)))?;
+        take_step(to, memory, Line(line.strip_suffix(b"\n").unwrap_or(line)))?;
     }
     Ok(())
 }
@@ -125,5 +116,5 @@ fn take_all(to: &mut impl Write, memory: &mut Memory, script: &[u8]) -> io::Resu
 fn main(rt: HostRuntime) -> io::Result<()> {
     let mut script = [0u8; SCRIPT];
     let n = read_full(&mut rt.stdin(), &mut script)?;
-    take_all(&mut rt.stdout(), &mut Memory::new(), &script[..n])
+    take_steps(&mut rt.stdout(), &mut Memory::new(), &script[..n])
 }

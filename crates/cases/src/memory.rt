@@ -1,5 +1,5 @@
 // What the steps read and write.
-use crate::answer::Answer;
+use crate::answer::{Answer, Listed};
 use crate::bytes::{Bytes, first, sets};
 use crate::line::{Column, Line};
 use build::build;
@@ -20,7 +20,7 @@ const POSSIBLE: usize = 600;
 // Words of an extract.
 const EXTRACT: usize = 49;
 
-fn first_mut<T>(memory: &mut [T], n: usize) -> &mut [T] {
+pub fn first_mut<T>(memory: &mut [T], n: usize) -> &mut [T] {
     memory.get_mut(..n).unwrap_or_default()
 }
 
@@ -156,15 +156,16 @@ impl Memory {
         .into()
     }
 
-    pub fn graph_part(&self, line: Line) -> &[u64] {
-        line.part(&self.graph)
+    // The words that a line has printed of a memory.
+    pub fn graph_part(&self, line: Line) -> Listed<'_, u64> {
+        Listed(line.part(&self.graph))
     }
 
-    pub fn possible_part(&self, line: Line) -> &[u64] {
-        line.part(&self.possible)
+    pub fn possible_part(&self, line: Line) -> Listed<'_, u64> {
+        Listed(line.part(&self.possible))
     }
 
-    pub fn extract_part(&self, line: Line) -> &[u64] {
-        line.part(&self.extract)
+    pub fn extract_part(&self, line: Line) -> Listed<'_, u64> {
+        Listed(line.part(&self.extract))
     }
 }

@@ -96,17 +96,17 @@ struct Graph<'a>(Row<'a>);
 
 impl<'a> Graph<'a> {
     fn lent(self) -> usize {
-        self.0.numbers.index(LENT)
+        self.0.index(LENT)
     }
 
     // None where the words are as the last build left them.
     fn fill(self) -> Option<Fill> {
-        if self.0.numbers.entry(SOURCE) != FILLED {
+        if self.0.entry(SOURCE) != FILLED {
             return None;
         }
         Some(Fill {
-            base: self.0.numbers.entry(BASE),
-            mask: self.0.numbers.entry(MASK),
+            base: self.0.entry(BASE),
+            mask: self.0.entry(MASK),
         })
     }
 
@@ -139,51 +139,54 @@ impl<'a> Graph<'a> {
     }
 }
 
-// A case's numbers; what a call takes is read from them.
+// A case: what kind of call it is, none where it names no kind or is cut, and the row from which what the call takes is read.
 #[derive(Clone, Copy)]
-pub struct Case<'a>(pub Row<'a>);
+pub struct Case<'a> {
+    pub kind: Option<Kind>,
+    pub row: Row<'a>,
+}
 
 impl<'a> Case<'a> {
     fn file(self) -> &'a [u8] {
-        self.0.stored(FILE)
+        self.row.stored(FILE)
     }
 
     fn depth(self) -> usize {
-        self.0.numbers.index(DEPTH)
+        self.row.index(DEPTH)
     }
 
     fn states(self) -> States {
-        States(self.0.numbers.entry(SET))
+        States(self.row.entry(SET))
     }
 
     fn goal(self) -> Props {
-        Props(u32::cut(self.0.numbers.entry(GOAL)))
+        Props(u32::cut(self.row.entry(GOAL)))
     }
 
     fn numerator(self) -> u16 {
-        u16::cut(self.0.numbers.entry(NUMERATOR))
+        u16::cut(self.row.entry(NUMERATOR))
     }
 
     fn denominator(self) -> u16 {
-        u16::cut(self.0.numbers.entry(DENOMINATOR))
+        u16::cut(self.row.entry(DENOMINATOR))
     }
 
     fn graph(self) -> Graph<'a> {
-        Graph(self.0.from(GRAPH))
+        Graph(self.row.from(GRAPH))
     }
 
     fn possible(self) -> Graph<'a> {
-        Graph(self.0.from(POSSIBLE))
+        Graph(self.row.from(POSSIBLE))
     }
 
     // The actions of a run.
     fn actions(self) -> &'a [u8] {
-        self.0.stored(LIST)
+        self.row.stored(LIST)
     }
 
     // The list as sets or as weights, laid into the room.
     fn list<T: Element>(self, room: &mut [T]) -> &mut [T] {
-        let list = Numbers(self.0.stored(LIST));
+        let list = Numbers(self.row.stored(LIST));
         let out = first(room, list.index(0));
         for (i, x) in out.iter_mut().enumerate() {
             *x = T::cut(list.entry(i + 1));
@@ -194,10 +197,10 @@ impl<'a> Case<'a> {
     // What is to come.
     pub fn wanted(self) -> Outcome {
         Outcome {
-            answer: self.0.numbers.entry(ANSWER),
-            first: self.0.numbers.entry(FIRST),
-            second: self.0.numbers.entry(SECOND),
-            digest: self.0.numbers.entry(DIGEST),
+            answer: self.row.entry(ANSWER),
+            first: self.row.entry(FIRST),
+            second: self.row.entry(SECOND),
+            digest: self.row.entry(DIGEST),
         }
     }
 
@@ -205,7 +208,7 @@ impl<'a> Case<'a> {
     fn written<T: Element, F: FnOnce(&mut [T]) -> Answer>(self, out: &mut [T], call: F) -> Outcome
         requires { F.IsAlwaysCallable call }
     {
-        fill(&mut *out, self.0.numbers.entry(FILL));
+        fill(&mut *out, self.row.entry(FILL));
         let answer = call(&mut *out);
         Outcome::new(answer, digest(&out[..]))
     }
@@ -214,7 +217,7 @@ impl<'a> Case<'a> {
     fn lent<T: Element, F: FnOnce(&mut [T]) -> Answer>(self, room: &mut [T], call: F) -> Outcome
         requires { F.IsAlwaysCallable call }
     {
-        self.written(first(room, self.0.numbers.index(OUT)), call)
+        self.written(first(room, self.row.index(OUT)), call)
     }
 
     fn rest(self, graph: &[u64]) -> Answer {
@@ -316,13 +319,13 @@ impl Memory {
         }
     }
 
-    // A call that reads a graph, or the one that reads none. A case that names no kind or is cut is called as a page that is lent no entry.
-    fn read(&self, kind: Option<Kind>, case: Case) -> Outcome {
+    // A call that reads a graph, or the one that reads none. A case of no kind is called as a page that is lent no entry.
+    fn read(&self, case: Case) -> Outcome {
         let mut room = [0; WORDS];
         let words = first(&mut room, case.graph().lent());
         case.graph().lay(&self.built, &mut *words);
         let graph = &words[..];
-        match kind {
+        match case.kind {
             Some(Kind::Rest) => Outcome::new(case.rest(graph), 0),
             Some(Kind::Level) => Outcome::new(case.level(graph), 0),
             Some(Kind::LevelWithin) => Outcome::new(case.level_within(&self.within, graph), 0),
@@ -336,14 +339,14 @@ impl Memory {
     }
 
     // What comes of a case.
-    pub fn call(&mut self, kind: Option<Kind>, case: Case) -> Outcome {
+    pub fn call(&mut self, case: Case) -> Outcome {
         let n = case.graph().lent();
-        match kind {
+        match case.kind {
             Some(Kind::Build) => case.written(first(&mut self.built, n), |out| case.build(out)),
             Some(Kind::BuildWithin) => {
                 case.written(first(&mut self.within, n), |out| case.build_within(out))
             }
-            _ => self.read(kind, case),
+            _ => self.read(case),
         }
     }
 }

@@ -6,7 +6,7 @@ ghost use Rattle.std.specs.Iterator.{at_most};
 
 // The value with a byte behind it; what does not fit any more falls out at the top.
 fn with_digit(x: u64, b: u8) -> u64 {
-    x.wrapping_mul(256) | u64::from(b)
+    x << 8 | u64::from(b)
 }
 
 // Numbers, one behind the other.
@@ -89,6 +89,14 @@ pub struct Row<'a> {
 }
 
 impl<'a> Row<'a> {
+    pub fn entry(self, i: usize) -> u64 {
+        self.numbers.entry(i)
+    }
+
+    pub fn index(self, i: usize) -> usize {
+        self.numbers.index(i)
+    }
+
     pub fn from(self, i: usize) -> Row<'a> {
         Row {
             store: self.store,

@@ -68,76 +68,69 @@ impl File {
     // Judges the cases.
     pub fn judge(self, out: &mut impl Write, data: &[u8]) -> io::Result<()> {
         let name = self.name();
-        writeln!(
-            out,
-            "{name}: {} bytes, digest {:016x}",
-            data.len(),
-            digest_bytes(data)
-        )?;
-        let mut tally = Tally {
-            cases: 0,
-            agree: [0; COUNT],
-        };
+        let length = data.len();
+        let digest = digest_bytes(data);
+        writeln!(out, "{name}: {length} bytes, digest {digest:016x}")?;
         let (store, cases) = self.parts(data);
         let rows = Rows {
             rest: Numbers(cases),
             width: self.width(),
         };
-        let mut memory = Memory::new();
+        let mut judge = Judge::new();
         for numbers in rows {
             let kind = self.kind(numbers);
-            tally.judge(out, &mut memory, kind, Row { store, numbers })?;
+            let row = Row { store, numbers };
+            judge.count(out, Case { kind, row })?;
         }
-        writeln!(out, "{name}: {} cases", tally.cases)?;
-        tally.say(out, self.kinds(), Numbers(data))
+        writeln!(out, "{name}: {} cases", judge.cases)?;
+        judge.say(out, self.kinds(), Numbers(data))
     }
 }
 
-// Whether a case agrees; what came is printed where it does not.
-fn agrees(
-    out: &mut impl Write,
-    memory: &mut Memory,
-    kind: Option<Kind>,
-    row: Row,
-) -> io::Result<bool> {
-    if kind == Some(Kind::Levels) {
-        return Ok(levels::agrees(row));
-    }
-    let came = memory.call(kind, Case(row));
-    if came == Case(row).wanted() {
-        return Ok(true);
-    }
-    writeln!(out, "{came}")?;
-    Ok(false)
-}
-
-// How many cases there were, and how many of each kind agree.
+// The memory of the calls, how many cases there were, and how many of each kind agree.
 #[derive(Drop)]
-struct Tally {
+struct Judge {
+    memory: Memory,
     cases: usize,
     agree: [u64; COUNT],
 }
 
-impl Tally {
-    fn judge(
-        &mut self,
-        out: &mut impl Write,
-        memory: &mut Memory,
-        kind: Option<Kind>,
-        row: Row,
-    ) -> io::Result<()> {
-        self.cases = self.cases.wrapping_add(1);
-        if !agrees(out, memory, kind, row)? {
+impl Judge {
+    fn new() -> Judge {
+        Judge {
+            memory: Memory::new(),
+            cases: 0,
+            agree: [0; COUNT],
+        }
+    }
+
+    // Whether a case agrees; what came is printed where it does not.
+    fn agrees(&mut self, out: &mut impl Write, case: Case) -> io::Result<bool> {
+        if case.kind == Some(Kind::Levels) {
+            return Ok(levels::agrees(case.row));
+        }
+        let came = self.memory.call(case);
+        if came == case.wanted() {
+            return Ok(true);
+        }
+        writeln!(out, "{came}")?;
+        Ok(false)
+    }
+
+    // Counts a case; one that does not agree is named by its number.
+    fn count(&mut self, out: &mut impl Write, case: Case) -> io::Result<()> {
+        self.cases = self.cases.saturating_add(1);
+        if !self.agrees(out, case)? {
             return writeln!(out, "not so in case {}", self.cases);
         }
-        if let Some(kind) = kind {
+        if let Some(kind) = case.kind {
             let n = &mut self.agree[kind as usize];
-            *n = n.wrapping_add(1);
+            *n = n.saturating_add(1);
         }
         Ok(())
     }
 
-    // For each kind how many agree, of as many as the head announces.
+    // How many of each kind agree, of as many as the head announces.
     fn say(&self, out: &mut impl Write, kinds: &[Kind], head: Numbers) -> io::Result<()> {
         for (i, kind) in kinds.iter().enumerate() {
             let n = self.agree[*kind as usize];
