@@ -24,29 +24,29 @@ pub enum Answer {
 }
 
 // A level as an entry of a page has it.
-fn entry(level: Level) -> u64 {
+fn entry(level: Level) -> usize {
     match level {
-        Level::At(t) => t as u64,
-        Level::Never => u64::from(page::NEVER),
-        Level::NotByDepth => u64::from(page::NOT_BY_DEPTH),
+        Level::At(t) => t,
+        Level::Never => usize::from(page::NEVER),
+        Level::NotByDepth => usize::from(page::NOT_BY_DEPTH),
     }
 }
 
 impl Answer {
     // Which answer it is and its numbers, 0 for one that it lacks.
-    fn numbers(self) -> [u64; 3] {
+    fn numbers(self) -> [usize; 3] {
         match self {
-            Answer::Refused(why) => [0, number(why) as u64, place(why) as u64],
-            Answer::Built { words, looked } => [1, words as u64, looked as u64],
-            Answer::Rest(Some(t)) => [2, t as u64, 0],
+            Answer::Refused(why) => [0, number(why), place(why)],
+            Answer::Built { words, looked } => [1, words, looked],
+            Answer::Rest(Some(t)) => [2, t, 0],
             Answer::Rest(None) => [3, 0, 0],
-            Answer::Level(Level::At(t)) => [4, t as u64, 0],
+            Answer::Level(Level::At(t)) => [4, t, 0],
             Answer::Level(Level::Never) => [5, 0, 0],
             Answer::Level(Level::NotByDepth) => [6, 0, 0],
-            Answer::Extracted(n) => [7, n as u64, 0],
-            Answer::Plan { level, marked } => [8, level as u64, marked as u64],
-            Answer::Ran { sets, idle } => [9, sets as u64, idle as u64],
-            Answer::Paged(n) => [10, n as u64, 0],
+            Answer::Extracted(n) => [7, n, 0],
+            Answer::Plan { level, marked } => [8, level, marked],
+            Answer::Ran { sets, idle } => [9, sets, idle],
+            Answer::Paged(n) => [10, n, 0],
             Answer::Levels(first, second) => [11, entry(first), entry(second)],
         }
     }
@@ -128,9 +128,9 @@ impl From<PageAnswer> for Answer {
 // What came of a case: which answer, its two numbers, and the digest of what was lent to be written.
 #[derive(Clone, Copy, PartialEq, Eq)]
 pub struct Outcome {
-    pub answer: u64,
-    pub first: u64,
-    pub second: u64,
+    pub answer: usize,
+    pub first: usize,
+    pub second: usize,
     pub digest: u64,
 }
 

@@ -197,9 +197,9 @@ impl<'a> Case<'a> {
     // What is to come.
     pub fn wanted(self) -> Outcome {
         Outcome {
-            answer: self.row.entry(ANSWER),
-            first: self.row.entry(FIRST),
-            second: self.row.entry(SECOND),
+            answer: self.row.index(ANSWER),
+            first: self.row.index(FIRST),
+            second: self.row.index(SECOND),
             digest: self.row.entry(DIGEST),
         }
     }

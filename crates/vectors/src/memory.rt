@@ -1,20 +1,14 @@
 // How the vectors fill memory and sum it up: SplitMix64's output function and FNV-1a of 64 bits.
 
 // An element of memory that a call writes: a word, a set or an entry of a page.
-pub trait Element: Copy {
+pub trait Element: Copy + Into<u64> {
     // A number, cut to the element's width.
     fn cut(x: u64) -> Self;
-
-    fn wide(self) -> u64;
 }
 
 impl Element for u64 {
     fn cut(x: u64) -> u64 {
         x
-    }
-
-    fn wide(self) -> u64 {
-        self
     }
 }
 
@@ -22,19 +16,11 @@ impl Element for u32 {
     fn cut(x: u64) -> u32 {
         (x & 0xffff_ffff) as u32
     }
-
-    fn wide(self) -> u64 {
-        u64::from(self)
-    }
 }
 
 impl Element for u16 {
     fn cut(x: u64) -> u16 {
         (x & 0xffff) as u16
-    }
-
-    fn wide(self) -> u64 {
-        u64::from(self)
     }
 }
 
@@ -69,8 +55,12 @@ pub fn digest_bytes(bytes: &[u8]) -> u64 {
     with_bytes(START, bytes)
 }
 
-// An element counts as a word of 8 bytes, lowest first, however wide it is.
+// With a word's 8 bytes, lowest first.
+fn with_word(d: u64, x: u64) -> u64 {
+    with_bytes(d, &x.to_le_bytes())
+}
+
+// An element counts as a word, however wide it is.
 pub fn digest<T: Element>(out: &[T]) -> u64 {
-    out.iter()
-        .fold(START, |d, x| with_bytes(d, &x.wide().to_le_bytes()))
+    out.iter().fold(START, |d, x| with_word(d, (*x).into()))
 }
