@@ -1,90 +1,81 @@
-// A line of the script: what stands in its columns.
-ghost use Rattle.std.specs.Prelude.{◌≤◌, length};
+// A line of the script: a letter, six numbers in columns of six, and a text.
+use crate::step::{NoSuchStep, Step};
+use words::sets::{Props, States};
 
-// Where the numbers of a line begin, six columns each: bytes of the file, depth, set of states, goal, words of graph memory, elements of output, which
-// of two graphs are the words of the possible sets. Where a share is asked for, its numerator stands for the set, its denominator for the output.
-pub const FILE: usize = 1;
-
-pub const DEPTH: usize = 7;
-
-pub const SET: usize = 13;
-
-pub const GOAL: usize = 19;
-
-pub const WORDS: usize = 25;
-
-pub const OUT: usize = 31;
-// Where the text begins.
-pub const TEXT: usize = 38;
+// Where the column of each number begins: bytes of the file, depth, set of states, goal, words of graph memory, elements of output, which of two graphs
+// are the words of the possible sets. Where a share is asked for, its numerator stands for the set, its denominator for the output.
+#[derive(Clone, Copy)]
+pub enum Column {
+    File = 1,
+    Depth = 7,
+    Set = 13,
+    Goal = 19,
+    Words = 25,
+    Out = 31,
+}
 
 const WIDTH: usize = 6;
 
-// n bytes from `at` on, or none where there are fewer.
-pub fn cut<'a>(data: &'a [u8], at: usize, n: usize) -> &'a [u8] {
-    if at <= data.len() {
-        if n <= data.len() - at {
-            let end = at + n;
-            return &data[at..end];
-        }
-    }
-    &data[..0]
-}
+// Where the text begins.
+const TEXT: usize = 38;
 
 // The number with a digit behind it; a blank is none.
 fn with_digit(x: u32, b: u8) -> u32 {
-    if b < b'0' {
-        return x;
+    match b.checked_sub(b'0') {
+        Some(digit) => (x % 1000000) * 10 + u32::from(digit),
+        None => x,
     }
-    (x % 1000000) * 10 + b as u32 - 48
 }
 
-fn value(digits: &[u8]) -> u32 {
-    let mut x = 0;
-    for i in 0..digits.len() {
-        x = with_digit(x, digits[i]);
+#[derive(Clone, Copy)]
+pub struct Line<'a>(pub &'a [u8]);
+
+impl<'a> Line<'a> {
+    // What to do: nothing where the line is too short for its columns.
+    pub fn step(self) -> Result<Step, NoSuchStep> {
+        let columns = self.0.get(..TEXT).ok_or(NoSuchStep)?;
+        let letter = columns.first().ok_or(NoSuchStep)?;
+        Step::try_from(*letter)
     }
-    x
-}
 
-// The number whose columns begin at `at`.
-pub fn number(line: &[u8], at: usize) -> u32 {
-    value(cut(line, at, WIDTH))
-}
-
-pub fn size(line: &[u8], at: usize) -> usize {
-    number(line, at) as usize
-}
-
-// The same as a number of 16 bits.
-pub fn short(line: &[u8], at: usize) -> u16 {
-    (number(line, at) % 65536) as u16
-}
-
-// n, or none where there are fewer.
-pub fn fitting(n: usize, room: usize) -> usize
-    ensures { result ≤ room }
-{
-    if n <= room {
-        return n;
+    // What is printed before the step's own words.
+    pub fn text(self) -> &'a [u8] {
+        self.0.get(TEXT..).unwrap_or_default()
     }
-    0
-}
 
-// The letter of a line, 0 for one that is too short to be a step.
-pub fn letter(line: &[u8]) -> u8 {
-    if line.len() < TEXT {
-        return 0;
+    // The number in a column, 0 where the line ends before the column does.
+    pub fn number(self, column: Column) -> u32 {
+        let at = column as usize;
+        let digits = self.0.get(at..at + WIDTH).unwrap_or_default();
+        digits.iter().fold(0, |x, b| with_digit(x, *b))
     }
-    line[0]
-}
 
-// Where the byte first stands from `at` on: at the end, where it does not.
-pub fn find(text: &[u8], at: usize, byte: u8) -> usize
-    requires { at ≤ length text.now }
-    ensures { (at ≤ result) × (result ≤ length text.now) }
-{
-    match text[at..].iter().position(|b| *b == byte) {
-        Some(n) => at + n,
-        None => text.len(),
+    pub fn depth(self) -> usize {
+        self.size(Column::Depth)
+    }
+
+    pub fn states(self) -> States {
+        States(u64::from(self.number(Column::Set)))
+    }
+
+    pub fn goal(self) -> Props {
+        Props(self.number(Column::Goal))
+    }
+
+    // The elements FILE to DEPTH, none where there are fewer.
+    pub fn part<T>(self, memory: &[T]) -> &[T] {
+        let from = self.size(Column::File);
+        memory
+            .get(from..self.size(Column::Depth))
+            .unwrap_or_default()
+    }
+
+    pub fn size(self, column: Column) -> usize {
+        self.number(column) as usize
+    }
+
+    // The same as a number of 16 bits.
+    pub fn short(self, column: Column) -> u16 {
+        (self.number(column) % 65536) as u16
     }
 }

@@ -1,7 +1,7 @@
-// The paper's cases that run, a line of standard input for each step: a letter, six numbers in columns of six (see `line`), and from TEXT on
+// The paper's cases that run, a line of standard input for each step: a letter, six numbers in columns of six (see `line`), and behind them
 // a text that is printed before the step's own words. The letters:
-// e puts the byte DEPTH at offset FILE of the byte memory, which holds the file, and from `calls::LIST` on the list of a run, the goals of a page, the
-// possible sets or the weights; w puts the word DEPTH at index FILE of the graph memory;
+// e puts the byte DEPTH at offset FILE of the byte memory, which holds the file, and behind it the list of a run, the goals of a page, the
+// possible sets or the weights (see `bytes`); w puts the word DEPTH at index FILE of the graph memory;
 // b build (with no text it prints nothing), r rest, l level, x extract, p plan, n run (of DEPTH steps), m page (of GOAL goals, a byte each),
 // B build for GOAL possible sets, a byte each, into a graph memory of their own (with no text it prints nothing), L the levels from both graphs, with OUT
 // words of that memory, s the level at the share SET / OUT of the weights (how many they are, a byte, and then each, two bytes, the lower one first):
@@ -9,159 +9,106 @@
 // g, G, o print the words FILE to DEPTH of the graph memory, of that of the possible sets, of the extract's output.
 #![tactic(auto)]
 
-mod calls;
+mod answer;
+mod bytes;
 mod line;
-mod show;
+mod memory;
+mod step;
 
-use line::{cut, find, letter, number, size};
+use answer::{Answer, Listed};
+use line::{Column, Line};
+use memory::{Memory, first_mut};
+use std::fmt::Display;
 use std::io;
 use std::io::Write;
+use step::{NoSuchStep, Step};
 use streams::read_full;
-
-// The byte memory: the file, and from `calls::LIST` on, behind the longest file, a list of 65,536 steps, one more than a run takes.
-const BYTES: usize = 66436;
 
 // Room for the script.
 const SCRIPT: usize = 65536;
 
-// The graph memory: what the lamp takes at depth 255.
-const GRAPH: usize = 5361;
+// How many sets there are for a plan or a run, and what each holds before it.
+const SETS: usize = 3;
 
-// That of the possible sets, with room to spare.
-const POSSIBLE: usize = 600;
+const FRESH: u32 = 9;
 
-fn file<'a>(line: &[u8], memory: &'a [u8]) -> &'a [u8] {
-    cut(memory, 0, size(line, line::FILE))
-}
+// How many entries there are for a page, one more than goals, and what each holds before it.
+const ENTRIES: usize = 6;
 
-// The words from a to b, none where there are fewer.
-fn part<'a>(words: &'a [u64], a: usize, b: usize) -> &'a [u64] {
-    if a <= b {
-        if b <= words.len() {
-            return &words[a..b];
-        }
+const FRESH_ENTRY: u16 = 9;
+
+// With no text nothing is said.
+fn say_built(to: &mut impl Write, line: Line, answer: Answer) -> io::Result<()> {
+    if line.text().is_empty() {
+        return Ok(());
     }
-    &words[..0]
+    writeln!(to, "{answer}")
 }
 
-fn say_text(to: &mut impl Write, line: &[u8]) -> io::Result<()> {
-    show::say(
-        to,
-        cut(
-            line,
-            line::TEXT,
-            std::num::wrapping_sub_usize(line.len(), line::TEXT),
-        ),
-    )
-}
-
-fn show_part(to: &mut impl Write, line: &[u8], words: &[u64]) -> io::Result<()> {
-    show::show_words(
-        to,
-        part(words, size(line, line::FILE), size(line, line::DEPTH)),
-    )
-}
-
-fn put_byte(line: &[u8], memory: &mut [u8]) {
-    let at = size(line, line::FILE);
-    if at < memory.len() {
-        memory[at] = (number(line, line::DEPTH) % 256) as u8;
-    }
-}
-
-fn put_word(line: &[u8], words: &mut [u64]) {
-    let at = size(line, line::FILE);
-    if at < words.len() {
-        words[at] = number(line, line::DEPTH) as u64;
-    }
-}
-
-// A step that leaves the file and the graph as they are.
-fn reading_step(
+// Lends as many of the room's elements as the line says to a call that writes them: what it answers, and what they then are.
+fn say_output<T: Display, F: FnOnce(&mut [T]) -> Answer>(
     to: &mut impl Write,
-    letter: u8,
-    line: &[u8],
-    memory: &[u8],
-    words: &[u64],
-    possible: &[u64],
-    out: &mut [u64],
-) -> io::Result<()> {
-    let file = file(line, memory);
-    let graph = part(words, 0, size(line, line::WORDS));
-    match letter {
-        b'r' => calls::rest_of(to, line, file, graph),
-        b'l' => calls::level_of(to, line, file, graph),
-        b'L' => calls::levels_of(
-            to,
-            line,
-            file,
-            part(possible, 0, size(line, line::OUT)),
-            graph,
-        ),
-        b's' => calls::share_of(to, line, file, memory, graph),
-        b'x' => calls::extract_to(to, line, file, graph, out),
-        b'm' => calls::page_of(to, line, file, memory, graph),
-        b'g' => show_part(to, line, words),
-        b'G' => show_part(to, line, possible),
-        b'o' => show_part(to, line, &out[..]),
-        _ => calls::sets_of(to, letter, line, file, memory, graph),
-    }
+    line: Line,
+    name: &str,
+    room: &mut [T],
+    call: F,
+) -> io::Result<()>
+    requires { F.IsAlwaysCallable call }
+{
+    let out = first_mut(room, line.size(Column::Out));
+    let answer = call(&mut *out);
+    writeln!(to, "{answer}")?;
+    writeln!(to, "{name}: {}", Listed(&out[..]))
 }
 
-fn step(
+// A call that writes sets.
+fn say_sets<F: FnOnce(&mut [u32]) -> Answer>(
     to: &mut impl Write,
-    line: &[u8],
-    memory: &mut [u8],
-    words: &mut [u64],
-    possible: &mut [u64],
-    out: &mut [u64],
-) -> io::Result<()> {
-    let letter = letter(line);
-    match letter {
-        b'e' => {
-            put_byte(line, memory);
+    line: Line,
+    call: F,
+) -> io::Result<()>
+    requires { F.IsAlwaysCallable call }
+{
+    say_output(to, line, "sets", &mut [FRESH; SETS], call)
+}
+
+fn take_step(to: &mut impl Write, memory: &mut Memory, line: Line) -> io::Result<()> {
+    to.write_all(line.text())?;
+    match line.step() {
+        Ok(Step::PutByte) => {
+            memory.bytes.put(line);
             Ok(())
         }
-        b'w' => {
-            put_word(line, words);
+        Ok(Step::PutWord) => {
+            memory.put_word(line);
             Ok(())
         }
-        b'b' => calls::build_to(to, line, file(line, &memory[..]), words),
-        b'B' => calls::build_within_to(to, line, file(line, &memory[..]), &memory[..], possible),
-        _ => reading_step(
+        Ok(Step::Build) => say_built(to, line, memory.build(line)),
+        Ok(Step::BuildWithin) => say_built(to, line, memory.build_within(line)),
+        Ok(Step::Rest) => writeln!(to, "{}", memory.rest(line)),
+        Ok(Step::Level) => writeln!(to, "{}", memory.level(line)),
+        Ok(Step::LevelWithin) => writeln!(to, "{}", memory.level_within(line)),
+        Ok(Step::LevelShare) => writeln!(to, "{}", memory.level_share(line)),
+        Ok(Step::Extract) => writeln!(to, "{}", memory.extract(line)),
+        Ok(Step::Plan) => say_sets(to, line, |out| memory.plan(line, out)),
+        Ok(Step::Run) => say_sets(to, line, |out| memory.run(line, out)),
+        Ok(Step::Page) => say_output(
             to,
-            letter,
             line,
-            &memory[..],
-            &words[..],
-            &possible[..],
-            out,
+            "entries",
+            &mut [FRESH_ENTRY; ENTRIES],
+            |out| memory.page(line, out),
         ),
+        Ok(Step::ShowGraph) => writeln!(to, "{}", memory.graph_part(line)),
+        Ok(Step::ShowPossible) => writeln!(to, "{}", memory.possible_part(line)),
+        Ok(Step::ShowExtract) => writeln!(to, "{}", memory.extract_part(line)),
+        Err(NoSuchStep) => say_sets(to, line, |_out| Answer::NoSuchStep),
     }
 }
 
-fn steps(
-    to: &mut impl Write,
-    script: &[u8],
-    memory: &mut [u8],
-    words: &mut [u64],
-    possible: &mut [u64],
-    out: &mut [u64],
-) -> io::Result<()> {
-    let mut at = 0;
-    while at < script.len() {
-        let end = find(script, at, b'\n');
-        let line = &script[at..end];
-        say_text(&mut *to, line)?;
-        step(
-            &mut *to,
-            line,
-            &mut *memory,
-            &mut *words,
-            &mut *possible,
-            &mut *out,
-        )?;
-        at = end + 1;
+fn take_steps(to: &mut impl Write, memory: &mut Memory, script: &[u8]) -> io::Result<()> {
+    for line in script.split_inclusive(|b| *b == b'\n') {
+        take_step(to, memory, Line(line.strip_suffix(b"\n").unwrap_or(line)))?;
     }
     Ok(())
 }
@@ -169,16 +116,5 @@ fn steps(
 fn main(rt: HostRuntime) -> io::Result<()> {
     let mut script = [0u8; SCRIPT];
     let n = read_full(&mut rt.stdin(), &mut script)?;
-    let mut memory = [0u8; BYTES];
-    let mut words = [7u64; GRAPH];
-    let mut possible = [7u64; POSSIBLE];
-    let mut out = [7u64; 49];
-    steps(
-        &mut rt.stdout(),
-        &script[..n],
-        &mut memory,
-        &mut words,
-        &mut possible,
-        &mut out,
-    )
+    take_steps(&mut rt.stdout(), &mut Memory::new(), &script[..n])
 }

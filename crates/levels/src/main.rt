@@ -10,19 +10,12 @@ use streams::read_full;
 const FILE_ROOM: usize = 4096;
 
 // The room is the longest text's, so that the answer is never a refusal.
-fn print_in(output: &mut impl Write, file: &[u8], text: &mut [u8]) -> io::Result<()> {
-    let answer = levels_text(file, &mut *text);
-    if let TextAnswer::Written(n) = answer {
-        if n <= text.len() {
-            return output.write_all(&text[..n]);
-        }
-    }
-    Ok(())
-}
-
 fn print(output: &mut impl Write, file: &[u8]) -> io::Result<()> {
     let mut text = [0u8; TEXT_ROOM];
-    print_in(output, file, &mut text)
+    match levels_text(file, &mut text) {
+        TextAnswer::Written(n) => output.write_all(text.get(..n).unwrap_or_default()),
+        TextAnswer::Refused(_why) => Ok(()),
+    }
 }
 
 fn main(rt: HostRuntime) -> io::Result<()> {

@@ -1,5 +1,5 @@
 // The problem files of levels.bin. A case is 6 numbers, three parts of the store: the file's name, its bytes, and what `levels` prints for it.
-use crate::data::{between, stored};
+use crate::data::Row;
 use report::{TEXT_ROOM, TextAnswer, levels_text};
 
 // Where a case has the file and the text wanted.
@@ -11,11 +11,10 @@ const TEXT: usize = 4;
 pub const NUMBERS: usize = 6;
 
 // Whether the file's text is the wanted one, byte for byte.
-pub fn agrees(store: &[u8], row: &[u8]) -> bool {
+pub fn agrees(case: Row) -> bool {
     let mut out = [0u8; TEXT_ROOM];
-    let answer = levels_text(stored(store, row, FILE), &mut out);
-    match answer {
-        TextAnswer::Written(n) => *stored(store, row, TEXT) == *between(&out, 0, n),
+    match levels_text(case.stored(FILE), &mut out) {
+        TextAnswer::Written(n) => case.stored(TEXT) == out.get(..n).unwrap_or_default(),
         TextAnswer::Refused(_why) => false,
     }
 }

@@ -4,16 +4,17 @@
 
 ghost use Rattle.std.specs.Prelude.{◌≡◌, length};
 
+use files::File;
 use std::{fs, io};
 use streams::read_full;
 
 mod answers;
 mod calls;
 mod data;
+mod files;
+mod kinds;
 mod levels;
 mod memory;
-mod rows;
-mod show;
 
 // Room for a data file.
 const BYTES: usize = 196608;
@@ -26,14 +27,13 @@ fn file_room() -> [u8; BYTES]
 }
 
 // Reads a data file and judges its cases; one that cannot be read ends the program with the error.
-fn judge(rt: &HostRuntime, name: &str, first: usize, kinds: usize, width: usize) -> io::Result<()> {
+fn judge(rt: &HostRuntime, file: File) -> io::Result<()> {
     let mut room = file_room();
-    let mut file = fs::open(rt, name)?;
-    let n = read_full(&mut file, &mut room)?;
-    rows::judge_file(&mut rt.stdout(), name, &room[..n], first, kinds, width)
+    let n = read_full(&mut fs::open(rt, file.name())?, &mut room)?;
+    file.judge(&mut rt.stdout(), &room[..n])
 }
 
 fn main(rt: HostRuntime) -> io::Result<()> {
-    judge(&rt, "calls.bin", calls::BUILD, 10, calls::NUMBERS)?;
-    judge(&rt, "levels.bin", calls::LEVELS, 1, levels::NUMBERS)
+    judge(&rt, File::Calls)?;
+    judge(&rt, File::Levels)
 }
