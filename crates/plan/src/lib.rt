@@ -27,7 +27,7 @@ use graph::file::check_file;
 use graph::limits::{MAX_DEPTH, MAX_EFFECTS};
 use graph::refusal::Refusal;
 use graph::view::View;
-use level::layers::first_met;
+use level::layers::Layers;
 use words::columns::spread;
 use words::members::single;
 use words::sets::{PROP_WIDTH, Props, States};
@@ -146,7 +146,13 @@ fn plan_over(
     ensures { (plan_verdict result ≡ made (planned_verdict depth (P.plan_of (actions_of file.now.bytes.now file.now.counts) depth set.0 goal.0 words.now)))
         × (out.new ≡ laid (planned_verdict depth (P.plan_of (actions_of file.now.bytes.now file.now.counts) depth set.0 goal.0 words.now)) out.old) }
 {
-    let t = first_met(words, file.counts.shape(), depth, set, goal);
+    let shape = file.counts.shape();
+    let layers = Layers {
+        words,
+        shape,
+        depth,
+    };
+    let t = layers.first_met(set, goal);
     if depth < t {
         return Err(Refusal::NoLevel(depth));
     }

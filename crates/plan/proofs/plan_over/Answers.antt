@@ -25,8 +25,8 @@ use Rattle.plan.proofs.Answers.{plan_refused, equal_rule_lem, no_level_lem, at_l
 use Rattle.plan.proofs.plan_over.Goals as goal
 use Rattle.plan.proofs.plan_over.Goals.{After-first_met-t, Else-depth-t}
 
-pub first_met-t-requires : goal.first_met-t-requires
-first_met-t-requires c = subst (λ (S : Shape). Room S c.args.depth c.args.words.now) (sym c.shape.ensures) c.requires.0
+pub invariant_of-layers : goal.invariant_of-layers
+invariant_of-layers c = record { room = subst (λ (S : Shape). Room S c.args.depth c.args.words.now) (sym c.shape-shape.ensures) c.requires.0 }
 
 -- the level that was found is that of the file's graph
 met : (c : After-first_met-t)
@@ -35,7 +35,7 @@ met : (c : After-first_met-t)
 met c =
     let a = c.args in
     c.first_met-t.ensures
-    ∙ ap (λ (S : Shape). first_met S a.depth a.set.0 a.goal.0 a.words.now) (c.shape.ensures ∙ sym (shape_is a.file.now.bytes.now a.file.now.counts))
+    ∙ ap (λ (S : Shape). first_met S a.depth a.set.0 a.goal.0 a.words.now) (c.shape-shape.ensures ∙ sym (shape_is a.file.now.bytes.now a.file.now.counts))
 
 pub returns-then-depth-t : goal.returns-then-depth-t
 returns-then-depth-t c = plan_refused _ _ _ _ (no_level_lem _ _ _ _ _ _ (met (goal.at.returns-then-depth-t c).After-first_met-t) c.if-depth-t.true)
