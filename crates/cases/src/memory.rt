@@ -55,7 +55,10 @@ impl Memory {
 
     pub fn build(&mut self, line: Line) -> Answer {
         let words = first_mut(&mut self.graph, line.size(Column::Words));
-        build(self.bytes.file(line), line.depth(), words).into()
+        build(self.bytes.file(line), line.depth(), words).map_or_else(
+            Answer::Refused,
+            Answer::Built,
+        )
     }
 
     pub fn build_within(&mut self, line: Line) -> Answer {
@@ -68,11 +71,14 @@ impl Memory {
             line.depth(),
             words,
         )
-        .into()
+        .map_or_else(Answer::Refused, Answer::Built)
     }
 
     pub fn rest(&self, line: Line) -> Answer {
-        rest(self.bytes.file(line), line.depth(), self.lent(line)).into()
+        rest(self.bytes.file(line), line.depth(), self.lent(line)).map_or_else(
+            Answer::Refused,
+            Answer::Rest,
+        )
     }
 
     pub fn level(&self, line: Line) -> Answer {
@@ -83,7 +89,7 @@ impl Memory {
             line.goal(),
             self.lent(line),
         )
-        .into()
+        .map_or_else(Answer::Refused, Answer::Level)
     }
 
     pub fn level_within(&self, line: Line) -> Answer {
@@ -95,7 +101,7 @@ impl Memory {
             first(&self.possible, line.size(Column::Out)),
             self.lent(line),
         )
-        .into()
+        .map_or_else(Answer::Refused, Answer::Levels)
     }
 
     pub fn level_share(&self, line: Line) -> Answer {
@@ -109,7 +115,7 @@ impl Memory {
             line.short(Column::Out),
             self.lent(line),
         )
-        .into()
+        .map_or_else(Answer::Refused, Answer::Level)
     }
 
     pub fn extract(&mut self, line: Line) -> Answer {
@@ -122,7 +128,7 @@ impl Memory {
             words,
             out,
         )
-        .into()
+        .map_or_else(Answer::Refused, Answer::Extracted)
     }
 
     pub fn plan(&self, line: Line, out: &mut [u32]) -> Answer {
@@ -134,12 +140,15 @@ impl Memory {
             self.lent(line),
             out,
         )
-        .into()
+        .map_or_else(Answer::Refused, Answer::Planned)
     }
 
     pub fn run(&self, line: Line, out: &mut [u32]) -> Answer {
         let list = self.bytes.list(line, Column::Depth);
-        run(self.bytes.file(line), line.states(), list, out).into()
+        run(self.bytes.file(line), line.states(), list, out).map_or_else(
+            Answer::Refused,
+            Answer::Ran,
+        )
     }
 
     pub fn page(&self, line: Line, out: &mut [u16]) -> Answer {
@@ -153,7 +162,7 @@ impl Memory {
             self.lent(line),
             out,
         )
-        .into()
+        .map_or_else(Answer::Refused, Answer::Paged)
     }
 
     // The words that a line has printed of a memory.

@@ -1,7 +1,7 @@
 // Reads a problem file from standard input and prints its depth, its rest and its levels.
 #![tactic(auto)]
 
-use report::{TEXT_ROOM, TextAnswer, levels_text};
+use report::{TEXT_ROOM, levels_text};
 use std::io;
 use std::io::Write;
 use streams::read_full;
@@ -13,8 +13,8 @@ const FILE_ROOM: usize = 4096;
 fn print(output: &mut impl Write, file: &[u8]) -> io::Result<()> {
     let mut text = [0u8; TEXT_ROOM];
     match levels_text(file, &mut text) {
-        TextAnswer::Written(n) => output.write_all(text.get(..n).unwrap_or_default()),
-        TextAnswer::Refused(_why) => Ok(()),
+        Ok(n) => output.write_all(text.get(..n).unwrap_or_default()),
+        Err(_why) => Ok(()),
     }
 }
 

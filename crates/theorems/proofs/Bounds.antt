@@ -84,8 +84,7 @@ module _ (file : List ℕ) {c : Counts} (taken : file_rule file ≡ accepted c) 
   unfolding sequence_rule
   numbers_pass =
       choose_failed _ _ (is_fails (below_not short))
-      ∙ sym (none_unknown c.actions list (length list)
-      (record { within = omega arith; is = λ k h. below_of (known k h) }) (omega arith))
+      ∙ sym (none_unknown c.actions list (length list) (omega arith) known (omega arith))
 
   pub runs_accepted : {ends : List ℕ} → run_of (actions_of file c) c.states (start_of file c) set list ≡ ended ends
       → run_rule file set list room ≡ accepted ends

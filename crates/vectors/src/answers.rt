@@ -1,26 +1,23 @@
 // What the calls answer, in the numbers that calls.bin has for it.
-use build::BuildAnswer;
-use extract::ExtractAnswer;
-use graph::refusal::{Refusal, number, place};
+use build::Built;
+use graph::refusal::Refusal;
 use level::layers::Level;
-use level::{LevelAnswer, RestAnswer};
-use page::PageAnswer;
-use plan::PlanAnswer;
-use run::RunAnswer;
+use plan::Planned;
+use run::Ran;
 use std::fmt;
-use within::WithinAnswer;
+use within::Levels;
 
 #[derive(Clone, Copy)]
 pub enum Answer {
     Refused(Refusal),
-    Built { words: usize, looked: usize },
+    Built(Built),
     Rest(Option<usize>),
     Level(Level),
     Extracted(usize),
-    Plan { level: usize, marked: usize },
-    Ran { sets: usize, idle: usize },
+    Planned(Planned),
+    Ran(Ran),
     Paged(usize),
-    Levels(Level, Level),
+    Levels(Levels),
 }
 
 // A level as an entry of a page has it.
@@ -36,91 +33,18 @@ impl Answer {
     // Which answer it is and its numbers, 0 for one that it lacks.
     fn numbers(self) -> [usize; 3] {
         match self {
-            Answer::Refused(why) => [0, number(why), place(why)],
-            Answer::Built { words, looked } => [1, words, looked],
+            Answer::Refused(why) => [0, why.number(), why.place()],
+            Answer::Built(Built { words, looked }) => [1, words, looked],
             Answer::Rest(Some(t)) => [2, t, 0],
             Answer::Rest(None) => [3, 0, 0],
             Answer::Level(Level::At(t)) => [4, t, 0],
             Answer::Level(Level::Never) => [5, 0, 0],
             Answer::Level(Level::NotByDepth) => [6, 0, 0],
             Answer::Extracted(n) => [7, n, 0],
-            Answer::Plan { level, marked } => [8, level, marked],
-            Answer::Ran { sets, idle } => [9, sets, idle],
+            Answer::Planned(Planned { level, marked }) => [8, level, marked],
+            Answer::Ran(Ran { sets, idle }) => [9, sets, idle],
             Answer::Paged(n) => [10, n, 0],
-            Answer::Levels(first, second) => [11, entry(first), entry(second)],
-        }
-    }
-}
-
-impl From<BuildAnswer> for Answer {
-    fn from(answer: BuildAnswer) -> Answer {
-        match answer {
-            BuildAnswer::Built(words, looked) => Answer::Built { words, looked },
-            BuildAnswer::Refused(why) => Answer::Refused(why),
-        }
-    }
-}
-
-impl From<RestAnswer> for Answer {
-    fn from(answer: RestAnswer) -> Answer {
-        match answer {
-            RestAnswer::At(t) => Answer::Rest(Some(t)),
-            RestAnswer::None => Answer::Rest(None),
-            RestAnswer::Refused(why) => Answer::Refused(why),
-        }
-    }
-}
-
-impl From<LevelAnswer> for Answer {
-    fn from(answer: LevelAnswer) -> Answer {
-        match answer {
-            LevelAnswer::Level(level) => Answer::Level(level),
-            LevelAnswer::Refused(why) => Answer::Refused(why),
-        }
-    }
-}
-
-impl From<WithinAnswer> for Answer {
-    fn from(answer: WithinAnswer) -> Answer {
-        match answer {
-            WithinAnswer::Levels(first, second) => Answer::Levels(first, second),
-            WithinAnswer::Refused(why) => Answer::Refused(why),
-        }
-    }
-}
-
-impl From<ExtractAnswer> for Answer {
-    fn from(answer: ExtractAnswer) -> Answer {
-        match answer {
-            ExtractAnswer::Extracted(n) => Answer::Extracted(n),
-            ExtractAnswer::Refused(why) => Answer::Refused(why),
-        }
-    }
-}
-
-impl From<PlanAnswer> for Answer {
-    fn from(answer: PlanAnswer) -> Answer {
-        match answer {
-            PlanAnswer::Plan(level, marked) => Answer::Plan { level, marked },
-            PlanAnswer::Refused(why) => Answer::Refused(why),
-        }
-    }
-}
-
-impl From<RunAnswer> for Answer {
-    fn from(answer: RunAnswer) -> Answer {
-        match answer {
-            RunAnswer::Ran(sets, idle) => Answer::Ran { sets, idle },
-            RunAnswer::Refused(why) => Answer::Refused(why),
-        }
-    }
-}
-
-impl From<PageAnswer> for Answer {
-    fn from(answer: PageAnswer) -> Answer {
-        match answer {
-            PageAnswer::Paged(n) => Answer::Paged(n),
-            PageAnswer::Refused(why) => Answer::Refused(why),
+            Answer::Levels(Levels { first, second }) => [11, entry(first), entry(second)],
         }
     }
 }

@@ -221,11 +221,14 @@ impl<'a> Case<'a> {
     }
 
     fn rest(self, graph: &[u64]) -> Answer {
-        rest(self.file(), self.depth(), graph).into()
+        rest(self.file(), self.depth(), graph).map_or_else(Answer::Refused, Answer::Rest)
     }
 
     fn level(self, graph: &[u64]) -> Answer {
-        level(self.file(), self.depth(), self.states(), self.goal(), graph).into()
+        level(self.file(), self.depth(), self.states(), self.goal(), graph).map_or_else(
+            Answer::Refused,
+            Answer::Level,
+        )
     }
 
     // `built` is the graph memory of the last build for possible sets.
@@ -241,7 +244,7 @@ impl<'a> Case<'a> {
             &possible[..],
             sure,
         )
-        .into()
+        .map_or_else(Answer::Refused, Answer::Levels)
     }
 
     fn weighted(self, graph: &[u64]) -> Answer {
@@ -256,21 +259,27 @@ impl<'a> Case<'a> {
             self.denominator(),
             graph,
         )
-        .into()
+        .map_or_else(Answer::Refused, Answer::Level)
     }
 
     fn build(self, out: &mut [u64]) -> Answer {
-        build(self.file(), self.depth(), out).into()
+        build(self.file(), self.depth(), out).map_or_else(Answer::Refused, Answer::Built)
     }
 
     fn build_within(self, out: &mut [u64]) -> Answer {
         let mut room = [0u32; LISTED];
         let possible = self.list(&mut room);
-        build_within(self.file(), &possible[..], self.depth(), out).into()
+        build_within(self.file(), &possible[..], self.depth(), out).map_or_else(
+            Answer::Refused,
+            Answer::Built,
+        )
     }
 
     fn extract(self, graph: &[u64], out: &mut [u64]) -> Answer {
-        extract(self.file(), self.depth(), self.states(), graph, out).into()
+        extract(self.file(), self.depth(), self.states(), graph, out).map_or_else(
+            Answer::Refused,
+            Answer::Extracted,
+        )
     }
 
     fn plan(self, graph: &[u64], out: &mut [u32]) -> Answer {
@@ -282,11 +291,14 @@ impl<'a> Case<'a> {
             graph,
             out,
         )
-        .into()
+        .map_or_else(Answer::Refused, Answer::Planned)
     }
 
     fn run(self, out: &mut [u32]) -> Answer {
-        run(self.file(), self.states(), self.actions(), out).into()
+        run(self.file(), self.states(), self.actions(), out).map_or_else(
+            Answer::Refused,
+            Answer::Ran,
+        )
     }
 
     fn page(self, graph: &[u64], out: &mut [u16]) -> Answer {
@@ -300,7 +312,7 @@ impl<'a> Case<'a> {
             graph,
             out,
         )
-        .into()
+        .map_or_else(Answer::Refused, Answer::Paged)
     }
 }
 
