@@ -23,6 +23,7 @@ use words::sets::{Set, States};
 use words::tables::{ROW, TABLE};
 
 // Writes the words, with room lent for the lists and tables; how many looks the scans take.
+// Kept (point 5): the lists by themselves, as `read_problem` says.
 fn build_in(
     file: &View<'_>,
     depth: usize,

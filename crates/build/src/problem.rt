@@ -38,6 +38,7 @@ fn read_effects(
 }
 
 // The effects' sets and actions, the adders of each proposition, and the effects that interfere with each.
+// Kept (point 5): with the six lists as arrays of one struct a build is 1.01 to 1.04 times as slow.
 pub fn read_problem(
     file: &View<'_>,
     needs: &mut [u32],

@@ -6,7 +6,7 @@ use Rattle.rules.specs.Test.{same, choose}
 use Rattle.rules.specs.Word.{bit, common, union, without, single}
 use Rattle.rules.specs.Over.{join_of, sum_over}
 use Rattle.rules.specs.Scan.{Scan, scan_at, look, scan_of}
-use Rattle.words.specs.Rows.{row_length, table_length, cell, Inside}
+use Rattle.words.specs.Rows.{row_length, cell, Inside}
 
 -- the words that a scan looks at, one for each index: from `base` on, `step` apart
 abbrev pub word_at : List ℕ → ℕ → ℕ → ℕ → ℕ
@@ -55,14 +55,7 @@ pub record Beside (mates r besides : List ℕ) (lower upper q : ℕ) : Type 0 wh
 abbrev pub Parted : List ℕ → ℕ → ℕ → ℕ → Type 0
 Parted mates lower upper left = (v : ℕ) → So (bit v lower) → So (bit v upper) → common left (cell mates v v) ≡ 0
 
--- what the code asks of the tables
-pub record Tables (live mates r besides : List ℕ) : Type 0 where
-  pub live_long : length live ≡ row_length
-  pub mates_long : length mates ≡ table_length
-  pub r_long : length r ≡ table_length
-  pub besides_long : length besides ≡ table_length
-
--- of the adders, and of a list of how many vertices add each
+-- what the code asks of the adders, and of a list of how many vertices add each
 pub record Listed (adders sizes : List ℕ) : Type 0 where
   pub few : length adders ≤ row_length
   pub inside : Inside row_length adders

@@ -181,6 +181,7 @@ fn new_labels(words: &mut [u64], n: usize, labels: &mut [u64], t: &mut [u64], sp
 }
 
 // The pairs of p with each later proposition: into the table, either way round, and into the memory, that of p and q at `at + q`; and their looks.
+// Kept (point 5): as one `&mut Layer` in place of `labels` and `t` its contract would also have to say that the labels stay.
 fn finish_row(
     words: &mut [u64],
     at: usize,
