@@ -19,16 +19,18 @@ ghost use Rattle.report.specs.Text.{text_rule};
 ghost use Rattle.mogzift.specs.Answer.{code_of, answer_of, count_says, build_says, rest_says, level_says, levels_says, run_says, plan_says, depth_says};
 
 use build::build;
-use extract::{ExtractAnswer, extract};
-use level::{RestAnswer, level, rest};
-use page::{PageAnswer, page};
-use plan::{PlanAnswer, plan};
-use report::depth::{DepthAnswer, fitting_depth};
-use report::{TextAnswer, levels_text};
-use run::{RunAnswer, run};
+use extract::extract;
+use level::{level, rest};
+use page::page;
+use plan::plan;
+use report::depth::fitting_depth;
+use report::levels_text;
+use run::run;
 use share::level_share;
-use tell::{tell, tell_build, tell_level, tell_levels, tell_refusal};
-use within::{WithinAnswer, build_within, level_within};
+use tell::{
+    say_build, say_count, say_depth, say_level, say_levels, say_plan, say_rest, say_run, tell,
+};
+use within::{build_within, level_within};
 use words::sets::{Props, States};
 
 pub fn mogzift_build(file: &[u8], depth: usize, words: &mut [u64], answer: &mut [u64; 3]) -> usize
@@ -37,7 +39,7 @@ pub fn mogzift_build(file: &[u8], depth: usize, words: &mut [u64], answer: &mut 
         × (words.new ≡ laid (build_rule file.now depth (length words.old)) words.old) }
 {
     let built = build(file, depth, words);
-    tell_build(answer, built)
+    tell(answer, built, say_build)
 }
 
 pub fn mogzift_build_within(
@@ -52,18 +54,14 @@ pub fn mogzift_build_within(
         × (words.new ≡ laid (within_rule file.now possible.now depth (length words.old)) words.old) }
 {
     let built = build_within(file, possible, depth, words);
-    tell_build(answer, built)
+    tell(answer, built, say_build)
 }
 
 pub fn mogzift_rest(file: &[u8], depth: usize, words: &[u64], answer: &mut [u64; 3]) -> usize
     ensures { (result ≡ code_of (rest_rule file.now depth words.now))
         × (answer.new ≡ answer_of rest_says (rest_rule file.now depth words.now)) }
 {
-    match rest(file, depth, words) {
-        RestAnswer::At(t) => tell(answer, 1, t, 0),
-        RestAnswer::None => tell(answer, 2, 0, 0),
-        RestAnswer::Refused(why) => tell_refusal(answer, why),
-    }
+    tell(answer, rest(file, depth, words), say_rest)
 }
 
 pub fn mogzift_level(
@@ -77,8 +75,8 @@ pub fn mogzift_level(
     ensures { (result ≡ code_of (level_rule file.now depth set goal words.now))
         × (answer.new ≡ answer_of level_says (level_rule file.now depth set goal words.now)) }
 {
-    let answered = level(file, depth, States(set), Props(goal), words);
-    tell_level(answer, answered)
+    let found = level(file, depth, States(set), Props(goal), words);
+    tell(answer, found, say_level)
 }
 
 pub fn mogzift_level_within(
@@ -93,10 +91,8 @@ pub fn mogzift_level_within(
     ensures { (result ≡ code_of (levels_rule file.now depth set goal possible.now sure.now))
         × (answer.new ≡ answer_of levels_says (levels_rule file.now depth set goal possible.now sure.now)) }
 {
-    match level_within(file, depth, States(set), Props(goal), possible, sure) {
-        WithinAnswer::Levels(first, second) => tell_levels(answer, first, second),
-        WithinAnswer::Refused(why) => tell_refusal(answer, why),
-    }
+    let found = level_within(file, depth, States(set), Props(goal), possible, sure);
+    tell(answer, found, say_levels)
 }
 
 pub fn mogzift_level_share(
@@ -112,7 +108,7 @@ pub fn mogzift_level_share(
     ensures { (result ≡ code_of (share_rule file.now depth goal (share_of weights.now numerator denominator) words.now))
         × (answer.new ≡ answer_of level_says (share_rule file.now depth goal (share_of weights.now numerator denominator) words.now)) }
 {
-    let answered = level_share(
+    let found = level_share(
         file,
         depth,
         Props(goal),
@@ -121,7 +117,7 @@ pub fn mogzift_level_share(
         denominator,
         words,
     );
-    tell_level(answer, answered)
+    tell(answer, found, say_level)
 }
 
 pub fn mogzift_page(
@@ -137,10 +133,8 @@ pub fn mogzift_page(
         × (answer.new ≡ answer_of count_says (written (page_rule file.now depth set goals.now words.now (length out.old))))
         × (out.new ≡ laid (page_rule file.now depth set goals.now words.now (length out.old)) out.old) }
 {
-    match page(file, depth, States(set), goals, words, out) {
-        PageAnswer::Paged(count) => tell(answer, 1, count, 0),
-        PageAnswer::Refused(why) => tell_refusal(answer, why),
-    }
+    let paged = page(file, depth, States(set), goals, words, out);
+    tell(answer, paged, say_count)
 }
 
 pub fn mogzift_extract(
@@ -155,10 +149,8 @@ pub fn mogzift_extract(
         × (answer.new ≡ answer_of count_says (written (extract_rule file.now depth set words.now (length out.old))))
         × (out.new ≡ laid (extract_rule file.now depth set words.now (length out.old)) out.old) }
 {
-    match extract(file, depth, States(set), words, out) {
-        ExtractAnswer::Extracted(count) => tell(answer, 1, count, 0),
-        ExtractAnswer::Refused(why) => tell_refusal(answer, why),
-    }
+    let cut = extract(file, depth, States(set), words, out);
+    tell(answer, cut, say_count)
 }
 
 pub fn mogzift_run(
@@ -172,10 +164,7 @@ pub fn mogzift_run(
         × (answer.new ≡ answer_of run_says (report_rule file.now set list.now (length out.old)))
         × (out.new ≡ laid (run_rule file.now set list.now (length out.old)) out.old) }
 {
-    match run(file, States(set), list, out) {
-        RunAnswer::Ran(count, idle) => tell(answer, 1, count, idle),
-        RunAnswer::Refused(why) => tell_refusal(answer, why),
-    }
+    tell(answer, run(file, States(set), list, out), say_run)
 }
 
 pub fn mogzift_plan(
@@ -191,20 +180,15 @@ pub fn mogzift_plan(
         × (answer.new ≡ answer_of plan_says (made (plan_rule file.now depth set goal words.now (length out.old))))
         × (out.new ≡ laid (plan_rule file.now depth set goal words.now (length out.old)) out.old) }
 {
-    match plan(file, depth, States(set), Props(goal), words, out) {
-        PlanAnswer::Plan(t, count) => tell(answer, 1, t, count),
-        PlanAnswer::Refused(why) => tell_refusal(answer, why),
-    }
+    let planned = plan(file, depth, States(set), Props(goal), words, out);
+    tell(answer, planned, say_plan)
 }
 
 pub fn mogzift_depth(file: &[u8], room: usize, answer: &mut [u64; 3]) -> usize
     ensures { (result ≡ code_of (fitting_rule file.now room))
         × (answer.new ≡ answer_of depth_says (fitting_rule file.now room)) }
 {
-    match fitting_depth(file, room) {
-        DepthAnswer::Depth(depth) => tell(answer, 1, depth, 0),
-        DepthAnswer::Refused(why) => tell_refusal(answer, why),
-    }
+    tell(answer, fitting_depth(file, room), say_depth)
 }
 
 pub fn mogzift_levels_text(file: &[u8], out: &mut [u8], answer: &mut [u64; 3]) -> usize
@@ -212,8 +196,5 @@ pub fn mogzift_levels_text(file: &[u8], out: &mut [u8], answer: &mut [u64; 3]) -
         × (answer.new ≡ answer_of count_says (written (text_rule file.now (length out.old))))
         × (out.new ≡ laid (text_rule file.now (length out.old)) out.old) }
 {
-    match levels_text(file, out) {
-        TextAnswer::Written(count) => tell(answer, 1, count, 0),
-        TextAnswer::Refused(why) => tell_refusal(answer, why),
-    }
+    tell(answer, levels_text(file, out), say_count)
 }

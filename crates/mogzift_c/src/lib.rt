@@ -1,4 +1,5 @@
 // The calls of `mogzift` for C. A slice passes as a pointer and a length, the answer's room as a pointer to three numbers.
+// Kept (point 1): the C interface, in which an answer is three numbers and a number that is returned.
 #![tactic(auto)]
 
 ghost use Rattle.std.specs.Prelude.{◌≡◌, length};
