@@ -191,8 +191,10 @@ fn lay(file: &View<'_>, set: States, course: u64, out: &mut [u32])
     requires { Some file.now.counts.states set.0 × (file.now.counts.states ≤ length out.old) }
     ensures { out.new ≡ put_at 0 (sets_of file.now.counts.states (start_of file.now.bytes.now file.now.counts) set.0 course) out.old }
 {
-    file.lay_starts(&mut *out);
-    move_states(set, course, &mut out[..file.counts.states]);
+    // By a copy of the view, of which no store to the output can be a part: else a run of ten steps took 1.1 to 1.2 times as long.
+    let view = *file;
+    view.lay_starts(&mut *out);
+    move_states(set, course, &mut out[..view.counts.states]);
 }
 
 // Version 1: of each action what the steps go by, what it needs, what it leaves and what it brings.
