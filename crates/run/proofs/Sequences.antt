@@ -2,7 +2,7 @@
 -- Assumes nothing.
 use Prim.Native.Nat.{ℕ, ◌+◌, ◌≤◌, ◌<◌, max}
 use mathlib.Core.Path.{◌≡◌, refl, sym, ap, subst, ◌∙◌}
-use mathlib.Core.Bool.{Bool, So}
+use mathlib.Core.Bool.{So}
 use mathlib.Core.List.{List}
 use mathlib.Core.Logic.{⊎_elim}
 use native.Mathlib.Nat.{le_trans}
@@ -18,7 +18,6 @@ use Rattle.std.proofs.lemmas.List.Sums.{fails_before_first}
 use Rattle.rules.specs.Test.{fails, below}
 use Rattle.rules.specs.Over.{first_below, greatest}
 use Rattle.rules.proofs.Tests.{choose_held, choose_failed, holds_or, fails_at, below_of, below_at, below_not, below_fails, is_fails}
-use Rattle.rules.proofs.Overs.{below_suc}
 use Rattle.rules.proofs.Firsts.{first_unique, first_before, greatest_at}
 use Rattle.graph.specs.Verdict.{accepted, refused}
 use Rattle.run.specs.Run.{max_steps, first_unknown, numbers_rule, sequence_rule}

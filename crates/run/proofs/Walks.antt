@@ -20,7 +20,7 @@ use Rattle.graph.specs.Format.{plain, actions_of}
 use Rattle.graph.specs.File.{Taken}
 use Rattle.graph.specs.declared.format.Counts.{Counts}
 use Rattle.run.specs.Course.{leaves_of, brings_of, further, tried_on, course_at, lack_at, still, still_at, Tables, Walks}
-use Rattle.std.specs.Prelude.{Result, Ok, Err}
+use Rattle.std.specs.Prelude.{Result, Ok}
 use Rattle.run.specs.declared.step.Made.{Made}
 use Rattle.run.specs.declared.step.Unmade.{Unmade}
 

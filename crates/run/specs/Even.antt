@@ -12,7 +12,7 @@ use Rattle.words.specs.Rows.{row_length}
 use Rattle.graph.specs.Limits.{max_effects}
 use Rattle.graph.specs.Format.{actions_of, start_of}
 use Rattle.graph.specs.declared.format.Counts.{Counts}
-use Rattle.run.specs.Course.{Known, pack, leaves, brings, further}
+use Rattle.run.specs.Course.{pack, leaves, brings, further}
 use Rattle.run.specs.Fire.{effects_of, settled, Stepping}
 use Rattle.run.specs.declared.step.Walked.{Walked}
 use Rattle.run.specs.declared.step.Made.{Made}

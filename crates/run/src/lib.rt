@@ -110,10 +110,7 @@ fn shared_by_members(file: &View<'_>, set: States) -> Shared
         some = some | x;
         left = others(left);
     }
-    Shared {
-        all: all,
-        some: some,
-    }
+    Shared { all, some }
 }
 
 // Version 1: of all start states. No word of the set is looked at, so that the loop takes several states at a time.
@@ -129,10 +126,7 @@ fn shared_by_all(file: &View<'_>) -> Shared
         all = all & x;
         some = some | x;
     }
-    Shared {
-        all: all,
-        some: some,
-    }
+    Shared { all, some }
 }
 
 // Version 1: what some state of the set lacks at the start, and above that what some state of it has.
@@ -199,6 +193,7 @@ fn lay(file: &View<'_>, set: States, course: u64, out: &mut [u32])
 
 // Version 1: of each action what the steps go by, what it needs, what it leaves and what it brings.
 // Kept (point 6): with the three words of an action in a struct, in one list, runs of 1000 steps took 1.5 to 1.6 times as long.
+// Kept (point 2): with `read_needs` for the first of the three and a loop for the others, runs of 1000 steps took 1.3 times as long.
 fn read_steps(file: &View<'_>, needs: &mut [u64], leave: &mut [u64], bring: &mut [u64])
     requires { So (plain file.now.counts) × PerAction file.now.counts.actions needs.old leave.old bring.old }
     ensures { (needs.new ≡ list_over file.now.counts.actions (actions_of file.now.bytes.now file.now.counts).pre)

@@ -5,7 +5,6 @@ use lib.ListN.{length, length-set}
 use Rattle.rules.specs.Word.{single}
 use Rattle.rules.specs.Lists.{list_over}
 use Rattle.rules.specs.Shared.{start_label}
-use Rattle.rules.proofs.Layers.{length_list_over}
 use Rattle.words.specs.Rows.{row_length}
 use Rattle.words.proofs.Spreads.{columns_none, columns_more}
 use Rattle.graph.specs.Format.{actions_of}

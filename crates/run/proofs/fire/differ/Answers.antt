@@ -1,4 +1,3 @@
-use native.Mathlib.Omega.{arith}
 use Rattle.run.proofs.Idles.{alike_none, alike_more, alike_done}
 use Rattle.run.proofs.fire.differ.Goals as goal
 

@@ -4,7 +4,7 @@ use lib.Bits.{or_zero_r}
 use Rattle.graph.specs.Format.{actions_of}
 use Rattle.words.proofs.MemberLoops.{lowest_lt}
 use Rattle.rules.specs.Word.{union}
-use mathlib.Core.Path.{refl, sym, ◌∙◌}
+use mathlib.Core.Path.{refl}
 use Prim.Native.Nat.{◌<◌}
 use native.Mathlib.Omega.{arith}
 use Rattle.run.proofs.fire.join_adds.Goals as goal

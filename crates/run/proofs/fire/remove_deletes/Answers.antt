@@ -3,7 +3,7 @@ use Rattle.run.specs.Fire.{removed_by}
 use Rattle.graph.specs.Format.{actions_of}
 use Rattle.words.proofs.MemberLoops.{lowest_lt}
 use Rattle.rules.specs.Word.{without}
-use mathlib.Core.Path.{refl, sym, ◌∙◌}
+use mathlib.Core.Path.{refl}
 use Prim.Native.Nat.{◌<◌}
 use native.Mathlib.Omega.{arith}
 use Rattle.run.proofs.fire.remove_deletes.Goals as goal

@@ -1,6 +1,6 @@
 -- The words of the effects are written before the labels change; what fires everywhere is done at once, by the word where nothing else fires.
 use Prim.Native.Nat.{ℕ, ◌^◌, ◌<◌}
-use mathlib.Core.Path.{◌≡◌, refl, ap, ◌∙◌}
+use mathlib.Core.Path.{refl, ap, ◌∙◌}
 use mathlib.Core.List.{List}
 use native.Mathlib.Omega.{arith}
 use lib.ListN.{length}
@@ -10,7 +10,6 @@ use Rattle.rules.specs.Lists.{list_over}
 use Rattle.rules.specs.Layer.{label_in}
 use Rattle.words.specs.Width.{prop_width}
 use Rattle.words.specs.Rows.{row_length}
-use Rattle.graph.specs.Limits.{max_effects}
 use Rattle.graph.specs.Format.{actions_of}
 use Rattle.rules.proofs.Layers.{length_list_over}
 use Rattle.run.specs.Fire.{joined_by, settled, told}

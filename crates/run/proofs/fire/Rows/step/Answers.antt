@@ -1,11 +1,9 @@
 -- The effects of the action fire only where every state of the set has the precondition.
 use Prim.Native.Nat.{ℕ, ◌<◌, ◌^◌}
-use mathlib.Core.Path.{◌≡◌, sym, ap, subst, ◌∙◌}
+use mathlib.Core.Path.{◌≡◌, sym, subst, ◌∙◌}
 use native.Mathlib.Omega.{arith}
-use lib.ListN.{length, get_or}
-use Rattle.rules.proofs.Layers.{length_list_over}
+use lib.ListN.{get_or}
 use Rattle.words.specs.Width.{prop_width}
-use Rattle.words.specs.Rows.{row_length}
 use Rattle.graph.specs.Format.{actions_of}
 use Rattle.run.specs.Fire.{effects_of, settled, next_of}
 use Rattle.run.proofs.Runs.{narrow_of}
