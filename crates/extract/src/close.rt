@@ -11,11 +11,8 @@ ghost use Rattle.words.specs.Memory.{put_at};
 ghost use Rattle.extract.specs.Moves.{most_moves, piece_words};
 ghost use Rattle.extract.specs.Moves as M;
 
-use words::members::{lowest, others};
-use words::sets::{Set, States};
-
-// A state has a number below this.
-const STATE_WIDTH: usize = 64;
+use words::members::{Members, lowest};
+use words::sets::{STATE_WIDTH, Set, States};
 
 // How many words are compared with those a layer before them, and copied, at once.
 const PIECE: usize = 64;
@@ -57,14 +54,10 @@ fn going_at(s: usize, gap: usize, far: usize) -> u64
 fn going(set: States, far: usize) -> u64
     ensures { result ≡ M.going set.0 far }
 {
-    let mut left = set.0;
     let mut under = 0;
     let mut mask = 0;
-    while 0 < left {
-        let s = lowest(left);
-        let gap = s - under;
-        mask = mask | going_at(s, gap, far);
-        left = others(left);
+    for s in Members(set.0) {
+        mask |= going_at(s, s - under, far);
         under += 1;
     }
     mask
@@ -126,14 +119,10 @@ fn move_mask(set: States, i: usize) -> u64
     requires { i < most_moves }
     ensures { result ≡ M.moving state_width set.0 i }
 {
-    let mut left = set.0;
     let mut under = 0;
     let mut mask = 0;
-    while 0 < left {
-        let s = lowest(left);
-        let gap = s - under;
-        mask = mask | moving_at(s, gap, i);
-        left = others(left);
+    for s in Members(set.0) {
+        mask |= moving_at(s, s - under, i);
         under += 1;
     }
     mask
@@ -187,16 +176,12 @@ fn cut_words(m: Moves, words: &[u64], out: &mut [u64], at: usize, count: usize)
     }
 }
 
-// Whether the piece at one place is the one at another. No word ends the loop early, so that several are compared at once.
+// Whether the piece at one place is the one at another.
 fn same_piece(words: &[u64], one: usize, other: usize) -> bool
     requires { (one + piece_words ≤ length words.now) × (other + piece_words ≤ length words.now) }
     ensures { M.SamePiece words.now one other result }
 {
-    let mut differ = 0;
-    for i in 0..PIECE {
-        differ = differ | (words[one + i] ^ words[other + i]);
-    }
-    differ == 0
+    words[one..one + PIECE] == words[other..other + PIECE]
 }
 
 // The piece at one place copied to a later one.
@@ -204,9 +189,7 @@ fn copy_piece(out: &mut [u64], from: usize, to: usize)
     requires { (from + piece_words ≤ to) × (to + piece_words ≤ length out.old) }
     ensures { out.new ≡ put_at to (list_over piece_words (λ i. get_or out.old (from + i) 0)) out.old }
 {
-    for i in 0..PIECE {
-        out[to + i] = out[from + i];
-    }
+    out.copy_within(from..from + PIECE, to);
 }
 
 // One piece: where it is the same as the one so far back, what came of that is copied.

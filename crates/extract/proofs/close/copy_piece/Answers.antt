@@ -1,26 +1,32 @@
-use mathlib.Core.Path.{refl}
-use Prim.Native.Nat.{◌+◌}
+-- The piece is read before it is written.
+use mathlib.Core.Path.{◌≡◌, sym, ap, ◌∙◌}
+use mathlib.Core.List.{List, ◌++◌, append_assoc}
+use Prim.Native.Nat.{ℕ, ◌+◌, ◌-◌, ◌≤◌}
 use native.Mathlib.Omega.{arith}
-use Rattle.words.proofs.Writes.{list_none, list_more, list_done, list_front, same_word}
+use lib.ListN.{length, get_or, take, drop, length-drop}
+use lib.Seq.{paste, ext_get_or, get_or-take, get_or-drop, length-take-le}
+use Rattle.rules.specs.Lists.{list_over}
+use Rattle.rules.proofs.Layers.{length_list_over, get_d_list_over}
+use Rattle.words.specs.Memory.{put_at}
+use Rattle.extract.specs.Moves.{piece_words}
 use Rattle.extract.proofs.close.copy_piece.Goals as goal
 
-pub loop-i-init : goal.loop-i-init
-loop-i-init c = list_none (omega arith)
-
-pub bounds-out-from : goal.bounds-out-from
-bounds-out-from c = omega (arith, c.loop-i.invariant.long)
-
-pub bounds-out-to : goal.bounds-out-to
-bounds-out-to c = omega (arith, c.loop-i.invariant.long)
-
-pub loop-i-preserved : goal.loop-i-preserved
-loop-i-preserved c =
-    let l = c.loop-i.invariant in
-    let a = c.args in
-    list_more l (omega arith) refl (same_word a.to (a.from + c.loop-i.i) _ _ (list_front a.to l (omega arith)) (omega arith))
-
-pub shape_of-out : goal.shape_of-out
-shape_of-out c = c.loop-i.invariant.long
+-- so many words from a place on
+part_is : (n from : ℕ) (w : List ℕ) → from + n ≤ length w → take n (drop from w) ≡ list_over n (λ i. get_or w (from + i) 0)
+part_is n from w h =
+    let long : length (take n (drop from w)) ≡ n = length-take-le n (drop from w) (omega (arith, length-drop from w)) in
+    ext_get_or 0 _ _ (long ∙ sym (length_list_over n (λ i. get_or w (from + i) 0)))
+    (λ i l. get_or-take n (drop from w) i 0 (omega (arith, long)) ∙ get_or-drop from w i 0 ∙ sym (get_d_list_over (λ i. get_or w (from + i) 0) (omega (arith, long))))
 
 pub returns : goal.returns
-returns c = list_done c.loop-i.invariant (omega arith)
+unfolding put_at
+returns c =
+    let a = c.args in
+    let w = a.out.now in
+    let piece : List ℕ = list_over piece_words (λ i. get_or w (a.from + i) 0) in
+    let size : a.from + 64 - a.from ≡ piece_words = omega arith in
+    c.copy_within.ensures.after
+    ∙ ap (λ (n : ℕ). paste w a.to (drop a.from w) n) size
+    ∙ append_assoc (take a.to w) (take piece_words (drop a.from w)) (drop (a.to + piece_words) w)
+    ∙ ap (λ (l : List ℕ). take a.to w ++ (l ++ drop (a.to + piece_words) w)) (part_is piece_words a.from w (omega arith))
+    ∙ ap (λ (n : ℕ). take a.to w ++ (piece ++ drop (a.to + n) w)) (sym (length_list_over piece_words (λ i. get_or w (a.from + i) 0)))

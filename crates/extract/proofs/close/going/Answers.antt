@@ -3,26 +3,23 @@ use native.Mathlib.Omega.{arith}
 use Rattle.extract.proofs.MoveLoops.{mask_none, mask_more, going_next, going_done, next_under, next_lt}
 use Rattle.extract.proofs.close.going.Goals as goal
 
-pub loop-left-init : goal.loop-left-init
-loop-left-init c = mask_none (search rules)
+pub loop-s-init : goal.loop-s-init
+loop-s-init c = rw c.into_iter-s-iterator.ensures.into_iter_gives (mask_none (search rules))
 
-pub overflow_sub-gap : goal.overflow_sub-gap
-overflow_sub-gap c = omega (arith, c.lowest-s.ensures, next_under c.loop-left.invariant.ranked (search rules))
+pub overflow_sub-s : goal.overflow_sub-s
+overflow_sub-s c = omega (arith, c.in-Some.ensures.steps.is, next_under c.loop-s.invariant.ranked c.in-Some.ensures.steps.some)
 
 pub going_at-mask-requires : goal.going_at-mask-requires
-going_at-mask-requires c = omega (arith, c.lowest-s.ensures, next_lt c.loop-left.invariant.ranked (search rules))
+going_at-mask-requires c = omega (arith, c.in-Some.ensures.steps.is, next_lt c.loop-s.invariant.ranked c.in-Some.ensures.steps.some)
 
 pub overflow_add-under : goal.overflow_add-under
-overflow_add-under c = let r = c.loop-left.invariant.ranked in omega (arith, next_under r (search rules), next_lt r (search rules))
+overflow_add-under c = let r = c.loop-s.invariant.ranked in omega (arith, next_under r c.in-Some.ensures.steps.some, next_lt r c.in-Some.ensures.steps.some)
 
-pub loop-left-smaller : goal.loop-left-smaller
-loop-left-smaller c = c.others-left.ensures.1
-
-pub loop-left-preserved : goal.loop-left-preserved
-loop-left-preserved c =
-    let l = c.loop-left.invariant in
-    mask_more l (search rules) (going_next _ l.ranked (search rules) c.lowest-s.ensures c.going_at-mask.ensures)
-    c.others-left.ensures.0
+pub loop-s-preserved : goal.loop-s-preserved
+loop-s-preserved c =
+    let l = c.loop-s.invariant in
+    mask_more l c.in-Some.ensures.steps.some (going_next _ l.ranked c.in-Some.ensures.steps.some c.in-Some.ensures.steps.is c.going_at-mask.ensures)
+    c.in-Some.ensures.steps.others
 
 pub returns : goal.returns
-returns c = going_done _ c.loop-left.invariant (omega arith)
+returns c = going_done _ c.loop-s.invariant (omega (arith, c.in-None.ensures.steps.0))

@@ -2,8 +2,5 @@
 use Rattle.extract.proofs.MoveLoops.{Masked, moving_at}
 use Rattle.extract.proofs.close.move_mask.Given as goal
 
-abbrev pub invariant-loop-left : goal.invariant-loop-left
-invariant-loop-left l = Masked (moving_at l.initial.left l.i) l.initial.left l.left l.under l.mask
-
-abbrev pub decreases-loop-left : goal.decreases-loop-left
-decreases-loop-left l = l.left
+abbrev pub invariant-loop-s : goal.invariant-loop-s
+invariant-loop-s l = Masked (moving_at l.fn.set.0 l.i) l.fn.set.0 l.s-iterator.0 l.under l.mask

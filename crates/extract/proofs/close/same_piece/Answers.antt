@@ -1,18 +1,19 @@
-use borrow.Author.Rules.{rules}
+-- Pieces that are found equal have the same words.
+use mathlib.Core.Path.{◌≡◌, sym, ap, ◌∙◌}
+use mathlib.Core.List.{List}
+use Prim.Native.Nat.{ℕ, ◌+◌, ◌-◌, ◌<◌}
 use native.Mathlib.Omega.{arith}
-use Rattle.rules.specs.Test.{same}
-use Rattle.rules.proofs.Tests.{same_at}
-use Rattle.extract.proofs.MoveLoops.{matched_none, matched_more}
+use lib.ListN.{get_or, take, drop}
+use lib.Pointwise.{bytes_decides}
+use lib.Seq.{get_or-take, get_or-drop}
 use Rattle.extract.proofs.close.same_piece.Goals as goal
 
-pub loop-i-init : goal.loop-i-init
-loop-i-init c = matched_none
-
-pub loop-i-preserved : goal.loop-i-preserved
-loop-i-preserved c = matched_more c.loop-i.invariant (search rules)
+-- word i of a piece
+word : (w : List ℕ) (at n i : ℕ) → i < n → get_or (take n (drop at w)) i 0 ≡ get_or w (at + i) 0
+word w at n i h = get_or-take n (drop at w) i 0 h ∙ get_or-drop at w i 0
 
 pub returns : goal.returns
-unfolding same
 returns c e i h =
-    let l = c.loop-i in
-    l.invariant.each (same_at e) i (omega (arith, l.invariant.within))
+    let a = c.args in
+    let equal = (bytes_decides _ _).0 (sym c.eq.ensures ∙ e) in
+    sym (word a.words.now a.one (a.one + 64 - a.one) i (omega arith)) ∙ ap (λ (l : List ℕ). get_or l i 0) equal ∙ word a.words.now a.other (a.other + 64 - a.other) i (omega arith)
