@@ -1,7 +1,7 @@
 -- Cause 13 where no layer meets the goal; else the descent from the level, through memory that is as wide as a layer.
 use Prim.Native.Nat.{ℕ}
 use mathlib.Core.List.{[]}
-use mathlib.Core.Path.{◌≡◌, sym, ap, subst, ◌∙◌}
+use mathlib.Core.Path.{◌≡◌, sym, ap, ◌∙◌}
 use native.Mathlib.Nat.{le_trans, le_of_eq}
 use native.Mathlib.Omega.{arith}
 use lib.ListN.{length, take, replicate}
@@ -17,16 +17,12 @@ use Rattle.words.specs.Width.{prop_width}
 use Rattle.words.proofs.Zeros.{zeros}
 use Rattle.graph.specs.Limits.{max_depth}
 use Rattle.graph.specs.Format.{actions_of}
-use Rattle.graph.specs.Checks.{Room}
 use Rattle.graph.proofs.Graphs.{shape_is}
 use Rattle.level.proofs.Parts.{fewer}
 use Rattle.plan.specs.Plan.{planned_verdict}
 use Rattle.plan.proofs.Answers.{plan_refused, equal_rule_lem, no_level_lem, at_level, room_deep}
 use Rattle.plan.proofs.plan_over.Goals as goal
 use Rattle.plan.proofs.plan_over.Goals.{After-first_met-t, Else-depth-t}
-
-pub first_met-t-requires : goal.first_met-t-requires
-first_met-t-requires c = subst (λ (S : Shape). Room S c.args.depth c.args.words.now) (sym c.shape.ensures) c.requires.0
 
 -- the level that was found is that of the file's graph
 met : (c : After-first_met-t)
@@ -37,27 +33,12 @@ met c =
     c.first_met-t.ensures
     ∙ ap (λ (S : Shape). first_met S a.depth a.set.0 a.goal.0 a.words.now) (c.shape.ensures ∙ sym (shape_is a.file.now.bytes.now a.file.now.counts))
 
-pub returns-then-depth-t : goal.returns-then-depth-t
-returns-then-depth-t c = plan_refused _ _ _ _ (no_level_lem _ _ _ _ _ _ (met (goal.at.returns-then-depth-t c).After-first_met-t) c.if-depth-t.true)
-
 -- the plan's words are as many as the level
 long : (c : Else-depth-t) → length {A = ℕ} (take c.first_met-t.result (replicate max_depth 0)) ≡ c.first_met-t.result
 long c = length-take-le {A = ℕ} c.first_met-t.result (replicate max_depth 0) (le_trans c.if-depth-t.false c.requires.0.deep)
 
-pub slice_bounds-plan_in-end : goal.slice_bounds-plan_in-end
-slice_bounds-plan_in-end c = sym (length-take-le _ _ (omega (arith, c.args.file.now.taken.ranged.effects)))
-
-pub slice_bounds-plan_in-end-2 : goal.slice_bounds-plan_in-end-2
-slice_bounds-plan_in-end-2 c = sym (length-take-le _ _ (omega (arith, c.args.file.now.taken.ranged.effects)))
-
-pub slice_bounds-plan_in-end-3 : goal.slice_bounds-plan_in-end-3
-slice_bounds-plan_in-end-3 c = sym (length-take-le _ _ (omega (arith, c.args.file.now.taken.ranged.props)))
-
-pub slice_bounds-plan_in-end-4 : goal.slice_bounds-plan_in-end-4
-slice_bounds-plan_in-end-4 c = sym (length-take-le _ _ (omega (arith, c.args.file.now.taken.ranged.props)))
-
-pub slice_bounds-plan_in-end-5 : goal.slice_bounds-plan_in-end-5
-slice_bounds-plan_in-end-5 c = sym (long (goal.at.slice_bounds-plan_in-end-5 c).Else-depth-t)
+pub returns-then-depth-t : goal.returns-then-depth-t
+returns-then-depth-t c = plan_refused _ _ _ _ (no_level_lem _ _ _ _ _ _ (met (goal.at.returns-then-depth-t c).After-first_met-t) c.if-depth-t.true)
 
 pub plan_in-requires : goal.plan_in-requires
 plan_in-requires c =
