@@ -10,6 +10,7 @@ ghost use Rattle.plan.specs.Search.{listed_actions, listed_shape, Live, planned_
 use crate::layer::{Effects, fall};
 
 // Whether each need of layer 0 lies within its label. No way leads out of the loop, so that it takes several at a time.
+// Kept (point 3): `for (need, label) in needed.iter().zip(words)` is no plainer: what it did so far is a fact about what the two iterators still have to give.
 fn grounded(needed: &[u64], words: &[u64]) -> bool
     requires { length needed.now ≤ length words.now }
     ensures { result ≡ all_below (length needed.now) (λ p. W.within (label_in needed.now p) (label_in words.now p)) }

@@ -74,6 +74,7 @@ fn turn(s: Took, action: usize, label: u64, needs: u32, under: &mut [u64]) -> To
 }
 
 // Each proposition's states are carried to the layer below: first by its persistence, then by its adders, rising.
+// Kept (point 3): document 01 asks for this labelled loop over propositions and vertices.
 fn support(
     wanted: &[u64],
     live: u32,

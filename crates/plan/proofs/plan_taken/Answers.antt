@@ -16,13 +16,13 @@ use Rattle.plan.proofs.plan_taken.Goals.{In_ok-check_graph}
 asked : (c : Counts) (depth have : ℕ) {found found' : Verdict (Unit {0})} → found ≡ found' → graph_rule c depth found have ≡ graph_rule c depth found' have
 asked c depth have e = ap (λ (v : Verdict (Unit {0})). graph_rule c depth v have) e
 
-pub returns-in_err-check_graph : goal.returns-in_err-check_graph
-unfolding plan_taken
-returns-in_err-check_graph c = handed_back _ _ _ _ c.from_residual.ensures.1 (stops _ _ _ (c.in_err-check_graph.ensures ∙ asked _ _ _ c.check_asked.ensures))
-
 -- causes 6 to 9 are passed
 passed : (c : In_ok-check_graph) → let a = c.args in accepted tt ≡ graph_rule a.file.now.counts a.depth (asked_rule a.file.now.counts a.set.0 a.goal.0) (length a.words.now)
 passed c = c.in_ok-check_graph.ensures ∙ asked _ _ _ c.check_asked.ensures
+
+pub returns-in_err-check_graph : goal.returns-in_err-check_graph
+unfolding plan_taken
+returns-in_err-check_graph c = handed_back _ _ _ _ c.from_residual.ensures.1 (stops _ _ _ (c.in_err-check_graph.ensures ∙ asked _ _ _ c.check_asked.ensures))
 
 pub returns-in_err-check_output : goal.returns-in_err-check_output
 unfolding plan_taken

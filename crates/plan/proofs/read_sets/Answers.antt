@@ -15,15 +15,6 @@ loop-e-preserved c = let i = c.loop-e.invariant in (
   list_more i.2 (omega arith) (sym (zero-add _)) c.added.ensures,
 )
 
-pub shape_of-needs : goal.shape_of-needs
-shape_of-needs c = c.loop-e.invariant.0.long
-
-pub shape_of-owners : goal.shape_of-owners
-shape_of-owners c = c.loop-e.invariant.1.long
-
-pub shape_of-adds : goal.shape_of-adds
-shape_of-adds c = c.loop-e.invariant.2.long
-
 pub returns : goal.returns
 returns c = let i = c.loop-e.invariant in
     (list_whole i.0 (omega arith) (search simple), list_whole i.1 (omega arith) (search simple), list_done i.2 (omega arith))

@@ -1,4 +1,4 @@
-use Rattle.run.proofs.Sequences.{most_none, most_more, most_done}
+use Rattle.run.proofs.Sequences.{most_none, most_more}
 use native.Mathlib.Omega.{arith}
 use Rattle.run.proofs.greatest.Goals as goal
 
@@ -7,6 +7,3 @@ loop-a-init c = most_none
 
 pub loop-a-preserved : goal.loop-a-preserved
 loop-a-preserved c = most_more c.loop-a.invariant (omega arith) c.max-most.ensures
-
-pub returns : goal.returns
-returns c = most_done c.loop-a.invariant (omega arith)

@@ -4,12 +4,9 @@ use native.Mathlib.Omega.{arith}
 use lib.ListN.{length}
 use Rattle.words.proofs.MemberLoops.{lowest_lt}
 use Rattle.run.specs.Course.{sets_of}
-use Rattle.run.proofs.Touches.{changes_none, changes_more, changes_done}
+use Rattle.run.proofs.Touches.{changes_more, changes_done}
 use Rattle.run.proofs.move_members.Goals as goal
 use Rattle.run.proofs.move_members.Goals.{After-lowest-s}
-
-pub loop-left-init : goal.loop-left-init
-loop-left-init c = let p = c.requires in changes_none p.1 (omega arith) p.0
 
 -- the lowest member that is left is the number of a set
 named : (c : After-lowest-s) → c.lowest-s.result < length c.loop-left.out
@@ -25,20 +22,8 @@ pub returns : goal.returns
 unfolding sets_of
 returns c = changes_done c.loop-left.invariant (omega arith)
 
-pub offset_bounds-out-s : goal.offset_bounds-out-s
-offset_bounds-out-s c = omega (arith, named (goal.at.offset_bounds-out-s c).After-lowest-s)
-
 pub bounds-out-s : goal.bounds-out-s
 bounds-out-s c = omega (arith, named (goal.at.bounds-out-s c).After-lowest-s)
 
-pub offset_bounds-out-s-in-loop-left : goal.offset_bounds-out-s-in-loop-left
-offset_bounds-out-s-in-loop-left c = omega (arith, named (goal.at.offset_bounds-out-s-in-loop-left c).After-lowest-s)
-
 pub bounds-out-s-in-loop-left : goal.bounds-out-s-in-loop-left
 bounds-out-s-in-loop-left c = omega (arith, named (goal.at.bounds-out-s-in-loop-left c).After-lowest-s)
-
-pub loop-left-smaller : goal.loop-left-smaller
-loop-left-smaller c = c.others-left.ensures.1
-
-pub shape_of-out : goal.shape_of-out
-shape_of-out c = c.loop-left.invariant.long

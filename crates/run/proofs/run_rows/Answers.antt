@@ -11,17 +11,9 @@ pub start_labels-requires : goal.start_labels-requires
 unfolding list_over
 start_labels-requires c = refl
 
-pub walk-went-requires : goal.walk-went-requires
-walk-went-requires c =
-    let led = c.requires.1 in
-    (led.tells, led.steps c.start_labels.new.labels c.start_labels.ensures)
-
 pub returns-then-went-task : goal.returns-then-went-task
 returns-then-went-task c =
     reported_refused _ _ _ _ _ (effects_off (checked c.args.task.now c.requires.0) c.start_labels.ensures c.walk-went.ensures c.if-went-task.true)
-
-pub lay_labels-requires : goal.lay_labels-requires
-lay_labels-requires c = (c.args.task.now.file.taken.ranged.states, c.requires.0)
 
 pub returns : goal.returns
 returns c =

@@ -22,6 +22,3 @@ pub start-x-requires : goal.start-x-requires
 start-x-requires c =
     let l = c.loop-left in
     omega (arith, c.lowest.ensures, lowest_lt c.args.file.now.counts.states l.left l.invariant.few l.invariant.met.inside (search rules))
-
-pub loop-left-smaller : goal.loop-left-smaller
-loop-left-smaller c = c.others-left.ensures.1

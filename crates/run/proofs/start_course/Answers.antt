@@ -31,6 +31,3 @@ returns c =
     c.pack.ensures
     ∙ ap₂ pack (c.without.ensures ∙ ap₂ without c.first-2.ensures (shared (goal.at.returns c).Joined-set-first).0) (shared (goal.at.returns c).Joined-set-first).1
     ∙ course_start c.args.file.now.counts.states c.args.set.0 _ (narrow_of c.args.file.now.bytes.now c.args.file.now.counts c.args.file.now.taken).starts
-
-pub first-requires : goal.first-requires
-first-requires c = c.args.file.now.taken.ranged.states

@@ -1,10 +1,9 @@
 -- The part lent is the action layer of the definition, and the memory below begins with nothing needed.
 use Prim.Native.Nat.{ℕ, ◌+◌}
 use mathlib.Core.List.{List}
-use mathlib.Core.Path.{sym, ap₂, subst}
+use mathlib.Core.Path.{ap₂, subst}
 use native.Mathlib.Omega.{arith}
 use lib.ListN.{length-take, length-drop}
-use lib.Seq.{length-take-le}
 use Rattle.words.specs.Width.{prop_width}
 use Rattle.words.proofs.Zeros.{zeros}
 use Rattle.plan.specs.Search.{listed_actions, Covers}
@@ -14,9 +13,6 @@ use Rattle.plan.proofs.layer.fall.Goals as goal
 pub slice_bounds-down-end : goal.slice_bounds-down-end
 slice_bounds-down-end c =
     fall_fits c.args.t _ _ c.requires.0 (ap₂ ◌+◌ c.layer_start.ensures.0 c.layer_size.ensures.0) c.layer_size-2.ensures.0
-
-pub slice_bounds-down-end-2 : goal.slice_bounds-down-end-2
-slice_bounds-down-end-2 c = sym (length-take-le _ _ (omega (arith, c.args.effects.now.tables.props)))
 
 pub down-requires : goal.down-requires
 down-requires c = (

@@ -12,32 +12,14 @@ use Rattle.run.proofs.Touches.{owned_one, owned_all}
 use Rattle.run.proofs.effects.read_owned.Goals as goal
 use Rattle.run.proofs.effects.read_owned.Goals.{After-owner-a}
 
-pub loop-e-init : goal.loop-e-init
-unfolding list_over
-loop-e-init c = (omega arith, refl, columns_none row_length (λ e. single ((actions_of c.args.file.now.bytes.now c.args.file.now.counts).owner e)) _ refl)
-
-pub owner-a-requires : goal.owner-a-requires
-owner-a-requires c = c.loop-e-test.true
-
 -- the row has a word for the owner
 owner_in : (c : After-owner-a) → c.owner-a.result < length c.loop-e.owned
 owner_in c =
     omega (arith, c.owner-a.ensures.1, c.args.file.now.taken.ranged.actions, c.loop-e.invariant.1)
 
-pub offset_bounds-owned-a : goal.offset_bounds-owned-a
-offset_bounds-owned-a c = omega (arith, c.owner-a.ensures.1, c.args.file.now.taken.ranged.actions)
-
-pub bounds-owned-a : goal.bounds-owned-a
-bounds-owned-a c = omega (arith, c.owner-a.ensures.1, c.args.file.now.taken.ranged.actions)
-
-pub single-requires : goal.single-requires
-single-requires c = omega (arith, c.loop-e-test.true, c.args.file.now.taken.ranged.effects)
-
-pub offset_bounds-owned-a-in-loop-e : goal.offset_bounds-owned-a-in-loop-e
-offset_bounds-owned-a-in-loop-e c = omega (arith, c.owner-a.ensures.1, c.args.file.now.taken.ranged.actions)
-
-pub bounds-owned-a-in-loop-e : goal.bounds-owned-a-in-loop-e
-bounds-owned-a-in-loop-e c = omega (arith, c.owner-a.ensures.1, c.args.file.now.taken.ranged.actions)
+pub loop-e-init : goal.loop-e-init
+unfolding list_over
+loop-e-init c = (omega arith, refl, columns_none row_length (λ e. single ((actions_of c.args.file.now.bytes.now c.args.file.now.counts).owner e)) _ refl)
 
 pub loop-e-preserved : goal.loop-e-preserved
 loop-e-preserved c =

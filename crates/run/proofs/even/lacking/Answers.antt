@@ -1,16 +1,11 @@
 -- The word is asked for the precondition of that step.
 use Prim.Native.Nat.{ℕ}
 use mathlib.Core.Path.{ap, ◌∙◌}
-use native.Mathlib.Omega.{arith}
 use lib.ListN.{get_or}
 use Rattle.rules.specs.Test.{fails, same}
 use Rattle.rules.specs.Word.{common}
 use Rattle.run.proofs.Idles.{as_fails}
 use Rattle.run.proofs.even.lacking.Goals as goal
-
-pub bounds-evens-a : goal.bounds-evens-a
-bounds-evens-a c =
-    omega (arith, c.byte-a.ensures.0, c.requires.0 c.args.led.made c.requires.1)
 
 pub returns : goal.returns
 unfolding same

@@ -20,12 +20,6 @@ returns-in_default c =
     let a = c.args in
     subst (Foretold a.evens.now.when.now a.evens.now.goes.now a.by a.course) c.in_default.is c.foretell-even.ensures
 
-pub overflow_sub-left : goal.overflow_sub-left
-overflow_sub-left c =
-    let g = c.in-Some.all in
-    let l : g < 2 ^ word_width = omega arith in
-    omega (arith, without_lt word_width {a = g} ((g * 2 ^ prop_width) % 2 ^ word_width) l)
-
 pub returns : goal.returns
 unfolding TriedEvenly Moves above further
 returns c =
@@ -40,3 +34,9 @@ returns c =
         ),
       ),
     )
+
+pub overflow_sub-left : goal.overflow_sub-left
+overflow_sub-left c =
+    let g = c.in-Some.all in
+    let l : g < 2 ^ word_width = omega arith in
+    omega (arith, without_lt word_width {a = g} ((g * 2 ^ prop_width) % 2 ^ word_width) l)

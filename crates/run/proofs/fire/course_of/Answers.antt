@@ -13,9 +13,6 @@ pub loop-p-init : goal.loop-p-init
 unfolding join_over
 loop-p-init c = (omega arith, refl)
 
-pub literals-course-requires : goal.literals-course-requires
-literals-course-requires c = c.loop-p-test.true
-
 pub loop-p-preserved : goal.loop-p-preserved
 loop-p-preserved c =
     let l = c.loop-p in

@@ -12,11 +12,6 @@ use native.Mathlib.Omega.{arith}
 use Rattle.run.proofs.fire.fire.Goals as goal
 use Rattle.run.proofs.fire.fire.Goals.{After-lowest-e}
 
-pub loop-left-init : goal.loop-left-init
-unfolding actions_of
-loop-left-init c = let p = c.requires in
-    firing_none (omega (arith, c.args.file.now.taken.ranged.effects)) (omega (arith, c.args.file.now.taken.ranged.effects, c.told-fired)) p.0
-
 -- the lowest effect that is left is one of the file's
 named : (c : After-lowest-e) → c.lowest-e.result < c.args.file.now.counts.effects
 unfolding actions_of
@@ -24,28 +19,16 @@ named c =
     let m = c.loop-left.invariant.changes in
     omega (arith, c.lowest-e.ensures, lowest_lt _ c.loop-left.left m.few m.inside c.loop-left-test.true)
 
+pub loop-left-init : goal.loop-left-init
+unfolding actions_of
+loop-left-init c = let p = c.requires in
+    firing_none (omega (arith, c.args.file.now.taken.ranged.effects)) (omega (arith, c.args.file.now.taken.ranged.effects, c.told-fired)) p.0
+
 pub antecedent-requires : goal.antecedent-requires
 antecedent-requires c = named (goal.at.antecedent-requires c).After-lowest-e
 
-pub firing-t-requires : goal.firing-t-requires
-firing-t-requires c = c.requires.1
-
-pub offset_bounds-fired-e : goal.offset_bounds-fired-e
-unfolding actions_of
-offset_bounds-fired-e c = let m = c.loop-left.invariant.changes in omega (arith, named (goal.at.offset_bounds-fired-e c).After-lowest-e, m.room, m.long)
-
-pub bounds-fired-e : goal.bounds-fired-e
-unfolding actions_of
-bounds-fired-e c = let m = c.loop-left.invariant.changes in omega (arith, named (goal.at.bounds-fired-e c).After-lowest-e, m.room, m.long)
-
 pub with_effect-did-requires : goal.with_effect-did-requires
 with_effect-did-requires c = named (goal.at.with_effect-did-requires c).After-lowest-e
-
-pub others-left-requires : goal.others-left-requires
-others-left-requires c = omega (arith, c.loop-left-test.true)
-
-pub loop-left-smaller : goal.loop-left-smaller
-loop-left-smaller c = omega (arith, c.others-left.ensures.1, c.loop-left-test.true)
 
 pub loop-left-preserved : goal.loop-left-preserved
 unfolding fired_in
@@ -68,3 +51,7 @@ returns c =
       changes_done m.changes (omega arith)
           ∙ ap (λ (n : ℕ). list_over n (λ e. choose (bit e a.by) (fired_in A a.set.0 now e) (get_or a.fired.now e 0))) c.told-fired,
     )
+
+pub bounds-fired-e : goal.bounds-fired-e
+unfolding actions_of
+bounds-fired-e c = let m = c.loop-left.invariant.changes in omega (arith, named (goal.at.bounds-fired-e c).After-lowest-e, m.room, m.long)

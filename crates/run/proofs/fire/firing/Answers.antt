@@ -11,19 +11,19 @@ use Rattle.run.proofs.Settles.{having_settled}
 use Rattle.run.proofs.fire.firing.Goals as goal
 use Rattle.run.proofs.fire.firing.Goals.{After-wide-needed}
 
-pub returns-then-course-needed-eq0 : goal.returns-then-course-needed-eq0
-returns-then-course-needed-eq0 c =
-    let a = c.args in
-    let small : a.when < 2 ^ prop_width = omega arith in
-    had_all a.set.0 (settled a.set.0 a.course a.labels.now) a.when small
-    (sym (ap₂ common c.requires c.wide-needed.ensures) ∙ c.if-course-needed-eq0.true)
-
 -- the antecedent, as bits of what some state has
 above : (c : After-wide-needed) → (c.wide-needed.result * 2 ^ prop_width) % 2 ^ word_width ≡ pack 0 c.args.when
 above c =
     let a = c.args in
     let small : a.when < 2 ^ prop_width = omega arith in
     ap (λ (x : ℕ). (x * 2 ^ prop_width) % 2 ^ word_width) c.wide-needed.ensures ∙ above_is a.set.0 a.labels.now a.when small
+
+pub returns-then-course-needed-eq0 : goal.returns-then-course-needed-eq0
+returns-then-course-needed-eq0 c =
+    let a = c.args in
+    let small : a.when < 2 ^ prop_width = omega arith in
+    had_all a.set.0 (settled a.set.0 a.course a.labels.now) a.when small
+    (sym (ap₂ common c.requires c.wide-needed.ensures) ∙ c.if-course-needed-eq0.true)
 
 pub returns-then-course-somewhere : goal.returns-then-course-somewhere
 returns-then-course-somewhere c =

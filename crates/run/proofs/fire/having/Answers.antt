@@ -1,17 +1,10 @@
 -- The words of these propositions are met with the set.
-use Prim.Native.Nat.{ℕ, ◌<◌, ◌^◌}
-use mathlib.Core.Path.{sym, ap₂, subst₂, ◌∙◌}
-use native.Mathlib.Omega.{arith}
+use Prim.Native.Nat.{ℕ}
+use mathlib.Core.Path.{ap₂, ◌∙◌}
 use lib.ListN.{get_or}
 use Rattle.rules.specs.Over.{meet_of}
-use Rattle.words.specs.Width.{prop_width}
 use Rattle.run.specs.Fire.{having}
 use Rattle.run.proofs.fire.having.Goals as goal
-
-pub meet_at-requires : goal.meet_at-requires
-meet_at-requires c =
-    let small : c.args.props.0 < 2 ^ prop_width = omega arith in
-    (omega (arith, c.told-labels), subst₂ (λ (x n : ℕ). x < 2 ^ n) (sym c.wide.ensures) (sym c.told-labels) small)
 
 pub returns : goal.returns
 unfolding having

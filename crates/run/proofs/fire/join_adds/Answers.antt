@@ -1,4 +1,4 @@
-use Rattle.run.proofs.Touches.{touches_none, touches_more, touches_done, union_twice}
+use Rattle.run.proofs.Touches.{touches_more, touches_done, union_twice}
 use Rattle.run.specs.Fire.{joined_by}
 use lib.Bits.{or_zero_r}
 use Rattle.graph.specs.Format.{actions_of}
@@ -10,10 +10,6 @@ use native.Mathlib.Omega.{arith}
 use Rattle.run.proofs.fire.join_adds.Goals as goal
 use Rattle.run.proofs.fire.join_adds.Goals.{After-lowest-e}
 
-pub loop-left-init : goal.loop-left-init
-loop-left-init c =
-    touches_none (λ x y. union x y) union_twice or_zero_r (omega (arith, c.args.file.now.taken.ranged.effects)) c.requires c.told-labels
-
 -- the lowest effect that is left is one of the file's
 named : (c : After-lowest-e) → c.lowest-e.result < c.args.file.now.counts.effects
 named c =
@@ -21,15 +17,6 @@ named c =
 
 pub added-requires : goal.added-requires
 added-requires c = named (goal.at.added-requires c).After-lowest-e
-
-pub spread-requires : goal.spread-requires
-spread-requires c = omega (arith, c.loop-left.invariant.long)
-
-pub others-left-requires : goal.others-left-requires
-others-left-requires c = omega (arith, c.loop-left-test.true)
-
-pub loop-left-smaller : goal.loop-left-smaller
-loop-left-smaller c = omega (arith, c.others-left.ensures.1, c.loop-left-test.true)
 
 pub loop-left-preserved : goal.loop-left-preserved
 loop-left-preserved c =

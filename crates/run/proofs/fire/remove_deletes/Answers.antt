@@ -1,4 +1,4 @@
-use Rattle.run.proofs.Touches.{touches_none, touches_more, touches_done, without_twice, without_none}
+use Rattle.run.proofs.Touches.{touches_more, touches_done, without_twice, without_none}
 use Rattle.run.specs.Fire.{removed_by}
 use Rattle.graph.specs.Format.{actions_of}
 use Rattle.words.proofs.MemberLoops.{lowest_lt}
@@ -9,10 +9,6 @@ use native.Mathlib.Omega.{arith}
 use Rattle.run.proofs.fire.remove_deletes.Goals as goal
 use Rattle.run.proofs.fire.remove_deletes.Goals.{After-lowest-e}
 
-pub loop-left-init : goal.loop-left-init
-loop-left-init c =
-    touches_none (λ x y. without x y) without_twice without_none (omega (arith, c.args.file.now.taken.ranged.effects)) c.requires c.told-labels
-
 -- the lowest effect that is left is one of the file's
 named : (c : After-lowest-e) → c.lowest-e.result < c.args.file.now.counts.effects
 named c =
@@ -20,15 +16,6 @@ named c =
 
 pub deleted-requires : goal.deleted-requires
 deleted-requires c = named (goal.at.deleted-requires c).After-lowest-e
-
-pub strip-requires : goal.strip-requires
-strip-requires c = omega (arith, c.loop-left.invariant.long)
-
-pub others-left-requires : goal.others-left-requires
-others-left-requires c = omega (arith, c.loop-left-test.true)
-
-pub loop-left-smaller : goal.loop-left-smaller
-loop-left-smaller c = omega (arith, c.others-left.ensures.1, c.loop-left-test.true)
 
 pub loop-left-preserved : goal.loop-left-preserved
 loop-left-preserved c =

@@ -14,9 +14,6 @@ pub loop-p-init : goal.loop-p-init
 unfolding join_over
 loop-p-init c = (omega arith, refl)
 
-pub moved_bit-set-requires : goal.moved_bit-set-requires
-moved_bit-set-requires c = (c.requires, c.loop-p-test.true)
-
 pub loop-p-preserved : goal.loop-p-preserved
 loop-p-preserved c =
     let l = c.loop-p in

@@ -10,6 +10,12 @@ use native.Mathlib.Omega.{arith}
 use Rattle.run.proofs.fire.strip.Goals as goal
 use Rattle.run.proofs.fire.strip.Goals.{After-lowest-q}
 
+-- the lowest member that is left is the number of a word
+named : (c : After-lowest-q) → c.lowest-q.result < length c.loop-left.row
+named c =
+    let l = c.loop-left in
+    omega (arith, c.lowest-q.ensures, lowest_lt _ l.left l.invariant.few l.invariant.inside c.loop-left-test.true, l.invariant.long)
+
 pub returns-then-t-eq0 : goal.returns-then-t-eq0
 returns-then-t-eq0 c = strip_nothing _ _ _ c.if-t-eq0.true
 
@@ -20,39 +26,9 @@ loop-left-init c =
     (c.wide-left.ensures ∙ c.common.ensures
     ∙ ap (λ (x : ℕ). common x c.args.set.0) c.first.ensures))
 
--- the lowest member that is left is the number of a word
-named : (c : After-lowest-q) → c.lowest-q.result < length c.loop-left.row
-named c =
-    let l = c.loop-left in
-    omega (arith, c.lowest-q.ensures, lowest_lt _ l.left l.invariant.few l.invariant.inside c.loop-left-test.true, l.invariant.long)
-
-pub offset_bounds-row-q : goal.offset_bounds-row-q
-offset_bounds-row-q c = omega (arith, named (goal.at.offset_bounds-row-q c).After-lowest-q)
-
-pub bounds-row-q : goal.bounds-row-q
-bounds-row-q c = omega (arith, named (goal.at.bounds-row-q c).After-lowest-q)
-
-pub offset_bounds-row-q-in-loop-left : goal.offset_bounds-row-q-in-loop-left
-offset_bounds-row-q-in-loop-left c = omega (arith, named (goal.at.offset_bounds-row-q-in-loop-left c).After-lowest-q)
-
-pub bounds-row-q-in-loop-left : goal.bounds-row-q-in-loop-left
-bounds-row-q-in-loop-left c = omega (arith, named (goal.at.bounds-row-q-in-loop-left c).After-lowest-q)
-
-pub offset_bounds-row-q-in-loop-left-2 : goal.offset_bounds-row-q-in-loop-left-2
-offset_bounds-row-q-in-loop-left-2 c = omega (arith, named (goal.at.offset_bounds-row-q-in-loop-left-2 c).After-lowest-q)
-
-pub bounds-row-q-in-loop-left-2 : goal.bounds-row-q-in-loop-left-2
-bounds-row-q-in-loop-left-2 c = omega (arith, named (goal.at.bounds-row-q-in-loop-left-2 c).After-lowest-q)
-
-pub loop-left-smaller : goal.loop-left-smaller
-loop-left-smaller c = c.others-left.ensures.1
-
 pub loop-left-preserved : goal.loop-left-preserved
 loop-left-preserved c =
     changes_more c.loop-left.invariant (search rules) c.lowest-q.ensures refl c.others-left.ensures.0
-
-pub shape_of-row : goal.shape_of-row
-shape_of-row c = c.loop-left.invariant.long
 
 pub returns : goal.returns
 returns c = let a = c.args in
@@ -60,3 +36,12 @@ returns c = let a = c.args in
     ∙ strip_cut a.t a.set.0 _ a.row.now
     (c.wide-left.ensures ∙ c.common.ensures
     ∙ ap (λ (x : ℕ). common x a.set.0) c.first.ensures)
+
+pub bounds-row-q : goal.bounds-row-q
+bounds-row-q c = omega (arith, named (goal.at.bounds-row-q c).After-lowest-q)
+
+pub bounds-row-q-in-loop-left : goal.bounds-row-q-in-loop-left
+bounds-row-q-in-loop-left c = omega (arith, named (goal.at.bounds-row-q-in-loop-left c).After-lowest-q)
+
+pub bounds-row-q-in-loop-left-2 : goal.bounds-row-q-in-loop-left-2
+bounds-row-q-in-loop-left-2 c = omega (arith, named (goal.at.bounds-row-q-in-loop-left-2 c).After-lowest-q)

@@ -22,6 +22,14 @@ use Rattle.run.proofs.fire.Rows.apply.Goals.{After-fire-did, After-join_adds, Af
 abbrev stood : Start → List ℕ
 stood s = settled s.args.set.0 s.args.course s.args.self.now.labels
 
+-- the effects that fire in part are some of the file's
+part_below : (c : After-fire-did) → c.fire-did.result.some < 2 ^ c.args.file.now.counts.effects
+unfolding actions_of
+part_below c =
+    let a = c.args in
+    part_under (actions_of a.file.now.bytes.now a.file.now.counts) a.set.0 a.by (settled c.args.set.0 c.args.course c.args.self.now.labels) a.self.now.fired c.args.file.now.taken.ranged.effects
+    c.fire-did.ensures.0 c.fire-did.ensures.1
+
 pub returns-then-did-eq0 : goal.returns-then-did-eq0
 unfolding actions_of
 returns-then-did-eq0 c =
@@ -31,14 +39,6 @@ returns-then-did-eq0 c =
     even_done a.set.0 a.course a.self.now.labels did.del did.add small.0 small.1 c.requires.1 c.apply_evenly.ensures
     (applied_evenly (actions_of a.file.now.bytes.now a.file.now.counts) a.set.0 a.by (stood (goal.at.returns-then-did-eq0 c).Start) a.self.now.fired c.args.file.now.taken.ranged.effects
     c.fire-did.ensures.0 c.fire-did.ensures.1 c.if-did-eq0.true refl)
-
--- the effects that fire in part are some of the file's
-part_below : (c : After-fire-did) → c.fire-did.result.some < 2 ^ c.args.file.now.counts.effects
-unfolding actions_of
-part_below c =
-    let a = c.args in
-    part_under (actions_of a.file.now.bytes.now a.file.now.counts) a.set.0 a.by (settled c.args.set.0 c.args.course c.args.self.now.labels) a.self.now.fired c.args.file.now.taken.ranged.effects
-    c.fire-did.ensures.0 c.fire-did.ensures.1
 
 pub remove_deletes-requires : goal.remove_deletes-requires
 remove_deletes-requires c = part_below (goal.at.remove_deletes-requires c).After-fire-did

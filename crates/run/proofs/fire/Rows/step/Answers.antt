@@ -17,16 +17,16 @@ small : (s : Start) → (actions_of s.args.file.now.bytes.now s.args.file.now.co
 unfolding actions_of
 small s = (narrow_of s.args.file.now.bytes.now s.args.file.now.counts s.args.file.now.taken).pre s.args.a s.requires.1
 
+-- the word of the action's effects
+word : (s : Start) → get_or s.args.owned.now s.args.a 0 ≡ effects_of (actions_of s.args.file.now.bytes.now s.args.file.now.counts) s.args.a
+word s = owned_at (actions_of s.args.file.now.bytes.now s.args.file.now.counts) s.requires.0 (omega (arith, s.requires.1, s.args.file.now.taken.ranged.actions))
+
 pub returns-then-course-wide-ne0 : goal.returns-then-course-wide-ne0
 unfolding next_of
 returns-then-course-wide-ne0 c =
     let a = c.args in
     step_missing (actions_of a.file.now.bytes.now a.file.now.counts) a.set.0 a.a (settled a.set.0 a.course a.self.now.labels) (small (goal.at.returns-then-course-wide-ne0 c).Start) c.requires.2
     (c.wide.ensures ∙ c.precondition.ensures) c.if-course-wide-ne0.true
-
--- the word of the action's effects
-word : (s : Start) → get_or s.args.owned.now s.args.a 0 ≡ effects_of (actions_of s.args.file.now.bytes.now s.args.file.now.counts) s.args.a
-word s = owned_at (actions_of s.args.file.now.bytes.now s.args.file.now.counts) s.requires.0 (omega (arith, s.requires.1, s.args.file.now.taken.ranged.actions))
 
 pub returns : goal.returns
 unfolding actions_of
@@ -44,6 +44,3 @@ apply-requires c = (
       (effects_lt (actions_of c.args.file.now.bytes.now c.args.file.now.counts) c.args.a),
   c.requires.2,
 )
-
-pub bounds-owned-a : goal.bounds-owned-a
-bounds-owned-a c = omega (arith, c.requires.1, c.args.file.now.taken.ranged.actions)

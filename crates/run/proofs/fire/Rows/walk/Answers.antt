@@ -1,5 +1,5 @@
-use Prim.Native.Nat.{ℕ, ◌+◌, ◌-◌, ◌<◌}
-use mathlib.Core.Path.{◌≡◌, sym, subst, ◌∙◌}
+use Prim.Native.Nat.{ℕ, ◌+◌, ◌-◌}
+use mathlib.Core.Path.{◌≡◌, subst, ◌∙◌}
 use mathlib.Core.List.{List}
 use native.Mathlib.Omega.{arith}
 use Rattle.graph.specs.Format.{actions_of}
@@ -11,34 +11,11 @@ use Rattle.run.proofs.Fires.{missing, Stopped, step_idle, step_changed, step_off
 use Rattle.run.proofs.fire.Rows.walk.Goals as goal
 use Rattle.run.proofs.fire.Rows.walk.Goals.{After-step-did, In-Changed}
 
-pub loop-i-init : goal.loop-i-init
-loop-i-init c = c.requires.1
-
-pub step-did-requires : goal.step-did-requires
-unfolding actions_of
-step-did-requires c =
-    let l = c.loop-i in (
-      c.requires.0.own,
-      subst (λ (x : ℕ). x < c.args.task.now.file.counts.actions) (sym c.byte.ensures.0) (c.args.task.now.known l.i c.loop-i-test.true),
-      l.invariant.course_is,
-    )
-
 -- what the labels stand for after a step with this answer
 abbrev stood : After-step-did → Stepped → List ℕ
 stood c r =
     settled c.args.task.now.set.0 (next_of c.loop-i.course r)
     c.step-did.new.self.labels
-
-pub loop-i-preserved-in-Unchanged : goal.loop-i-preserved-in-Unchanged
-unfolding next_of
-loop-i-preserved-in-Unchanged c =
-    let l = c.loop-i in
-    let a = c.args in
-    let A = actions_of a.task.now.file.bytes.now a.task.now.file.counts in
-    subst (λ (x : Stepped). Stepping A a.task.now.set.0 a.task.now.list.now a.self.now.labels (stood (goal.at.loop-i-preserved-in-Unchanged c).After-step-did x) (l.i + 1) l.course (l.idle + 1))
-    c.in-Unchanged.is
-    (step_idle l.invariant {labels' = stood (goal.at.loop-i-preserved-in-Unchanged c).After-step-did c.step-did.result} c.loop-i-test.true c.byte.ensures.0
-    c.step-did.ensures c.in-Unchanged.is)
 
 -- what holds behind a step that changed something
 changed : (c : In-Changed) →
@@ -54,6 +31,17 @@ changed c =
     subst (λ (x : Stepped). Stepping A a.task.now.set.0 a.task.now.list.now a.self.now.labels (settled c.args.task.now.set.0 (next_of c.loop-i.course x) c.step-did.new.self.labels) (l.i + 1) c.in-Changed.next l.idle) e
     (step_changed l.invariant {labels' = settled c.args.task.now.set.0 (next_of c.loop-i.course c.step-did.result) c.step-did.new.self.labels} c.loop-i-test.true c.byte.ensures.0
     c.step-did.ensures e)
+
+pub loop-i-preserved-in-Unchanged : goal.loop-i-preserved-in-Unchanged
+unfolding next_of
+loop-i-preserved-in-Unchanged c =
+    let l = c.loop-i in
+    let a = c.args in
+    let A = actions_of a.task.now.file.bytes.now a.task.now.file.counts in
+    subst (λ (x : Stepped). Stepping A a.task.now.set.0 a.task.now.list.now a.self.now.labels (stood (goal.at.loop-i-preserved-in-Unchanged c).After-step-did x) (l.i + 1) l.course (l.idle + 1))
+    c.in-Unchanged.is
+    (step_idle l.invariant {labels' = stood (goal.at.loop-i-preserved-in-Unchanged c).After-step-did c.step-did.result} c.loop-i-test.true c.byte.ensures.0
+    c.step-did.ensures c.in-Unchanged.is)
 
 pub walk_evenly-ahead-requires : goal.walk_evenly-ahead-requires
 unfolding actions_of
@@ -84,18 +72,3 @@ pub returns : goal.returns
 returns c =
     let end = step_done c.loop-i.invariant c.loop-i-test.false in
     (end.0, end.1, c.settle-2.ensures ∙ end.2)
-
-pub overflow_add-i : goal.overflow_add-i
-overflow_add-i c = omega (arith, c.loop-i-test.true)
-
-pub overflow_add-idle : goal.overflow_add-idle
-overflow_add-idle c =
-    omega (arith, c.loop-i-test.true, c.loop-i.invariant.few)
-
-pub loop-i-smaller-in-Unchanged : goal.loop-i-smaller-in-Unchanged
-loop-i-smaller-in-Unchanged c =
-    omega (arith, c.loop-i-test.true)
-
-pub loop-i-smaller : goal.loop-i-smaller
-loop-i-smaller c =
-    omega (arith, c.loop-i-test.true, c.walk_evenly-ahead.ensures.forth, c.walk_evenly-ahead.ensures.inside)
