@@ -24,7 +24,7 @@ use graph::file::byte;
 use graph::limits::MAX_EFFECTS;
 use graph::view::View;
 use words::columns::spread;
-use words::members::{lowest, meet_at, others, single};
+use words::members::{Members, lowest, meet_at, others, single};
 use words::sets::{PROP_WIDTH, Props, Set, States, wide};
 use words::tables::ROW;
 
@@ -168,11 +168,8 @@ fn strip(row: &mut [u64], set: Props, t: u64)
     if t == 0 {
         return;
     }
-    let mut left = wide(Props::first(row.len()).common(set).0);
-    while 0 < left {
-        let q = lowest(left);
+    for q in Members(Props::first(row.len()).common(set).word()) {
         row[q] = row[q] ^ (row[q] & t);
-        left = others(left);
     }
 }
 
@@ -183,11 +180,8 @@ fn remove_deletes(file: &View<'_>, by: u64, fired: &[u64; MAX_EFFECTS], labels: 
     requires { (by < 2 ^ file.now.counts.effects) }
     ensures { labels.new ≡ removed_by (actions_of file.now.bytes.now file.now.counts) by fired.now labels.old }
 {
-    let mut left = by;
-    while 0 < left {
-        let e = lowest(left);
+    for e in Members(by) {
         strip(&mut *labels, Props(file.deleted(e)), fired[e]);
-        left = others(left);
     }
 }
 
@@ -196,11 +190,8 @@ fn join_adds(file: &View<'_>, by: u64, fired: &[u64; MAX_EFFECTS], labels: &mut 
     requires { (by < 2 ^ file.now.counts.effects) }
     ensures { labels.new ≡ joined_by (actions_of file.now.bytes.now file.now.counts) by fired.now labels.old }
 {
-    let mut left = by;
-    while 0 < left {
-        let e = lowest(left);
+    for e in Members(by) {
         spread(&mut *labels, Props(file.added(e)), fired[e]);
-        left = others(left);
     }
 }
 
