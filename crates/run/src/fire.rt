@@ -24,7 +24,7 @@ use graph::file::byte;
 use graph::limits::MAX_EFFECTS;
 use graph::view::View;
 use words::columns::spread;
-use words::members::{Members, lowest, meet_at, others, single};
+use words::members::{Members, meet_at, single};
 use words::sets::{PROP_WIDTH, Props, Set, States, wide};
 use words::tables::ROW;
 
@@ -142,18 +142,15 @@ fn fire(
     ensures { (result ≡ of_effects (actions_of file.now.bytes.now file.now.counts) set.0 by (settled set.0 course labels.now))
         × (fired.new ≡ fired_by (actions_of file.now.bytes.now file.now.counts) set.0 by (settled set.0 course labels.now) fired.old) }
 {
-    let mut left = by;
     let mut did = Fired {
         del: 0,
         add: 0,
         some: 0,
     };
-    while 0 < left {
-        let e = lowest(left);
+    for e in Members(by) {
         let t = firing(labels, set, course, file.antecedent(e));
         fired[e] = t;
         did = with_effect(did, file, e, t, set);
-        left = others(left);
     }
     did
 }
