@@ -28,8 +28,8 @@ pub fn read_needs(file: &View<'_>, needs: &mut [u64])
     requires { length needs.old ≡ file.now.counts.actions }
     ensures { needs.new ≡ list_over file.now.counts.actions (actions_of file.now.bytes.now file.now.counts).pre }
 {
-    for a in 0..needs.len() {
-        needs[a] = wide(file.precondition(a));
+    for (a, need) in needs.iter_mut().enumerate() {
+        *need = wide(file.precondition(a));
     }
 }
 

@@ -51,8 +51,8 @@ fn course_of(labels: &[u64; ROW], set: States) -> u64
     ensures { result ≡ F.course_in set.0 labels.now }
 {
     let mut course = 0u64;
-    for p in 0..ROW {
-        course = course | literals(labels[p], p, set);
+    for (p, label) in labels.iter().enumerate() {
+        course = course | literals(*label, p, set);
     }
     course
 }
@@ -93,8 +93,8 @@ fn settled_label(label: u64, p: usize, set: States, course: u64) -> u64
 fn settle(labels: &mut [u64; ROW], set: States, course: u64)
     ensures { labels.new ≡ settled set.0 course labels.old }
 {
-    for p in 0..ROW {
-        labels[p] = settled_label(labels[p], p, set, course);
+    for (p, label) in labels.iter_mut().enumerate() {
+        *label = settled_label(*label, p, set, course);
     }
 }
 
@@ -363,8 +363,8 @@ fn set_in(labels: &[u64; ROW], s: usize) -> u32
     ensures { result ≡ set_in labels.now s }
 {
     let mut set = 0u32;
-    for p in 0..ROW {
-        set = set | moved_bit(labels[p], s, p);
+    for (p, label) in labels.iter().enumerate() {
+        set = set | moved_bit(*label, s, p);
     }
     set
 }
