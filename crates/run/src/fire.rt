@@ -9,7 +9,6 @@ ghost use Rattle.rules.specs.Lists.{list_over};
 ghost use Rattle.rules.specs.Layer.{label_in};
 ghost use Rattle.words.specs.Width.{prop_width, state_width};
 ghost use Rattle.words.specs.Rows.{row_length};
-ghost use Rattle.words.specs.Memory.{put_at};
 ghost use Rattle.graph.specs.Format.{actions_of};
 ghost use Rattle.run.specs.Fire as F;
 ghost use Rattle.run.specs.Fire.{effects_of, set_in, fired_by, of_effect, join_fired, of_effects, removed_by, joined_by, applied_in, stepped_in};
@@ -369,12 +368,12 @@ fn set_in(labels: &[u64; ROW], s: usize) -> u32
     set
 }
 
-// The sets of all n states, at the front of the output.
-pub fn lay_labels(labels: &[u64; ROW], n: usize, out: &mut [u32])
-    requires { (n ≤ state_width) × (n ≤ length out.old) }
-    ensures { out.new ≡ put_at 0 (list_over n (set_in labels.now)) out.old }
+// The sets of all states.
+pub fn lay_labels(labels: &[u64; ROW], out: &mut [u32])
+    requires { length out.old ≤ state_width }
+    ensures { out.new ≡ list_over (length out.old) (set_in labels.now) }
 {
-    for s in 0..n {
-        out[s] = set_in(labels, s);
+    for (s, x) in out.iter_mut().enumerate() {
+        *x = set_in(labels, s);
     }
 }

@@ -195,6 +195,8 @@ fn read_steps(file: &View<'_>, needs: &mut [u64], leave: &mut [u64], bring: &mut
         × (leave.new ≡ list_over file.now.counts.actions (leaves_of (actions_of file.now.bytes.now file.now.counts)))
         × (bring.new ≡ list_over file.now.counts.actions (brings_of (actions_of file.now.bytes.now file.now.counts))) }
 {
+    // Kept (point 3): the index is that of all three lists and of the action that is read; zipped, nothing is known of the lists, since no adapter of `iter_mut`
+    // says what they are after it.
     for a in 0..needs.len() {
         let del = Props(file.deleted(a));
         let add = Props(file.added(a));
@@ -260,7 +262,7 @@ fn run_rows(
     if went.made < task.list.len() {
         return Err(Refusal::Precondition(went.made));
     }
-    lay_labels(&rows.labels, task.file.counts.states, &mut *out);
+    lay_labels(&rows.labels, &mut out[..task.file.counts.states]);
     Ok(Ran {
         sets: task.file.counts.states,
         idle: went.idle,
