@@ -16,8 +16,8 @@ fn grounded(needed: &[u64], words: &[u64]) -> bool
     ensures { result ≡ all_below (length needed.now) (λ p. W.within (label_in needed.now p) (label_in words.now p)) }
 {
     let mut outside = 0;
-    for p in 0..needed.len() {
-        outside = outside | (needed[p] ^ (needed[p] & words[p]));
+    for (p, need) in needed.iter().enumerate() {
+        outside = outside | (need ^ (need & words[p]));
     }
     outside == 0
 }
@@ -35,9 +35,7 @@ pub fn descend(
         ≡ P.descend (listed_actions effects.now.needs.now effects.now.owners.now effects.now.adders.now) words.now (length plan.old) needed.old [] }
 {
     let mut live = goal;
-    let mut t = plan.len();
-    while 0 < t {
-        t -= 1;
+    for t in (0..plan.len()).rev() {
         let answer = fall(&mut *needed, live, words, t, effects);
         let Some(layer) = answer else {
             return Err(t + 1);

@@ -12,7 +12,7 @@ ghost use Rattle.plan.specs.Search.{listed_actions, listed_shape, Tables, Live, 
 use graph::layout::{layer_size, layer_start};
 use rules::Shape;
 use words::columns::spread;
-use words::members::{lowest, others};
+use words::members::Members;
 use words::sets::{PROP_WIDTH, Props, Set, wide};
 
 // What the search goes by: what each effect needs, the action that it is of, and of each proposition the effects that add it.
@@ -90,10 +90,7 @@ fn support(
         marks: 0,
         live: 0,
     };
-    let mut props = wide(live);
-    'props: while 0 < props {
-        let p = lowest(props);
-        props = others(props);
+    'props: for p in Members(wide(live)) {
         s = carry(
             Took {
                 left: wanted[p],
@@ -104,12 +101,10 @@ fn support(
             labels[effects.needs.len() + p],
             &mut *under,
         );
-        let mut by = effects.adders[p];
-        while 0 < by {
+        for e in Members(effects.adders[p]) {
             if s.left == 0 {
                 continue 'props;
             }
-            let e = lowest(by);
             s = turn(
                 s,
                 effects.owners[e] as usize,
@@ -117,7 +112,6 @@ fn support(
                 effects.needs[e],
                 &mut *under,
             );
-            by = others(by);
         }
         if s.left != 0 {
             return None;

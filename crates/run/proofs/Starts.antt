@@ -8,6 +8,7 @@ use native.Mathlib.Omega.{arith}
 use lib.Bits.{or_zero_l}
 use lib.Count.{count_trailing_zeros}
 use lib.ListN.{length, get_or, set, take, drop}
+use lib.Seq.{length-take-le}
 use Rattle.rules.specs.Test.{choose}
 use Rattle.rules.specs.Word.{bit, common, union, without, single, first}
 use Rattle.rules.specs.Over.{join_over, meet_over, join_of, meet_of}
@@ -115,3 +116,11 @@ module _ (n : ℕ) (start : ℕ → ℕ) (out₀ out₁ : List ℕ) (room : n �
       ∙ list_over_eq (λ s l. ap (λ (x : ℕ). choose (bit s set) (came w x) x) (get_d_list_over start l)) in
       let size : n ≡ 0 + length (sets_of n start set w) = omega (arith, length_list_over n (λ s. choose (bit s set) (came w (start s)) (start s))) in
       ap₂ (λ (l r : List ℕ). l ++ r) sets (rest ∙ ap (λ (k : ℕ). drop k out₀) size)
+
+-- a list written over the lent front of the output
+pub front_laid : (n : ℕ) (f : ℕ → ℕ) (out : List ℕ) {p : List ℕ} → n ≤ length out → p ≡ list_over (length (take n out)) f
+    → p ++ drop n out ≡ put_at 0 (list_over n f) out
+unfolding put_at
+front_laid n f out {p} room e =
+    let size : n ≡ 0 + length (list_over n f) = omega (arith, length_list_over n f) in
+    ap₂ (λ (l r : List ℕ). l ++ r) (e ∙ ap (λ (k : ℕ). list_over k f) (length-take-le n out room)) (ap (λ (k : ℕ). drop k out) size)

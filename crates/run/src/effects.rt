@@ -28,8 +28,8 @@ pub fn read_needs(file: &View<'_>, needs: &mut [u64])
     requires { length needs.old ≡ file.now.counts.actions }
     ensures { needs.new ≡ list_over file.now.counts.actions (actions_of file.now.bytes.now file.now.counts).pre }
 {
-    for a in 0..needs.len() {
-        needs[a] = wide(file.precondition(a));
+    for (a, need) in needs.iter_mut().enumerate() {
+        *need = wide(file.precondition(a));
     }
 }
 
@@ -51,6 +51,8 @@ pub fn read_effects(file: &View<'_>, when: &mut [u64], goes: &mut [u64])
     ensures { (when.new ≡ list_over file.now.counts.effects (actions_of file.now.bytes.now file.now.counts).when)
         × (goes.new ≡ list_over file.now.counts.effects (goes_of (actions_of file.now.bytes.now file.now.counts))) }
 {
+    // Kept (point 3): the index is that of both lists and of the effect that is read; zipped, nothing is known of the lists, since no adapter of `iter_mut` says
+    // what they are after it.
     for e in 0..when.len() {
         when[e] = wide(file.antecedent(e));
         goes[e] = pack(Props(file.added(e)), Props(file.deleted(e)));

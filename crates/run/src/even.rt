@@ -10,7 +10,7 @@ ghost use Rattle.run.specs.Even.{Foretold, TriedEvenly, GoesOn};
 use crate::effects::Evens;
 use crate::step::{ALL, Made, Unmade, Walked, counted, still};
 use graph::file::byte;
-use words::members::{lowest, others};
+use words::members::Members;
 use words::sets::PROP_WIDTH;
 
 // Whether an effect with this antecedent may fire in a part of the set: some state lacks some of it, and each of it is had by some.
@@ -39,15 +39,12 @@ fn foretell(by: u64, evens: &Evens<'_>, course: u64) -> Option<u64>
     requires { by < 2 ^ length evens.now.when.now }
     ensures { Foretold evens.now.when.now evens.now.goes.now by course result }
 {
-    let mut left = by;
     let mut all = 0u64;
-    while 0 < left {
-        let e = lowest(left);
+    for e in Members(by) {
         if untold(course, evens.when[e]) {
             return None;
         }
         all = all | gone_by(course, evens.when[e], evens.goes[e]);
-        left = others(left);
     }
     Some(all)
 }

@@ -9,7 +9,6 @@ ghost use Rattle.rules.specs.Lists.{list_over};
 ghost use Rattle.rules.specs.Layer.{label_in};
 ghost use Rattle.words.specs.Width.{prop_width, state_width};
 ghost use Rattle.words.specs.Rows.{row_length};
-ghost use Rattle.words.specs.Memory.{put_at};
 ghost use Rattle.graph.specs.Format.{actions_of};
 ghost use Rattle.run.specs.Fire as F;
 ghost use Rattle.run.specs.Fire.{effects_of, set_in, fired_by, of_effect, join_fired, of_effects, removed_by, joined_by, applied_in, stepped_in};
@@ -24,7 +23,7 @@ use graph::file::byte;
 use graph::limits::MAX_EFFECTS;
 use graph::view::View;
 use words::columns::spread;
-use words::members::{lowest, meet_at, others, single};
+use words::members::{Members, meet_at, single};
 use words::sets::{PROP_WIDTH, Props, Set, States, wide};
 use words::tables::ROW;
 
@@ -51,8 +50,8 @@ fn course_of(labels: &[u64; ROW], set: States) -> u64
     ensures { result ≡ F.course_in set.0 labels.now }
 {
     let mut course = 0u64;
-    for p in 0..ROW {
-        course = course | literals(labels[p], p, set);
+    for (p, label) in labels.iter().enumerate() {
+        course = course | literals(*label, p, set);
     }
     course
 }
@@ -93,8 +92,8 @@ fn settled_label(label: u64, p: usize, set: States, course: u64) -> u64
 fn settle(labels: &mut [u64; ROW], set: States, course: u64)
     ensures { labels.new ≡ settled set.0 course labels.old }
 {
-    for p in 0..ROW {
-        labels[p] = settled_label(labels[p], p, set, course);
+    for (p, label) in labels.iter_mut().enumerate() {
+        *label = settled_label(*label, p, set, course);
     }
 }
 
@@ -142,18 +141,15 @@ fn fire(
     ensures { (result ≡ of_effects (actions_of file.now.bytes.now file.now.counts) set.0 by (settled set.0 course labels.now))
         × (fired.new ≡ fired_by (actions_of file.now.bytes.now file.now.counts) set.0 by (settled set.0 course labels.now) fired.old) }
 {
-    let mut left = by;
     let mut did = Fired {
         del: 0,
         add: 0,
         some: 0,
     };
-    while 0 < left {
-        let e = lowest(left);
+    for e in Members(by) {
         let t = firing(labels, set, course, file.antecedent(e));
         fired[e] = t;
         did = with_effect(did, file, e, t, set);
-        left = others(left);
     }
     did
 }
@@ -168,11 +164,8 @@ fn strip(row: &mut [u64], set: Props, t: u64)
     if t == 0 {
         return;
     }
-    let mut left = wide(Props::first(row.len()).common(set).0);
-    while 0 < left {
-        let q = lowest(left);
+    for q in Members(Props::first(row.len()).common(set).word()) {
         row[q] = row[q] ^ (row[q] & t);
-        left = others(left);
     }
 }
 
@@ -183,11 +176,8 @@ fn remove_deletes(file: &View<'_>, by: u64, fired: &[u64; MAX_EFFECTS], labels: 
     requires { (by < 2 ^ file.now.counts.effects) }
     ensures { labels.new ≡ removed_by (actions_of file.now.bytes.now file.now.counts) by fired.now labels.old }
 {
-    let mut left = by;
-    while 0 < left {
-        let e = lowest(left);
+    for e in Members(by) {
         strip(&mut *labels, Props(file.deleted(e)), fired[e]);
-        left = others(left);
     }
 }
 
@@ -196,11 +186,8 @@ fn join_adds(file: &View<'_>, by: u64, fired: &[u64; MAX_EFFECTS], labels: &mut 
     requires { (by < 2 ^ file.now.counts.effects) }
     ensures { labels.new ≡ joined_by (actions_of file.now.bytes.now file.now.counts) by fired.now labels.old }
 {
-    let mut left = by;
-    while 0 < left {
-        let e = lowest(left);
+    for e in Members(by) {
         spread(&mut *labels, Props(file.added(e)), fired[e]);
-        left = others(left);
     }
 }
 
@@ -375,18 +362,18 @@ fn set_in(labels: &[u64; ROW], s: usize) -> u32
     ensures { result ≡ set_in labels.now s }
 {
     let mut set = 0u32;
-    for p in 0..ROW {
-        set = set | moved_bit(labels[p], s, p);
+    for (p, label) in labels.iter().enumerate() {
+        set = set | moved_bit(*label, s, p);
     }
     set
 }
 
-// The sets of all n states, at the front of the output.
-pub fn lay_labels(labels: &[u64; ROW], n: usize, out: &mut [u32])
-    requires { (n ≤ state_width) × (n ≤ length out.old) }
-    ensures { out.new ≡ put_at 0 (list_over n (set_in labels.now)) out.old }
+// The sets of all states.
+pub fn lay_labels(labels: &[u64; ROW], out: &mut [u32])
+    requires { length out.old ≤ state_width }
+    ensures { out.new ≡ list_over (length out.old) (set_in labels.now) }
 {
-    for s in 0..n {
-        out[s] = set_in(labels, s);
+    for (s, x) in out.iter_mut().enumerate() {
+        *x = set_in(labels, s);
     }
 }

@@ -32,7 +32,7 @@ use graph::format::PLAIN_VERSION;
 use graph::limits::{MAX_ACTIONS, MAX_EFFECTS};
 use graph::refusal::Refusal;
 use graph::view::View;
-use words::members::{lowest, others};
+use words::members::Members;
 use words::sets::{PROP_WIDTH, Props, Set, States, wide};
 use words::tables::ROW;
 
@@ -101,14 +101,12 @@ fn shared_by_members(file: &View<'_>, set: States) -> Shared
     ensures { (result.all ≡ meet_of file.now.counts.states set.0 (start_of file.now.bytes.now file.now.counts) (first prop_width))
         × (result.some ≡ join_of file.now.counts.states set.0 (start_of file.now.bytes.now file.now.counts)) }
 {
-    let mut left = set.0;
     let mut all = Props::first(PROP_WIDTH).0;
     let mut some = 0u32;
-    while 0 < left {
-        let x = file.start(lowest(left));
+    for s in Members(set.0) {
+        let x = file.start(s);
         all = all & x;
         some = some | x;
-        left = others(left);
     }
     Shared { all, some }
 }
@@ -150,11 +148,8 @@ fn move_members(set: States, course: u64, out: &mut [u32])
     requires { (set.0 < 2 ^ length out.old) × (length out.old ≤ state_width) }
     ensures { out.new ≡ sets_of (length out.old) (λ s. get_or out.old s 0) set.0 course }
 {
-    let mut left = set.0;
-    while 0 < left {
-        let s = lowest(left);
+    for s in Members(set.0) {
         out[s] = came(course, Props(out[s])).0;
-        left = others(left);
     }
 }
 
@@ -200,6 +195,8 @@ fn read_steps(file: &View<'_>, needs: &mut [u64], leave: &mut [u64], bring: &mut
         × (leave.new ≡ list_over file.now.counts.actions (leaves_of (actions_of file.now.bytes.now file.now.counts)))
         × (bring.new ≡ list_over file.now.counts.actions (brings_of (actions_of file.now.bytes.now file.now.counts))) }
 {
+    // Kept (point 3): the index is that of all three lists and of the action that is read; zipped, nothing is known of the lists, since no adapter of `iter_mut`
+    // says what they are after it.
     for a in 0..needs.len() {
         let del = Props(file.deleted(a));
         let add = Props(file.added(a));
@@ -265,7 +262,7 @@ fn run_rows(
     if went.made < task.list.len() {
         return Err(Refusal::Precondition(went.made));
     }
-    lay_labels(&rows.labels, task.file.counts.states, &mut *out);
+    lay_labels(&rows.labels, &mut out[..task.file.counts.states]);
     Ok(Ran {
         sets: task.file.counts.states,
         idle: went.idle,

@@ -51,6 +51,7 @@ pub struct Made {
 
 // Why a step that was tried on the word was not made: some state of the set lacks its precondition; or some of its effects may fire in a part of the set, which
 // the word does not tell (version 2).
+// Kept (point 1): it is the error in `Result<Made, Unmade>`; by an `Option<Made>` a step would not tell the two causes, of which `tried_on` and `TriedEvenly` speak.
 #[derive(Clone, Copy, PartialEq, Eq, Debug)]
 pub enum Unmade {
     Missing,

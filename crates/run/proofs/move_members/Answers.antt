@@ -1,4 +1,3 @@
-use borrow.Author.Rules.{rules}
 use Prim.Native.Nat.{◌<◌}
 use native.Mathlib.Omega.{arith}
 use lib.ListN.{length}
@@ -6,24 +5,52 @@ use Rattle.words.proofs.MemberLoops.{lowest_lt}
 use Rattle.run.specs.Course.{sets_of}
 use Rattle.run.proofs.Touches.{changes_more, changes_done}
 use Rattle.run.proofs.move_members.Goals as goal
-use Rattle.run.proofs.move_members.Goals.{After-lowest-s}
+use Rattle.run.proofs.move_members.Goals.{In-Some}
 
+<<<<<<< HEAD
 -- the lowest member that is left is the number of a set
 named : (c : After-lowest-s) → c.lowest-s.result < length c.loop-left.out
-named c =
-    let l = c.loop-left in
-    omega (arith, c.lowest-s.ensures, lowest_lt _ l.left l.invariant.few l.invariant.inside c.loop-left-test.true, l.invariant.long)
+=======
+pub loop-s-init : goal.loop-s-init
+loop-s-init c =
+    let p = c.requires in
+    rw c.into_iter-s-iterator.ensures.into_iter_gives (changes_none p.1 (omega arith) p.0)
 
-pub loop-left-preserved : goal.loop-left-preserved
-loop-left-preserved c =
-    changes_more c.loop-left.invariant (search rules) c.lowest-s.ensures c.came.ensures c.others-left.ensures.0
+-- the next member is the number of a set
+named : (c : In-Some) → c.in-Some.s < length c.loop-s.out
+>>>>>>> abb2ce2db9748f7159d4536ea2a05387b3288bab
+named c =
+    let t = c.in-Some.ensures.steps in let m = c.loop-s.invariant in
+    omega (arith, t.is, lowest_lt _ c.loop-s.s-iterator.0 m.few m.inside t.some, m.long)
+
+pub loop-s-preserved : goal.loop-s-preserved
+loop-s-preserved c =
+    let t = c.in-Some.ensures.steps in
+    changes_more c.loop-s.invariant t.some t.is c.came.ensures t.others
 
 pub returns : goal.returns
 unfolding sets_of
-returns c = changes_done c.loop-left.invariant (omega arith)
+returns c = changes_done c.loop-s.invariant (omega (arith, c.in-None.ensures.steps.0))
 
+<<<<<<< HEAD
+=======
+pub offset_bounds-out-s : goal.offset_bounds-out-s
+offset_bounds-out-s c = omega (arith, named (goal.at.offset_bounds-out-s c).In-Some)
+
+>>>>>>> abb2ce2db9748f7159d4536ea2a05387b3288bab
 pub bounds-out-s : goal.bounds-out-s
-bounds-out-s c = omega (arith, named (goal.at.bounds-out-s c).After-lowest-s)
+bounds-out-s c = omega (arith, named (goal.at.bounds-out-s c).In-Some)
 
+<<<<<<< HEAD
 pub bounds-out-s-in-loop-left : goal.bounds-out-s-in-loop-left
 bounds-out-s-in-loop-left c = omega (arith, named (goal.at.bounds-out-s-in-loop-left c).After-lowest-s)
+=======
+pub offset_bounds-out-s-in-loop-s : goal.offset_bounds-out-s-in-loop-s
+offset_bounds-out-s-in-loop-s c = omega (arith, named (goal.at.offset_bounds-out-s-in-loop-s c).In-Some)
+
+pub bounds-out-s-in-loop-s : goal.bounds-out-s-in-loop-s
+bounds-out-s-in-loop-s c = omega (arith, named (goal.at.bounds-out-s-in-loop-s c).In-Some)
+
+pub shape_of-out : goal.shape_of-out
+shape_of-out c = c.loop-s.invariant.long
+>>>>>>> abb2ce2db9748f7159d4536ea2a05387b3288bab

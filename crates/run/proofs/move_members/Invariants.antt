@@ -4,8 +4,6 @@ use Rattle.run.specs.Course.{came}
 use Rattle.run.proofs.Touches.{Changes}
 use Rattle.run.proofs.move_members.Given as goal
 
-abbrev pub invariant-loop-left : goal.invariant-loop-left
-invariant-loop-left l = Changes (λ j x. came l.course x) (length l.initial.out) l.initial.left l.initial.out l.left l.out
-
-abbrev pub decreases-loop-left : goal.decreases-loop-left
-decreases-loop-left l = l.left
+abbrev pub invariant-loop-s : goal.invariant-loop-s
+invariant-loop-s l =
+    Changes (λ j x. came l.course x) (length l.initial.out) l.fn.set.0 l.initial.out l.s-iterator.0 l.out

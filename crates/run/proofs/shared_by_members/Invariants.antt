@@ -3,8 +3,6 @@ use Rattle.graph.specs.Format.{start_of}
 use Rattle.run.proofs.Starts.{Sharing}
 use Rattle.run.proofs.shared_by_members.Given as goal
 
-abbrev pub invariant-loop-left : goal.invariant-loop-left
-invariant-loop-left l = Sharing (start_of l.file.bytes.now l.file.counts) l.file.counts.states l.initial.left l.left l.all l.some
-
-abbrev pub decreases-loop-left : goal.decreases-loop-left
-decreases-loop-left l = l.left
+abbrev pub invariant-loop-s : goal.invariant-loop-s
+invariant-loop-s l =
+    Sharing (start_of l.file.bytes.now l.file.counts) l.file.counts.states l.fn.set.0 l.s-iterator.0 l.all l.some

@@ -4,6 +4,3 @@ use Rattle.plan.proofs.descent.descend.Given as goal
 
 abbrev pub invariant-loop-t : goal.invariant-loop-t
 invariant-loop-t l = Falling l.effects.needs.now l.effects.owners.now l.effects.adders.now l.words l.initial.needed l.initial.plan l.needed l.plan l.live l.t
-
-abbrev pub decreases-loop-t : goal.decreases-loop-t
-decreases-loop-t l = l.t

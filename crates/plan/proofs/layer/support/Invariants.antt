@@ -2,14 +2,8 @@
 use Rattle.plan.proofs.Supports.{Laying, Seeking}
 use Rattle.plan.proofs.layer.support.Given as goal
 
-abbrev pub invariant-loop-by : goal.invariant-loop-by
-invariant-loop-by l = Seeking l.wanted l.live l.labels l.effects.needs.now l.effects.owners.now l.effects.adders.now l.p l.under l.s l.by
-
-abbrev pub decreases-loop-by : goal.decreases-loop-by
-decreases-loop-by l = l.by
+abbrev pub invariant-loop-e : goal.invariant-loop-e
+invariant-loop-e l = Seeking l.wanted l.live l.labels l.effects.needs.now l.effects.owners.now l.effects.adders.now l.p l.under l.s l.e-iterator.0
 
 abbrev pub invariant-props : goal.invariant-props
-invariant-props l = Laying l.wanted l.live l.labels l.effects.needs.now l.effects.owners.now l.effects.adders.now l.under l.s l.props
-
-abbrev pub decreases-props : goal.decreases-props
-decreases-props l = l.props
+invariant-props l = Laying l.wanted l.live l.labels l.effects.needs.now l.effects.owners.now l.effects.adders.now l.under l.s l.p-iterator.0

@@ -2,8 +2,5 @@
 use Rattle.run.proofs.Evens.{Foretelling}
 use Rattle.run.proofs.even.foretell.Given as goal
 
-abbrev pub invariant-loop-left : goal.invariant-loop-left
-invariant-loop-left l = Foretelling l.evens.when.now l.evens.goes.now l.by l.course l.left l.all
-
-abbrev pub decreases-loop-left : goal.decreases-loop-left
-decreases-loop-left l = l.left
+abbrev pub invariant-loop-e : goal.invariant-loop-e
+invariant-loop-e l = Foretelling l.evens.when.now l.evens.goes.now l.by l.course l.e-iterator.0 l.all

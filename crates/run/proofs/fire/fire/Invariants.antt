@@ -4,9 +4,6 @@ use Rattle.run.specs.Fire.{settled}
 use Rattle.graph.specs.Format.{actions_of}
 use Rattle.run.proofs.fire.fire.Given as goal
 
-abbrev pub invariant-loop-left : goal.invariant-loop-left
-invariant-loop-left l =
-    Firing (actions_of l.file.bytes.now l.file.counts) l.set.0 l.by (settled l.set.0 l.course l.labels) l.initial.fired l.left l.did l.fired
-
-abbrev pub decreases-loop-left : goal.decreases-loop-left
-decreases-loop-left l = l.left
+abbrev pub invariant-loop-e : goal.invariant-loop-e
+invariant-loop-e l =
+    Firing (actions_of l.file.bytes.now l.file.counts) l.set.0 l.by (settled l.set.0 l.course l.labels) l.initial.fired l.e-iterator.0 l.did l.fired

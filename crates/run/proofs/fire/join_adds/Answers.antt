@@ -8,24 +8,47 @@ use mathlib.Core.Path.{refl}
 use Prim.Native.Nat.{◌<◌}
 use native.Mathlib.Omega.{arith}
 use Rattle.run.proofs.fire.join_adds.Goals as goal
-use Rattle.run.proofs.fire.join_adds.Goals.{After-lowest-e}
+use Rattle.run.proofs.fire.join_adds.Goals.{In-Some}
 
+<<<<<<< HEAD
 -- the lowest effect that is left is one of the file's
 named : (c : After-lowest-e) → c.lowest-e.result < c.args.file.now.counts.effects
+=======
+pub loop-e-init : goal.loop-e-init
+loop-e-init c =
+    rw c.into_iter-e-iterator.ensures.into_iter_gives
+    (touches_none (λ x y. union x y) union_twice or_zero_r (omega (arith, c.args.file.now.taken.ranged.effects)) c.requires c.told-labels)
+
+-- the next effect is one of the file's
+named : (c : In-Some) → c.in-Some.e < c.args.file.now.counts.effects
+>>>>>>> abb2ce2db9748f7159d4536ea2a05387b3288bab
 named c =
-    omega (arith, c.lowest-e.ensures, lowest_lt _ c.loop-left.left c.loop-left.invariant.few c.loop-left.invariant.inside c.loop-left-test.true)
+    let t = c.in-Some.ensures.steps in
+    omega (arith, t.is, lowest_lt _ c.loop-e.e-iterator.0 c.loop-e.invariant.few c.loop-e.invariant.inside t.some)
 
 pub added-requires : goal.added-requires
-added-requires c = named (goal.at.added-requires c).After-lowest-e
+added-requires c = named (goal.at.added-requires c).In-Some
 
+<<<<<<< HEAD
 pub loop-left-preserved : goal.loop-left-preserved
 loop-left-preserved c =
     touches_more (λ x y. union x y) union_twice or_zero_r c.loop-left.invariant c.loop-left-test.true c.lowest-e.ensures
     c.added.ensures refl c.spread.ensures c.others-left.ensures.0
+=======
+pub spread-requires : goal.spread-requires
+spread-requires c = omega (arith, c.loop-e.invariant.long)
+
+pub bounds-fired-e : goal.bounds-fired-e
+bounds-fired-e c = omega (arith, named (goal.at.bounds-fired-e c).In-Some, c.args.file.now.taken.ranged.effects)
+
+pub loop-e-preserved : goal.loop-e-preserved
+loop-e-preserved c =
+    let t = c.in-Some.ensures.steps in
+    touches_more (λ x y. union x y) union_twice or_zero_r c.loop-e.invariant t.some t.is
+    c.added.ensures refl c.spread.ensures t.others
+>>>>>>> abb2ce2db9748f7159d4536ea2a05387b3288bab
 
 pub returns : goal.returns
 unfolding joined_by actions_of
-returns c = touches_done (λ x y. union x y) union_twice or_zero_r c.loop-left.invariant (omega arith)
-
-pub bounds-fired-e : goal.bounds-fired-e
-bounds-fired-e c = omega (arith, named (goal.at.bounds-fired-e c).After-lowest-e, c.args.file.now.taken.ranged.effects)
+returns c =
+    touches_done (λ x y. union x y) union_twice or_zero_r c.loop-e.invariant (omega (arith, c.in-None.ensures.steps.0))

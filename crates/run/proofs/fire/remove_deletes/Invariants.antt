@@ -4,9 +4,6 @@ use Rattle.graph.specs.Format.{actions_of}
 use Rattle.rules.specs.Word.{without}
 use Rattle.run.proofs.fire.remove_deletes.Given as goal
 
-abbrev pub invariant-loop-left : goal.invariant-loop-left
-invariant-loop-left l =
-    Touches (λ x y. without x y) without_twice without_none l.file.counts.effects (actions_of l.file.bytes.now l.file.counts).del l.by l.fired l.initial.labels l.left l.labels
-
-abbrev pub decreases-loop-left : goal.decreases-loop-left
-decreases-loop-left l = l.left
+abbrev pub invariant-loop-e : goal.invariant-loop-e
+invariant-loop-e l =
+    Touches (λ x y. without x y) without_twice without_none l.file.counts.effects (actions_of l.file.bytes.now l.file.counts).del l.by l.fired l.initial.labels l.e-iterator.0 l.labels
