@@ -8,8 +8,8 @@ use native.Mathlib.Decide.{dec_le}
 use native.Mathlib.Nat.{le_refl, zero-add, add_comm, add_assoc, suc-mul, zero-mul, mul-zero, one-mul, add-mul, mul-le-mul_right, add-sub_of_le}
 use native.Mathlib.Nat.{mod-lt, mod-eq_of_lt, mod-eq-sub-mod, mul-add-mod_self_right, div-add-mod', mul_assoc}
 use native.Mathlib.Omega.{arith}
-use lib.ListN.{length, get_or, take}
-use lib.Seq.{get_or-append-add}
+use lib.ListN.{length, get_or, take, drop, length-drop}
+use lib.Seq.{get_or-append-add, get_or-take, get_or-drop, length-take-le, drop-drop}
 use Rattle.rules.specs.declared.Shape.{Shape}
 use Rattle.rules.specs.Lists.{list_over, run_over}
 use Rattle.rules.specs.Domain.{Domain, shape_of}
@@ -21,7 +21,7 @@ use Rattle.rules.proofs.Layers.{run_append, list_append, length_list_over, get_d
 use Rattle.words.specs.Memory.{put_at}
 use Rattle.layers.specs.Step.{step_words}
 use Rattle.build.specs.Steps.{Ended, Left}
-use Rattle.words.proofs.Writes.{Lists, list_done, list_front, same_word, put_none, put_length, put_put, put_word, put_front}
+use Rattle.words.proofs.Writes.{Lists, list_all, list_done, list_front, same_word, put_none, put_length, put_put, put_word, put_front}
 use Rattle.build.proofs.Builds.{step_length}
 
 -- so many words written, and more behind them
@@ -33,11 +33,26 @@ put_on f to i m w₀ w room e =
     ∙ put_put to (list_over i f) w₀ (omega (arith, length_list_over i f)) more
     ∙ ap (λ (x : List ℕ). put_at to x w₀) (sym (list_append i m f))
 
--- the words that a loop wrote from the front on
-pub list_got : {f : ℕ → ℕ} {n i : ℕ} {w₀ w : List ℕ} → Lists f 0 n w₀ i w → n ≤ i → list_over n (λ k. get_or w k 0) ≡ list_over n f
-list_got {f} {n} {i} {w₀} {w} s h = list_over_eq (λ k l.
-    ap₂ (λ (x : List ℕ) (y : ℕ). get_or x y 0) (list_done s h) (sym (zero-add k))
-    ∙ put_word 0 (list_over n f) w₀ (omega (arith, length_list_over n f, s.room)) k (omega (arith, length_list_over n f)) ∙ get_d_list_over f l)
+-- words behind a place, copied from so far before it
+pub put_copied : (at far count : ℕ) (w : List ℕ) {p q x : List ℕ} → far ≤ at → count ≤ far → at + count ≤ length w → p ≡ take at w → q ≡ drop at w
+    → x ≡ take (at - far + count - (at - far)) (drop (at - far) p)
+    → p ++ (x ++ drop count q) ≡ put_at at (list_over count (λ i. get_or w (at + i - far) 0)) w
+unfolding put_at
+put_copied at far count w {p} {q} {x} near short room ep eq ex =
+    let from : ℕ = at - far in
+    let n : from + count - from ≡ count = omega arith in
+    let long : length (drop from p) ≡ far = omega (arith, length-drop from p, ap length ep, length-take-le at w (omega arith)) in
+    let ex' : x ≡ take count (drop from p) = ex ∙ ap (λ (k : ℕ). take k (drop from p)) n in
+    let length_x : length x ≡ count = ap length ex' ∙ length-take-le count (drop from p) (omega (arith, long)) in
+    let word : (i : ℕ) → i < count → get_or x i 0 ≡ get_or w (at + i - far) 0 = λ i h.
+    let place : from + i ≡ at + i - far = omega arith in
+    ap (λ (l : List ℕ). get_or l i 0) ex' ∙ get_or-take count (drop from p) i 0 h ∙ get_or-drop from p i 0
+    ∙ ap (λ (l : List ℕ). get_or l (from + i) 0) ep ∙ get_or-take at w (from + i) 0 (omega arith) ∙ ap (λ (k : ℕ). get_or w k 0) place in
+    let all : x ≡ list_over count (λ i. get_or w (at + i - far) 0) = sym (list_all x length_x) ∙ list_over_eq word in
+    let end : at + count ≡ at + length x = omega (arith, length_x) in
+    ap₂ (λ (a b : List ℕ). a ++ (x ++ drop count b)) ep eq
+    ∙ ap (λ (l : List ℕ). take at w ++ (x ++ l)) (drop-drop count at w ∙ ap (λ (k : ℕ). drop k w) end)
+    ∙ ap (λ (l : List ℕ). put_at at l w) all
 
 -- ---- a loop that writes the `far` words before `to` again and again
 

@@ -21,32 +21,18 @@ fn copy_on(words: &mut [u64], to: usize, stride: usize, count: usize)
     }
 }
 
-fn take_block(block: &mut [u64], words: &[u64], at: usize, stride: usize, count: usize)
-    requires { (count ≤ length block.old) × (0 < count → stride ≤ at) × (at + count ≤ length words.now) }
-    ensures { list_over count (λ i. get_or block.new i 0) ≡ list_over count (λ i. get_or words.now (at + i - stride) 0) }
-{
-    for i in 0..count {
-        block[i] = words[at + i - stride];
-    }
-}
-
-fn put_block(words: &mut [u64], at: usize, block: &[u64], count: usize)
-    requires { (count ≤ length block.now) × (at + count ≤ length words.old) }
-    ensures { words.new ≡ put_at at (list_over count (λ i. get_or block.now i 0)) words.old }
-{
-    for i in 0..count {
-        words[at + i] = block[i];
-    }
-}
-
-// Words copied from `stride` words before, all read before one is written: the compiler makes one move of it, and the block is never made.
+// Words copied from `stride` words before, none of which is written.
 fn move_block(words: &mut [u64], at: usize, stride: usize, count: usize)
-    requires { (count ≤ block_length) × (0 < count → stride ≤ at) × (at + count ≤ length words.old) }
+    requires { (count ≤ stride) × (0 < count → stride ≤ at) × (at + count ≤ length words.old) }
     ensures { words.new ≡ put_at at (list_over count (λ i. get_or words.old (at + i - stride) 0)) words.old }
 {
-    let mut block = [0u64; APART];
-    take_block(&mut block[..], words, at, stride, count);
-    put_block(words, at, &block[..], count);
+    if count == 0 {
+        return;
+    }
+    let (before, after) = words.split_at_mut(at);
+    let from = at - stride;
+    let end = from + count;
+    after[..count].copy_from_slice(&before[from..end]);
 }
 
 // As `copy_on`, in blocks: no block reaches into the words that it is copied from.
@@ -62,23 +48,13 @@ fn copy_far(words: &mut [u64], to: usize, stride: usize, count: usize)
     move_block(words, to + done, stride, count - done);
 }
 
-// The smaller of two numbers.
-fn least(a: usize, b: usize) -> usize
-    ensures { result ≤ a }
-{
-    if a < b {
-        return a;
-    }
-    b
-}
-
 // The same: while few words are written, all of them are written again, so that a load need not wait for the store just before it.
 fn repeat(words: &mut [u64], to: usize, stride: usize, count: usize)
     requires { (0 < count → (0 < stride) × (stride ≤ to)) × (to + count ≤ length words.old) }
     ensures { words.new ≡ put_at to (list_over count (λ i. get_or words.old (to - stride + i % stride) 0)) words.old }
 {
     let mut done = 0;
-    while done + stride < least(count - done, APART) {
+    while done + stride < usize::min(count - done, APART) {
         copy_on(&mut *words, to + done, done + stride, done + stride);
         done += done + stride;
     }

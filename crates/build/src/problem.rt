@@ -68,8 +68,8 @@ fn count_interferers(interferers: &[u64]) -> usize
     ensures { result ≤ 64 * length interferers.now }
 {
     let mut count = 0;
-    for i in 0..interferers.len() {
-        count += u64::count_ones(interferers[i]) as usize;
+    for set in interferers {
+        count += set.count_ones() as usize;
     }
     count
 }

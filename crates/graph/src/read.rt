@@ -80,8 +80,8 @@ impl<'a> View<'a> {
         requires { self.now.counts.states ≤ length out.old }
         ensures { out.new ≡ put_at 0 (list_over self.now.counts.states (start_of self.now.bytes.now self.now.counts)) out.old }
     {
-        for s in 0..self.counts.states {
-            out[s] = self.start(s);
+        for (s, set) in out[..self.counts.states].iter_mut().enumerate() {
+            *set = self.start(s);
         }
     }
 

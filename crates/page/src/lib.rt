@@ -26,8 +26,8 @@ fn put_entries(layers: Layers<'_>, set: States, goals: &[u32], out: &mut [u16])
     ensures { out.new ≡ put_at 0 (list_over (length goals.now) (λ i. entry_in layers.entry.shape layers.entry.depth set.0 (get_or goals.now i 0) layers.entry.words.now)) out.old }
 {
     let mut memo = Memo::new(layers, set);
-    for i in 0..goals.len() {
-        out[i] = memo.entry(Props(goals[i]));
+    for (i, goal) in goals.iter().enumerate() {
+        out[i] = memo.entry(Props(*goal));
     }
 }
 

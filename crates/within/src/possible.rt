@@ -26,8 +26,8 @@ fn first_open(props: usize, sure: &[u32], possible: &[u32]) -> usize
     requires { (props ≤ prop_width) × (length possible.now ≡ length sure.now) }
     ensures { result ≡ R.first_open props (length sure.now) (R.set_of sure.now) possible.now }
 {
-    for s in 0..sure.len() {
-        if !encloses(props, Props(sure[s]), Props(possible[s])) {
+    for (s, set) in sure.iter().enumerate() {
+        if !encloses(props, Props(*set), Props(possible[s])) {
             return s;
         }
     }

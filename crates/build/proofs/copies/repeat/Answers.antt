@@ -6,7 +6,7 @@ use lib.ListN.{length}
 use Rattle.std.proofs.Common.{Fits, w64}
 use Rattle.build.proofs.Repeats.{again_none, again_more, again_done}
 use Rattle.build.proofs.copies.repeat.Goals as goal
-use Rattle.build.proofs.copies.repeat.Goals.{After-least, At-loop-done}
+use Rattle.build.proofs.copies.repeat.Goals.{After-min, At-loop-done}
 
 -- where a copy ends fits a word
 room : (c : At-loop-done) → Fits w64 (c.loop-done.done + c.args.stride)
@@ -33,13 +33,13 @@ pub overflow_add-done-in-loop-done-2 : goal.overflow_add-done-in-loop-done-2
 overflow_add-done-in-loop-done-2 c = omega (arith, room (goal.at.overflow_add-done-in-loop-done-2 c).At-loop-done)
 
 -- all words that are written fit again
-fits : (c : After-least) → let a = c.args in
-    c.loop-done.done + a.stride < c.least.result → c.loop-done.done + (c.loop-done.done + a.stride) < a.count
-fits c h = omega (arith, c.least.ensures, c.loop-done.invariant.within)
+fits : (c : After-min) → let a = c.args in
+    c.loop-done.done + a.stride < c.min.result → c.loop-done.done + (c.loop-done.done + a.stride) < a.count
+fits c h = omega (arith, c.min.ensures, c.loop-done.invariant.within)
 
 pub copy_on-requires : goal.copy_on-requires
 copy_on-requires c =
-    let more = fits (goal.at.copy_on-requires c).After-least c.loop-done-test.true in
+    let more = fits (goal.at.copy_on-requires c).After-min c.loop-done-test.true in
     let near = c.requires.0 (omega arith) in
     (λ _. (omega (arith, near), omega (arith, near)), omega (arith, c.loop-done.invariant.long))
 
@@ -47,16 +47,16 @@ pub overflow_add-done-in-loop-done-3 : goal.overflow_add-done-in-loop-done-3
 overflow_add-done-in-loop-done-3 c = omega (arith, room (goal.at.overflow_add-done-in-loop-done-3 c).At-loop-done)
 
 pub overflow_add-done-in-loop-done-4 : goal.overflow_add-done-in-loop-done-4
-overflow_add-done-in-loop-done-4 c = omega (arith, room (goal.at.overflow_add-done-in-loop-done-4 c).At-loop-done, fits (goal.at.overflow_add-done-in-loop-done-4 c).After-least c.loop-done-test.true)
+overflow_add-done-in-loop-done-4 c = omega (arith, room (goal.at.overflow_add-done-in-loop-done-4 c).At-loop-done, fits (goal.at.overflow_add-done-in-loop-done-4 c).After-min c.loop-done-test.true)
 
 pub loop-done-smaller : goal.loop-done-smaller
 loop-done-smaller c =
-    let more = fits (goal.at.loop-done-smaller c).After-least c.loop-done-test.true in
+    let more = fits (goal.at.loop-done-smaller c).After-min c.loop-done-test.true in
     omega (arith, c.requires.0 (omega arith))
 
 pub loop-done-preserved : goal.loop-done-preserved
 loop-done-preserved c =
-    again_more c.loop-done.invariant c.requires.0 c.requires.1 (fits (goal.at.loop-done-preserved c).After-least c.loop-done-test.true) c.copy_on.ensures
+    again_more c.loop-done.invariant c.requires.0 c.requires.1 (fits (goal.at.loop-done-preserved c).After-min c.loop-done-test.true) c.copy_on.ensures
 
 pub overflow_add-done-2 : goal.overflow_add-done-2
 overflow_add-done-2 c = omega (arith, room (goal.at.overflow_add-done-2 c).At-loop-done)

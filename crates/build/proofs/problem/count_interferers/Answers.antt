@@ -4,19 +4,16 @@ use lib.Count.{ones, ones-le}
 use lib.ListN.{get_or}
 use Rattle.words.specs.Width.{word_width}
 use Rattle.build.proofs.problem.count_interferers.Goals as goal
-use Rattle.build.proofs.problem.count_interferers.Goals.{After-shared_slice_known-1}
+use Rattle.build.proofs.problem.count_interferers.Goals.{In-loop-set}
 
-few : (c : After-shared_slice_known-1) → ones (get_or c.args.interferers.now c.loop-i.i 0) ≤ word_width
-few c = ones-le word_width _ (c.shared_slice_known-1.given c.loop-i.i).fits
-
-pub loop-i-init : goal.loop-i-init
-loop-i-init c = (omega arith, omega arith)
-
-pub overflow_cast-count : goal.overflow_cast-count
-overflow_cast-count c = omega (arith, few (goal.at.overflow_cast-count c).After-shared_slice_known-1)
+few : (c : In-loop-set) → ones (get_or c.args.interferers.now c.loop-set.set-index 0) ≤ word_width
+few c = ones-le word_width _ (c.type_inv.interferers c.loop-set.set-index).fits
 
 pub overflow_add-count : goal.overflow_add-count
-overflow_add-count c = omega (arith, few (goal.at.overflow_add-count c).After-shared_slice_known-1)
+overflow_add-count c = omega (arith, c.loop-set.invariant, few (goal.at.overflow_add-count c).In-loop-set)
 
-pub loop-i-preserved : goal.loop-i-preserved
-loop-i-preserved c = (omega arith, omega (arith, few (goal.at.loop-i-preserved c).After-shared_slice_known-1))
+pub loop-set-preserved : goal.loop-set-preserved
+loop-set-preserved c = omega (arith, c.loop-set.invariant, few (goal.at.loop-set-preserved c).In-loop-set)
+
+pub returns : goal.returns
+returns c = omega (arith, c.loop-set.invariant)
