@@ -3,14 +3,10 @@ use native.Mathlib.Omega.{arith}
 use lib.ListN.{length}
 use Rattle.words.proofs.MemberLoops.{lowest_lt}
 use Rattle.run.specs.Course.{sets_of}
-use Rattle.run.proofs.Touches.{changes_more, changes_done}
+use Rattle.run.proofs.Touches.{changes_none, changes_more, changes_done}
 use Rattle.run.proofs.move_members.Goals as goal
 use Rattle.run.proofs.move_members.Goals.{In-Some}
 
-<<<<<<< HEAD
--- the lowest member that is left is the number of a set
-named : (c : After-lowest-s) → c.lowest-s.result < length c.loop-left.out
-=======
 pub loop-s-init : goal.loop-s-init
 loop-s-init c =
     let p = c.requires in
@@ -18,7 +14,6 @@ loop-s-init c =
 
 -- the next member is the number of a set
 named : (c : In-Some) → c.in-Some.s < length c.loop-s.out
->>>>>>> abb2ce2db9748f7159d4536ea2a05387b3288bab
 named c =
     let t = c.in-Some.ensures.steps in let m = c.loop-s.invariant in
     omega (arith, t.is, lowest_lt _ c.loop-s.s-iterator.0 m.few m.inside t.some, m.long)
@@ -32,19 +27,12 @@ pub returns : goal.returns
 unfolding sets_of
 returns c = changes_done c.loop-s.invariant (omega (arith, c.in-None.ensures.steps.0))
 
-<<<<<<< HEAD
-=======
 pub offset_bounds-out-s : goal.offset_bounds-out-s
 offset_bounds-out-s c = omega (arith, named (goal.at.offset_bounds-out-s c).In-Some)
 
->>>>>>> abb2ce2db9748f7159d4536ea2a05387b3288bab
 pub bounds-out-s : goal.bounds-out-s
 bounds-out-s c = omega (arith, named (goal.at.bounds-out-s c).In-Some)
 
-<<<<<<< HEAD
-pub bounds-out-s-in-loop-left : goal.bounds-out-s-in-loop-left
-bounds-out-s-in-loop-left c = omega (arith, named (goal.at.bounds-out-s-in-loop-left c).After-lowest-s)
-=======
 pub offset_bounds-out-s-in-loop-s : goal.offset_bounds-out-s-in-loop-s
 offset_bounds-out-s-in-loop-s c = omega (arith, named (goal.at.offset_bounds-out-s-in-loop-s c).In-Some)
 
@@ -53,4 +41,3 @@ bounds-out-s-in-loop-s c = omega (arith, named (goal.at.bounds-out-s-in-loop-s c
 
 pub shape_of-out : goal.shape_of-out
 shape_of-out c = c.loop-s.invariant.long
->>>>>>> abb2ce2db9748f7159d4536ea2a05387b3288bab

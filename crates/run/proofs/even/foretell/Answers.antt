@@ -7,14 +7,6 @@ use Rattle.run.proofs.Evens.{foretell_none, foretell_lt, foretell_part, foretell
 use Rattle.run.proofs.even.foretell.Goals as goal
 use Rattle.run.proofs.even.foretell.Goals.{In-Some}
 
-<<<<<<< HEAD
--- the lowest effect that is left has its words in both lists
-named : (c : After-lowest-e) → c.lowest-e.result < length c.args.evens.now.when.now
-named c = foretell_lt c.loop-left.invariant c.loop-left-test.true c.lowest-e.ensures
-
-pub loop-left-init : goal.loop-left-init
-loop-left-init c = foretell_none c.args.evens.now.fit.few c.requires
-=======
 pub loop-e-init : goal.loop-e-init
 loop-e-init c = rw c.into_iter-e-iterator.ensures.into_iter_gives (foretell_none c.args.evens.now.fit.few c.requires)
 
@@ -27,32 +19,12 @@ offset_bounds-evens-e c = omega (arith, named (goal.at.offset_bounds-evens-e c).
 
 pub bounds-evens-e : goal.bounds-evens-e
 bounds-evens-e c = named (goal.at.bounds-evens-e c).In-Some
->>>>>>> abb2ce2db9748f7159d4536ea2a05387b3288bab
 
 pub returns-then-untold : goal.returns-then-untold
 returns-then-untold c =
     foretell_part c.loop-e.invariant c.in-Some.ensures.steps.some c.in-Some.ensures.steps.is
     (sym c.untold.ensures ∙ c.if-untold.true)
 
-<<<<<<< HEAD
-pub loop-left-preserved : goal.loop-left-preserved
-loop-left-preserved c =
-    foretell_more c.loop-left.invariant c.loop-left-test.true c.lowest-e.ensures
-    (is_fails (sym c.untold.ensures ∙ c.if-untold.false)) c.gone_by-all.ensures c.others-left.ensures.0
-
-pub returns : goal.returns
-returns c = foretell_done c.loop-left.invariant (omega (arith, c.loop-left-test.false))
-
-pub bounds-evens-e : goal.bounds-evens-e
-bounds-evens-e c = named (goal.at.bounds-evens-e c).After-lowest-e
-
-pub bounds-evens-e-in-loop-left : goal.bounds-evens-e-in-loop-left
-bounds-evens-e-in-loop-left c = named (goal.at.bounds-evens-e-in-loop-left c).After-lowest-e
-
-pub bounds-evens-e-in-loop-left-2 : goal.bounds-evens-e-in-loop-left-2
-bounds-evens-e-in-loop-left-2 c =
-    omega (arith, named (goal.at.bounds-evens-e-in-loop-left-2 c).After-lowest-e, c.args.evens.now.fit.as_goes)
-=======
 pub offset_bounds-evens-e-in-loop-e : goal.offset_bounds-evens-e-in-loop-e
 offset_bounds-evens-e-in-loop-e c = omega (arith, named (goal.at.offset_bounds-evens-e-in-loop-e c).In-Some, c.loop-e.invariant.few)
 
@@ -73,4 +45,3 @@ loop-e-preserved c =
 
 pub returns : goal.returns
 returns c = foretell_done c.loop-e.invariant (omega (arith, c.in-None.ensures.steps.0))
->>>>>>> abb2ce2db9748f7159d4536ea2a05387b3288bab

@@ -12,10 +12,6 @@ use native.Mathlib.Omega.{arith}
 use Rattle.run.proofs.fire.fire.Goals as goal
 use Rattle.run.proofs.fire.fire.Goals.{In-Some}
 
-<<<<<<< HEAD
--- the lowest effect that is left is one of the file's
-named : (c : After-lowest-e) → c.lowest-e.result < c.args.file.now.counts.effects
-=======
 pub loop-e-init : goal.loop-e-init
 unfolding actions_of
 loop-e-init c = let p = c.requires in
@@ -24,23 +20,15 @@ loop-e-init c = let p = c.requires in
 
 -- the next effect is one of the file's
 named : (c : In-Some) → c.in-Some.e < c.args.file.now.counts.effects
->>>>>>> abb2ce2db9748f7159d4536ea2a05387b3288bab
 unfolding actions_of
 named c =
     let m = c.loop-e.invariant.changes in
     let t = c.in-Some.ensures.steps in
     omega (arith, t.is, lowest_lt _ c.loop-e.e-iterator.0 m.few m.inside t.some)
 
-pub loop-left-init : goal.loop-left-init
-unfolding actions_of
-loop-left-init c = let p = c.requires in
-    firing_none (omega (arith, c.args.file.now.taken.ranged.effects)) (omega (arith, c.args.file.now.taken.ranged.effects, c.told-fired)) p.0
-
 pub antecedent-requires : goal.antecedent-requires
 antecedent-requires c = named (goal.at.antecedent-requires c).In-Some
 
-<<<<<<< HEAD
-=======
 pub firing-t-requires : goal.firing-t-requires
 firing-t-requires c = c.requires.1
 
@@ -52,15 +40,10 @@ pub bounds-fired-e : goal.bounds-fired-e
 unfolding actions_of
 bounds-fired-e c = let m = c.loop-e.invariant.changes in omega (arith, named (goal.at.bounds-fired-e c).In-Some, m.room, m.long)
 
->>>>>>> abb2ce2db9748f7159d4536ea2a05387b3288bab
 pub with_effect-did-requires : goal.with_effect-did-requires
 with_effect-did-requires c = named (goal.at.with_effect-did-requires c).In-Some
 
-<<<<<<< HEAD
-pub loop-left-preserved : goal.loop-left-preserved
-=======
 pub loop-e-preserved : goal.loop-e-preserved
->>>>>>> abb2ce2db9748f7159d4536ea2a05387b3288bab
 unfolding fired_in
 loop-e-preserved c =
     let a = c.args in
@@ -82,7 +65,3 @@ returns c =
       changes_done m.changes (omega (arith, c.in-None.ensures.steps.0))
           ∙ ap (λ (n : ℕ). list_over n (λ e. choose (bit e a.by) (fired_in A a.set.0 now e) (get_or a.fired.now e 0))) c.told-fired,
     )
-
-pub bounds-fired-e : goal.bounds-fired-e
-unfolding actions_of
-bounds-fired-e c = let m = c.loop-left.invariant.changes in omega (arith, named (goal.at.bounds-fired-e c).After-lowest-e, m.room, m.long)

@@ -1,4 +1,4 @@
-use Rattle.run.proofs.Touches.{touches_more, touches_done, union_twice}
+use Rattle.run.proofs.Touches.{touches_none, touches_more, touches_done, union_twice}
 use Rattle.run.specs.Fire.{joined_by}
 use lib.Bits.{or_zero_r}
 use Rattle.graph.specs.Format.{actions_of}
@@ -10,10 +10,6 @@ use native.Mathlib.Omega.{arith}
 use Rattle.run.proofs.fire.join_adds.Goals as goal
 use Rattle.run.proofs.fire.join_adds.Goals.{In-Some}
 
-<<<<<<< HEAD
--- the lowest effect that is left is one of the file's
-named : (c : After-lowest-e) → c.lowest-e.result < c.args.file.now.counts.effects
-=======
 pub loop-e-init : goal.loop-e-init
 loop-e-init c =
     rw c.into_iter-e-iterator.ensures.into_iter_gives
@@ -21,7 +17,6 @@ loop-e-init c =
 
 -- the next effect is one of the file's
 named : (c : In-Some) → c.in-Some.e < c.args.file.now.counts.effects
->>>>>>> abb2ce2db9748f7159d4536ea2a05387b3288bab
 named c =
     let t = c.in-Some.ensures.steps in
     omega (arith, t.is, lowest_lt _ c.loop-e.e-iterator.0 c.loop-e.invariant.few c.loop-e.invariant.inside t.some)
@@ -29,12 +24,6 @@ named c =
 pub added-requires : goal.added-requires
 added-requires c = named (goal.at.added-requires c).In-Some
 
-<<<<<<< HEAD
-pub loop-left-preserved : goal.loop-left-preserved
-loop-left-preserved c =
-    touches_more (λ x y. union x y) union_twice or_zero_r c.loop-left.invariant c.loop-left-test.true c.lowest-e.ensures
-    c.added.ensures refl c.spread.ensures c.others-left.ensures.0
-=======
 pub spread-requires : goal.spread-requires
 spread-requires c = omega (arith, c.loop-e.invariant.long)
 
@@ -46,7 +35,6 @@ loop-e-preserved c =
     let t = c.in-Some.ensures.steps in
     touches_more (λ x y. union x y) union_twice or_zero_r c.loop-e.invariant t.some t.is
     c.added.ensures refl c.spread.ensures t.others
->>>>>>> abb2ce2db9748f7159d4536ea2a05387b3288bab
 
 pub returns : goal.returns
 unfolding joined_by actions_of

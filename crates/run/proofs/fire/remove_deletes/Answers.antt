@@ -1,4 +1,4 @@
-use Rattle.run.proofs.Touches.{touches_more, touches_done, without_twice, without_none}
+use Rattle.run.proofs.Touches.{touches_none, touches_more, touches_done, without_twice, without_none}
 use Rattle.run.specs.Fire.{removed_by}
 use Rattle.graph.specs.Format.{actions_of}
 use Rattle.words.proofs.MemberLoops.{lowest_lt}
@@ -9,10 +9,6 @@ use native.Mathlib.Omega.{arith}
 use Rattle.run.proofs.fire.remove_deletes.Goals as goal
 use Rattle.run.proofs.fire.remove_deletes.Goals.{In-Some}
 
-<<<<<<< HEAD
--- the lowest effect that is left is one of the file's
-named : (c : After-lowest-e) → c.lowest-e.result < c.args.file.now.counts.effects
-=======
 pub loop-e-init : goal.loop-e-init
 loop-e-init c =
     rw c.into_iter-e-iterator.ensures.into_iter_gives
@@ -20,7 +16,6 @@ loop-e-init c =
 
 -- the next effect is one of the file's
 named : (c : In-Some) → c.in-Some.e < c.args.file.now.counts.effects
->>>>>>> abb2ce2db9748f7159d4536ea2a05387b3288bab
 named c =
     let t = c.in-Some.ensures.steps in
     omega (arith, t.is, lowest_lt _ c.loop-e.e-iterator.0 c.loop-e.invariant.few c.loop-e.invariant.inside t.some)
@@ -28,12 +23,6 @@ named c =
 pub deleted-requires : goal.deleted-requires
 deleted-requires c = named (goal.at.deleted-requires c).In-Some
 
-<<<<<<< HEAD
-pub loop-left-preserved : goal.loop-left-preserved
-loop-left-preserved c =
-    touches_more (λ x y. without x y) without_twice without_none c.loop-left.invariant c.loop-left-test.true c.lowest-e.ensures
-    c.deleted.ensures refl c.strip.ensures c.others-left.ensures.0
-=======
 pub strip-requires : goal.strip-requires
 strip-requires c = omega (arith, c.loop-e.invariant.long)
 
@@ -45,7 +34,6 @@ loop-e-preserved c =
     let t = c.in-Some.ensures.steps in
     touches_more (λ x y. without x y) without_twice without_none c.loop-e.invariant t.some t.is
     c.deleted.ensures refl c.strip.ensures t.others
->>>>>>> abb2ce2db9748f7159d4536ea2a05387b3288bab
 
 pub returns : goal.returns
 unfolding removed_by actions_of

@@ -9,12 +9,6 @@ use native.Mathlib.Omega.{arith}
 use Rattle.run.proofs.fire.strip.Goals as goal
 use Rattle.run.proofs.fire.strip.Goals.{In-Some}
 
--- the lowest member that is left is the number of a word
-named : (c : After-lowest-q) → c.lowest-q.result < length c.loop-left.row
-named c =
-    let l = c.loop-left in
-    omega (arith, c.lowest-q.ensures, lowest_lt _ l.left l.invariant.few l.invariant.inside c.loop-left-test.true, l.invariant.long)
-
 pub returns-then-t-eq0 : goal.returns-then-t-eq0
 returns-then-t-eq0 c = strip_nothing _ _ _ c.if-t-eq0.true
 
@@ -24,27 +18,6 @@ loop-q-init c =
     rw (c.into_iter-q-iterator.ensures.into_iter_gives, e)
     (changes_none (omega (arith, c.requires)) (omega arith) (cut_lt _ c.args.set.0 _ refl))
 
-<<<<<<< HEAD
-pub loop-left-preserved : goal.loop-left-preserved
-loop-left-preserved c =
-    changes_more c.loop-left.invariant (search rules) c.lowest-q.ensures refl c.others-left.ensures.0
-
-pub returns : goal.returns
-returns c = let a = c.args in
-    changes_done c.loop-left.invariant (omega arith)
-    ∙ strip_cut a.t a.set.0 _ a.row.now
-    (c.wide-left.ensures ∙ c.common.ensures
-    ∙ ap (λ (x : ℕ). common x a.set.0) c.first.ensures)
-
-pub bounds-row-q : goal.bounds-row-q
-bounds-row-q c = omega (arith, named (goal.at.bounds-row-q c).After-lowest-q)
-
-pub bounds-row-q-in-loop-left : goal.bounds-row-q-in-loop-left
-bounds-row-q-in-loop-left c = omega (arith, named (goal.at.bounds-row-q-in-loop-left c).After-lowest-q)
-
-pub bounds-row-q-in-loop-left-2 : goal.bounds-row-q-in-loop-left-2
-bounds-row-q-in-loop-left-2 c = omega (arith, named (goal.at.bounds-row-q-in-loop-left-2 c).After-lowest-q)
-=======
 -- the next member is the number of a word
 named : (c : In-Some) → c.in-Some.q < length c.loop-q.row
 named c =
@@ -81,4 +54,3 @@ pub returns : goal.returns
 returns c = let a = c.args in
     changes_done c.loop-q.invariant (omega (arith, c.in-None.ensures.steps.0))
     ∙ strip_cut a.t a.set.0 _ a.row.now refl
->>>>>>> abb2ce2db9748f7159d4536ea2a05387b3288bab
