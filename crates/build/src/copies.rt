@@ -12,6 +12,9 @@ use rules::Shape;
 const APART: usize = 1024;
 
 // Writes the `stride` words before `to` again and again, `count` words in all: one flat loop, which copies what it wrote itself.
+// Kept (point 3): the loop reads words that it wrote itself, so that no iterator over them and no `copy_from_slice` can be it.
+// Kept (point 6): as above: one slice, since the words that are read and those that are written are the same.
+// Kept (point 5): here and below: the words are lent to each call by themselves; a struct of them, the place and the count would be made anew for each block.
 fn copy_on(words: &mut [u64], to: usize, stride: usize, count: usize)
     requires { (0 < count → (0 < stride) × (stride ≤ to)) × (to + count ≤ length words.old) }
     ensures { words.new ≡ put_at to (list_over count (λ i. get_or words.old (to - stride + i % stride) 0)) words.old }
@@ -22,6 +25,7 @@ fn copy_on(words: &mut [u64], to: usize, stride: usize, count: usize)
 }
 
 // Words copied from `stride` words before, none of which is written.
+// Kept (point 6): the words before `at` are read and those from there on written: one slice, cut in two here.
 fn move_block(words: &mut [u64], at: usize, stride: usize, count: usize)
     requires { (count ≤ stride) × (0 < count → stride ≤ at) × (at + count ≤ length words.old) }
     ensures { words.new ≡ put_at at (list_over count (λ i. get_or words.old (at + i - stride) 0)) words.old }
@@ -36,6 +40,8 @@ fn move_block(words: &mut [u64], at: usize, stride: usize, count: usize)
 }
 
 // As `copy_on`, in blocks: no block reaches into the words that it is copied from.
+// Kept (point 3): `done` goes on by a block, and the last block is shorter.
+// Kept (point 6): as `move_block`.
 fn copy_far(words: &mut [u64], to: usize, stride: usize, count: usize)
     requires { (block_length ≤ stride) × (0 < count → stride ≤ to) × (to + count ≤ length words.old) }
     ensures { words.new ≡ put_at to (list_over count (λ i. get_or words.old (to - stride + i % stride) 0)) words.old }
@@ -49,6 +55,8 @@ fn copy_far(words: &mut [u64], to: usize, stride: usize, count: usize)
 }
 
 // The same: while few words are written, all of them are written again, so that a load need not wait for the store just before it.
+// Kept (point 3): `done` goes on by all that is written so far.
+// Kept (point 6): as `move_block`.
 fn repeat(words: &mut [u64], to: usize, stride: usize, count: usize)
     requires { (0 < count → (0 < stride) × (stride ≤ to)) × (to + count ≤ length words.old) }
     ensures { words.new ≡ put_at to (list_over count (λ i. get_or words.old (to - stride + i % stride) 0)) words.old }

@@ -16,6 +16,8 @@ use words::tables::ROW;
 const PAIRS: usize = 9;
 
 // The sets of all effects and the actions that own them, into four lists.
+// Kept (point 3): `for (((need, add), del), owner) in needs.iter_mut().zip(adds).zip(dels).zip(owners)` needs the number i as well, which the file is asked by, and a pair more for it.
+// Kept (point 5): as `read_problem` says.
 fn read_effects(
     file: &View<'_>,
     needs: &mut [u32],

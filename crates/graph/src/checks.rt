@@ -47,6 +47,7 @@ pub fn check_goal(props: usize, goal: Props) -> Result<(), Refusal>
 }
 
 // Cause 9.
+// Kept (point 2): one function for this and `check_output` would take the cause, `Refusal::Memory` or `Refusal::Output`, as a closure, and its contract say what the refusal of that number is; the two, with a clause each by memory_rule and output_rule, would call it.
 pub fn check_memory(wanted: usize, have: usize) -> Result<(), Refusal>
     ensures { verdict result ≡ C.memory_rule wanted have }
 {
@@ -67,6 +68,7 @@ pub fn check_output(wanted: usize, have: usize) -> Result<(), Refusal>
 }
 
 // Causes 7 and 8, for a call that takes a set of states and a goal.
+// Kept (point 5): Ranged, as in `format`.
 pub fn check_asked(c: Counts, set: States, goal: Props) -> Result<(), Refusal>
     requires { Ranged c }
     ensures { verdict result ≡ C.asked_rule c set.0 goal.0 }

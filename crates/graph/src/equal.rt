@@ -93,6 +93,7 @@ impl<'a> Plain<'a> {
     }
 
     // The first action after b and before the end that equals b, and the end where there is none.
+    // Kept (point 1): the clause speaks of the number by the definition After; the next call takes it as its end, so that `first = self.equal_after(b, first)` needs no `if let`.
     fn equal_after(&self, b: usize, end: usize) -> usize
         requires { (b < self.now.counts.actions) × (end ≤ self.now.counts.actions) }
         ensures { After (actions_of self.now.bytes.now self.now.counts) b end result }
@@ -108,6 +109,7 @@ impl<'a> Plain<'a> {
     }
 
     // Whether an action equals an earlier one: of those with its mark the last is given, and each leads to the one before it.
+    // Kept (point 3): a chain of places in `befores`, as `std::iter::successors(first, |b| ..).any(..)`: a second closure and its Option in place of one number that falls, and the clause Chained would speak of both.
     fn equals_earlier(&self, befores: &[u8], last: usize, a: usize) -> bool
         requires { (a < self.now.counts.actions) × Chained (actions_of self.now.bytes.now self.now.counts) a befores.now
             × Last (actions_of self.now.bytes.now self.now.counts) a (mark_of (actions_of self.now.bytes.now self.now.counts) a) last }
@@ -126,6 +128,8 @@ impl<'a> Plain<'a> {
     }
 
     // The first action that equals an earlier one, and the number of actions where there is none. Each is put before those with its mark.
+    // Kept (point 1): the clause equates it with the definition first_equal, which has the number of actions where none equals an earlier one; so are those of the three functions below.
+    // Kept (point 3): `befores` is read from all places in the same pass, so that no iterator can hold it while `befores[a]` is written.
     fn first_marked(&self, lasts: &mut [u8], befores: &mut [u8]) -> usize
         requires { Marked (actions_of self.now.bytes.now self.now.counts) 0 lasts.old × Chained (actions_of self.now.bytes.now self.now.counts) 0 befores.old }
         ensures { result ≡ first_equal (actions_of self.now.bytes.now self.now.counts) }

@@ -19,6 +19,7 @@ use crate::refusal::Refusal;
 use crate::view::View;
 use words::sets::{PROP_WIDTH, Props, STATE_WIDTH, Set};
 
+// Kept (point 6): the format gives places in the file, and no slice of one set: the place is what differs from call to call.
 pub fn byte(file: &[u8], at: usize) -> usize
     requires { at < length file.now }
     ensures { (result ≡ get_or file.now at 0) × (result < 256) }
@@ -27,6 +28,7 @@ pub fn byte(file: &[u8], at: usize) -> usize
 }
 
 // The set of propositions at an offset.
+// Kept (point 6): as `byte`; with a place the four bytes are a sum of `byte`, which the clause is, too.
 pub(crate) fn set_at(file: &[u8], at: usize) -> u32
     requires { at + F.set_bytes ≤ length file.now }
     ensures { result ≡ F.set_at file.now at }
@@ -38,6 +40,7 @@ pub(crate) fn set_at(file: &[u8], at: usize) -> u32
 }
 
 // Whether the letters SAG stand first.
+// Kept (point 5): here and below: `check_head` calls this and `version` in the midst of finding it out, so that a type of files with a head would be made there, and once more behind it.
 fn letters(file: &[u8]) -> bool
     requires { F.head_bytes ≤ length file.now }
     ensures { result ≡ F.letters file.now }
@@ -63,6 +66,7 @@ fn version(file: &[u8]) -> usize
 }
 
 // Where the number of effects stands: in version 1 it is that of the actions.
+// Kept (point 2): this and `head_of` are a choice by another version each; one function, `choose(version == PLAIN_VERSION, ACTIONS_OFFSET, EFFECTS_OFFSET)`, would be `if` by another name.
 fn effects_offset(version: usize) -> usize
     ensures { result ≡ F.effects_place version }
 {
@@ -154,6 +158,7 @@ fn check_counts(c: Counts) -> Result<(), Refusal>
 }
 
 // Cause 4.
+// Kept (point 5): Ranged, as in `format`: `Whole` and `View` have it, and are made by what this checks.
 fn check_length(file: &[u8], c: Counts) -> Result<(), Refusal>
     requires { Ranged c }
     ensures { verdict result ≡ R.length_rule file.now c }
@@ -166,6 +171,7 @@ fn check_length(file: &[u8], c: Counts) -> Result<(), Refusal>
 }
 
 // What is in some of so many sets that lie one behind the other. No way leads out of the loop, so that it takes many sets at a time.
+// Kept (point 6): a slice `&file[at..]` with `chunks_exact(4)` would give the same sets, but the clause, as the paper, speaks of places in the file.
 fn joined_sets(file: &[u8], at: usize, count: usize) -> u32
     requires { (at ≤ 1000) × (count ≤ 160) × (at + F.set_bytes * count ≤ length file.now) }
     ensures { result ≡ join_over count (λ i. F.set_at file.now (at + F.set_bytes * i)) }
@@ -196,6 +202,7 @@ pub(crate) struct Whole<'a> {
 
 impl<'a> Whole<'a> {
     // Version 2: what is in some set of an effect.
+    // Kept (point 5): here and below: a type of whole files of version 2 would hold a `Whole` and take these five methods, each field by one name more; that the version is 2 is what one `if` has just shown.
     fn joined_effects(&self) -> u32
         requires { So (fails (F.plain self.now.counts)) }
         ensures { result ≡ join_over self.now.counts.effects (λ e. join_over 3 (λ i. F.set_at self.now.bytes.now (F.when_at self.now.counts e + F.set_bytes * i))) }

@@ -52,6 +52,7 @@ pub(crate) fn action_at(a: usize) -> usize
 
 impl Counts {
     // Version 2: where effect e lies, and its antecedent.
+    // Kept (point 5): here and below: the counts are read before they are known to be in their ranges, and `counts_in`, which the theorems name, makes them; so the fact can't be in the type `Counts`.
     pub(crate) fn effect_at(self, e: usize) -> usize
         requires { Ranged self × (e ≤ max_effects) }
         ensures { result ≡ F.effect_at self e }

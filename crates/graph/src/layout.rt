@@ -15,6 +15,7 @@ pub fn layer_size(n: usize) -> usize
 }
 
 // From a proposition layer to the next one.
+// Kept (point 5): here and below: the definitions of `rules` speak of shapes of any size, so that the bound can't be in the type `Shape`, which they take.
 pub fn stride(s: Shape) -> usize
     requires { Small s }
     ensures { (result ≡ L.stride s) × (result ≤ 2 * max_layer) }

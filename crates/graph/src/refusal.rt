@@ -29,6 +29,7 @@ pub enum Refusal {
 }
 
 impl Refusal {
+    // Kept (point 4): variants that hold a place have no `as usize`, and the numbers are the paper's, each by the definition number_of.
     pub fn number(self) -> usize
         ensures { result ≡ number_of self }
     {
@@ -54,6 +55,7 @@ impl Refusal {
         }
     }
 
+    // Kept (point 4): which place a cause tells is the paper's, each by the definition place_of: there is no one type to convert to.
     pub fn place(self) -> usize
         ensures { result ≡ place_of self }
     {

@@ -10,6 +10,7 @@ use words::members::Members;
 use words::sets::{Props, Set, States};
 
 // The first goal whose label lacks a state of the set, and n where none does.
+// Kept (point 1): the clause speaks of the number by the definition Found, in which n stands for none.
 fn lacking(layer: &[u64], n: usize, set: States, goal: Props) -> usize
     requires { (n ≤ prop_width) × (n ≤ length layer.now) × (goal.0 < 2 ^ n) }
     ensures { Found (label_meets layer.now set.0) n goal.0 result }
@@ -23,6 +24,7 @@ fn lacking(layer: &[u64], n: usize, set: States, goal: Props) -> usize
 }
 
 // The first of these above p whose mutex word with p meets a state of the set, and n where none does.
+// Kept (point 1): as `lacking`.
 fn clashing(layer: &[u64], n: usize, set: States, p: usize, above: u64) -> usize
     requires { (n ≤ prop_width) × (size n ≤ length layer.now) × (above < 2 ^ n) × Above p above }
     ensures { Found (pair_meets n layer.now set.0 p) n above result }
@@ -37,6 +39,8 @@ fn clashing(layer: &[u64], n: usize, set: States, p: usize, above: u64) -> usize
 }
 
 // The place of such a mutex word of two goals, where the labels meet the goal; the layer's size where there is none. Each goal goes with those above it.
+// Kept (point 1): the clause speaks of the place by the definition Judged, in which the layer's size stands for none: `failing` and `failing_at` hand it on.
+// Kept (point 3): a `for` would hold the iterator, whose members that are left are what each goal goes with.
 fn clash(layer: &[u64], n: usize, set: States, goal: Props) -> usize
     requires { (n ≤ prop_width) × (length layer.now ≡ size n) × (goal.0 < 2 ^ n) × So (all_of n goal.0 (label_meets layer.now set.0)) }
     ensures { Judged n layer.now set.0 goal.0 result }

@@ -47,6 +47,7 @@ pub struct Layers<'a> {
 
 impl<'a> Layers<'a> {
     // Causes 6 to 9, or the layers: `asked` is what was found of the set and the goal, `Ok` for a call that takes neither.
+    // Kept (point 5): Ranged, as in `graph::format`.
     pub fn lent(
         c: Counts,
         depth: usize,
@@ -85,6 +86,8 @@ impl<'a> Layers<'a> {
     }
 
     // The first layer from this one on whose word at the place shows that, and depth + 1 where none does: one word a layer is read.
+    // Kept (point 1): the clause speaks of the layer by the definition PassedOver, in which depth + 1 stands for none.
+    // Kept (point 3): `self.words[from * step + place..].iter().step_by(step).take(end - from).position(..)` gives a place from `from` on, or None, of which the layer would have to be made again.
     pub fn pass_over(&self, from: usize, set: States, place: usize, shows: u64) -> usize
         requires { (from ≤ self.now.depth + 1) × (place < size self.now.shape.props) }
         ensures { PassedOver self.now.shape self.now.words.now self.now.depth set.0 place shows from result }
@@ -100,6 +103,8 @@ impl<'a> Layers<'a> {
     }
 
     // The first layer from 0 to depth that meets a goal of its propositions, and depth + 1 where none does. After a layer that does not, those are passed over in which the same word fails.
+    // Kept (point 1): the clause equates it with the definition first_met, which has depth + 1 where no layer meets the goal.
+    // Kept (point 3): `t` goes on by what `pass_over` finds and not by one.
     fn first_met_of(&self, set: States, goal: Props) -> usize
         requires { goal.0 < 2 ^ self.now.shape.props }
         ensures { result ≡ L.first_met self.now.shape self.now.depth set.0 goal.0 self.now.words.now }
@@ -133,6 +138,7 @@ impl<'a> Layers<'a> {
     }
 
     // The first layer below depth that equals the next one, and depth where none does.
+    // Kept (point 1): the clause equates it with the definition first_rest, which has depth where no layer equals the next.
     pub fn first_rest(&self) -> usize
         ensures { result ≡ L.first_rest self.now.shape self.now.depth self.now.words.now }
     {

@@ -112,6 +112,8 @@ impl<'a> Memo<'a> {
     }
 
     // The first layer from 0 to depth that meets a goal of its propositions, and depth + 1 where none does.
+    // Kept (point 1): the clause equates it with the definition first_met, which has depth + 1 where no layer meets the goal.
+    // Kept (point 3): `t` goes on by what `later` finds and not by one.
     fn first_met(&mut self, goal: Props) -> usize
         requires { goal.0 < 2 ^ self.old.layers.shape.props }
         ensures { (result ≡ L.first_met self.old.layers.shape self.old.layers.depth self.old.set.0 goal.0 self.old.layers.words.now)

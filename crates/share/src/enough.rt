@@ -58,6 +58,7 @@ fn free_of(layer: &[u64], n: usize, p: usize, above: u64, states: States, short:
 }
 
 // Of these states those for which no two goals are mutex. Each goal goes with those above it.
+// Kept (point 3): a `for` would hold the iterator, whose members that are left are what each goal goes with.
 fn free_in(layer: &[u64], n: usize, goal: Props, states: States, short: States) -> States
     requires { (n ≤ prop_width) × (length layer.now ≡ size n) × (goal.0 < 2 ^ n) }
     ensures { Looked (without states.0 (needs_apart n layer.now goal.0)) short.0 result.0 }
@@ -86,6 +87,7 @@ fn holders(layer: &[u64], n: usize, all: States, goal: Props, short: States) -> 
 }
 
 // The first layer from 0 to depth where the weight is enough, and depth + 1 where it is in none. For a share of nothing it is at once.
+// Kept (point 1): the clause equates it with the definition first_enough, which has depth + 1 where the weight is enough in no layer.
 pub fn first_enough(layers: &Layers<'_>, goal: Props, share: &Share<'_>) -> usize
     requires { goal.0 < 2 ^ layers.now.shape.props }
     ensures { result ≡ S.first_enough layers.now.shape layers.now.depth (S.share_of share.now.weights.now share.now.numerator share.now.denominator) goal.0 layers.now.words.now }

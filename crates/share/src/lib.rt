@@ -23,6 +23,7 @@ use level::layers::{Layers, Level};
 use words::sets::Props;
 
 // Causes 8 and 18, by the total of the weights.
+// Kept (point 5): Ranged, as in `graph::format`.
 fn check_wanted(
     c: Counts,
     goal: Props,

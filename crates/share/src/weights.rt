@@ -10,6 +10,7 @@ use words::members::Members;
 use words::sets::{Set, States};
 
 // The total of the weights.
+// Kept (point 5): here and below: `Share` has the fact, but with the total, which this makes; the others read no more than the weights.
 fn total(weights: &[u16]) -> u32
     requires { length weights.now ≤ state_width }
     ensures { (result ≡ S.total weights.now) × (result ≤ max_total) }

@@ -22,6 +22,7 @@ fn encloses(props: usize, sure: Props, set: Props) -> bool
 }
 
 // The first state of whose possible set that does not hold, and the number of states where there is none.
+// Kept (point 1): the clause equates it with the definition first_open, which has the number of states where there is none.
 fn first_open(props: usize, sure: &[u32], possible: &[u32]) -> usize
     requires { (props ≤ prop_width) × (length possible.now ≡ length sure.now) }
     ensures { result ≡ R.first_open props (length sure.now) (R.set_of sure.now) possible.now }
