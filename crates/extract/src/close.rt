@@ -25,6 +25,7 @@ struct Runs {
     low: u64,
     far: usize,
     high: u64,
+    ghost made: { M.RunsFor set near low far high },
 }
 
 // The states of a set that go down in each move, where they stand before it: in move i they go down by 2 ^ i.
@@ -37,6 +38,7 @@ struct Moves {
     m3: u64,
     m4: u64,
     m5: u64,
+    ghost made: { M.MovesFor set m0 m1 m2 m3 m4 m5 },
 }
 
 // State s, if it has so far to go.
@@ -65,7 +67,7 @@ fn going(set: States, far: usize) -> u64
 
 // Near is what the lowest state has to go, far what the highest has. Of one or two runs no state has anything else to go.
 fn runs_of(set: States) -> Runs
-    ensures { M.RunsOf set.0 result }
+    ensures { result.set ≡ set.0 }
 {
     let near = lowest(set.0) % STATE_WIDTH;
     let above = u64::leading_zeros(set.0) as usize;
@@ -84,7 +86,7 @@ fn runs_of(set: States) -> Runs
 
 // The word cut to the set, where no state has anything else to go.
 fn by_runs(r: Runs, w: u64) -> u64
-    requires { M.RunsOf r.set r × (union r.low r.high ≡ r.set) }
+    requires { union r.low r.high ≡ r.set }
     ensures { result ≡ close_up state_width r.set w }
 {
     let first = (r.low & w) >> r.near;
@@ -95,7 +97,7 @@ fn by_runs(r: Runs, w: u64) -> u64
 }
 
 fn cut_runs(r: Runs, words: &[u64], out: &mut [u64], count: usize)
-    requires { M.RunsOf r.set r × (union r.low r.high ≡ r.set) × (count ≤ length words.now) × (count ≤ length out.old) }
+    requires { (union r.low r.high ≡ r.set) × (count ≤ length words.now) × (count ≤ length out.old) }
     ensures { out.new ≡ put_at 0 (M.cut_words r.set words.now 0 count) out.old }
 {
     for j in 0..count {
@@ -129,7 +131,7 @@ fn move_mask(set: States, i: usize) -> u64
 }
 
 fn moves_of(set: States) -> Moves
-    ensures { M.MovesOf set.0 result }
+    ensures { result.set ≡ set.0 }
 {
     let m0 = move_mask(set, 0);
     let m1 = move_mask(set, 1);
@@ -150,7 +152,6 @@ fn moves_of(set: States) -> Moves
 
 // The word cut to the set, bits closed up: in four moves where nothing goes down in the last two.
 fn close_up(m: Moves, w: u64) -> u64
-    requires { M.MovesOf m.set m }
     ensures { result ≡ close_up state_width m.set w }
 {
     let a = m.set & w;
@@ -167,7 +168,7 @@ fn close_up(m: Moves, w: u64) -> u64
 
 // So many words from a place on.
 fn cut_words(m: Moves, words: &[u64], out: &mut [u64], at: usize, count: usize)
-    requires { M.MovesOf m.set m × (at + count ≤ length words.now) × (at + count ≤ length out.old) }
+    requires { (at + count ≤ length words.now) × (at + count ≤ length out.old) }
     ensures { out.new ≡ put_at at (M.cut_words m.set words.now at count) out.old }
 {
     for i in 0..count {
@@ -194,7 +195,7 @@ fn copy_piece(out: &mut [u64], from: usize, to: usize)
 
 // One piece: where it is the same as the one so far back, what came of that is copied.
 fn cut_piece(m: Moves, back: usize, words: &[u64], out: &mut [u64], at: usize)
-    requires { M.MovesOf m.set m × M.CutUpTo m.set words.now out.old at × (at + piece_words ≤ length words.now) × (at + piece_words ≤ length out.old) }
+    requires { M.CutUpTo m.set words.now out.old at × (at + piece_words ≤ length words.now) × (at + piece_words ≤ length out.old) }
     ensures { out.new ≡ put_at at (M.cut_words m.set words.now at piece_words) out.old }
 {
     if back < PIECE {
@@ -210,7 +211,7 @@ fn cut_piece(m: Moves, back: usize, words: &[u64], out: &mut [u64], at: usize)
 
 // Whole pieces, and the words behind them.
 fn cut_pieces(m: Moves, back: usize, words: &[u64], out: &mut [u64], count: usize)
-    requires { M.MovesOf m.set m × (count ≤ length words.now) × (count ≤ length out.old) }
+    requires { (count ≤ length words.now) × (count ≤ length out.old) }
     ensures { out.new ≡ put_at 0 (M.cut_words m.set words.now 0 count) out.old }
 {
     let mut at = 0;

@@ -5,8 +5,8 @@ use Rattle.extract.proofs.close.by_runs.Goals as goal
 
 pub returns-then-r : goal.returns-then-r
 returns-then-r c =
-    run_close c.args.r.set _ _ _ _ _ (omega arith) c.requires.0.low_is c.requires.0.high_is c.requires.1 c.if-r.true
+    run_close c.args.r.set _ _ _ _ _ (omega arith) c.args.r.made.low_is c.args.r.made.high_is c.requires c.if-r.true
 
 pub returns : goal.returns
 returns c =
-    runs_close c.args.r.set _ _ _ _ _ (omega arith) c.requires.0.low_is c.requires.0.high_is c.requires.1
+    runs_close c.args.r.set _ _ _ _ _ (omega arith) c.args.r.made.low_is c.args.r.made.high_is c.requires

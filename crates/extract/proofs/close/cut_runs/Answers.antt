@@ -13,8 +13,7 @@ pub loop-j-init : goal.loop-j-init
 loop-j-init c = list_none (omega arith)
 
 pub by_runs-requires : goal.by_runs-requires
-by_runs-requires c =
-    (c.requires.0, c.requires.1)
+by_runs-requires c = c.requires.0
 
 pub bounds-out-j : goal.bounds-out-j
 bounds-out-j c = omega (arith, c.loop-j.invariant.long)
