@@ -6,18 +6,18 @@ use Rattle.words.specs.Memory.{put_at}
 use Rattle.extract.specs.Moves.{cut_words}
 use Rattle.extract.proofs.close.cut.Goals as goal
 
-pub cut_runs-requires : goal.cut_runs-requires
-cut_runs-requires c =
+pub cut-requires : goal.cut-requires
+cut-requires c =
     (c.if-r.true, search rules, search rules)
 
 pub returns-then-r : goal.returns-then-r
 returns-then-r c =
-    let r = c.runs_of-r in
+    let r = c.of-r in
     let a = c.args in
-    c.cut_runs.ensures ∙ ap (λ (x : ℕ). put_at 0 (cut_words x a.words.now 0 a.count) a.out.now) r.ensures
+    c.cut.ensures ∙ ap (λ (x : ℕ). put_at 0 (cut_words x a.words.now 0 a.count) a.out.now) r.ensures
 
 pub returns : goal.returns
 returns c =
     let a = c.args in
-    c.cut_pieces.ensures
-    ∙ ap (λ (x : ℕ). put_at 0 (cut_words x a.words.now 0 a.count) a.out.now) c.moves_of-m.ensures
+    c.cut-2.ensures
+    ∙ ap (λ (x : ℕ). put_at 0 (cut_words x a.words.now 0 a.count) a.out.now) c.of-m.ensures

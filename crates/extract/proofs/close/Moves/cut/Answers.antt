@@ -2,7 +2,7 @@ use native.Mathlib.Omega.{arith}
 use borrow.Author.Rules.{rules}
 use Rattle.extract.specs.Moves.{piece_words}
 use Rattle.extract.proofs.Cuts.{front_none, front_cut, front_more, front_done}
-use Rattle.extract.proofs.close.cut_pieces.Goals as goal
+use Rattle.extract.proofs.close.Moves.cut.Goals as goal
 
 pub loop-at-init : goal.loop-at-init
 loop-at-init c = front_none (search rules)
