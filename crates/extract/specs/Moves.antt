@@ -6,8 +6,6 @@ use Rattle.rules.specs.Over.{keep, join_over}
 use Rattle.rules.specs.Lists.{list_over}
 use Rattle.rules.specs.Extract.{rank, close_up}
 use Rattle.words.specs.Width.{state_width}
-use Rattle.extract.specs.declared.close.Runs.{Runs}
-use Rattle.extract.specs.declared.close.Moves.{Moves}
 
 -- how far state s has to go down: the number of states below it that are not in S
 unfoldable pub gap : ℕ → ℕ → ℕ
@@ -18,12 +16,11 @@ unfoldable pub going : ℕ → ℕ → ℕ
 going set far = join_over state_width (λ s. keep (bit s set and same (gap set s) far) (single s))
 
 -- what is prepared for a set of one or two runs
-pub record RunsOf (set : ℕ) (r : Runs) : Type 0 where
-  pub of : r.set ≡ set
-  pub near_in : r.near < state_width
-  pub far_in : r.far < state_width
-  pub low_is : r.low ≡ going set r.near
-  pub high_is : r.high ≡ going set r.far
+pub record RunsFor (set near low far high : ℕ) : Type 0 where
+  pub near_in : near < state_width
+  pub far_in : far < state_width
+  pub low_is : low ≡ going set near
+  pub high_is : high ≡ going set far
 
 -- no state has 2 ^ 6 or more to go: the moves at most
 abbrev pub most_moves : ℕ
@@ -38,14 +35,13 @@ unfoldable pub moving : ℕ → ℕ → ℕ → ℕ
 moving n set i = join_over n (λ s. keep (bit s set and bit i (gap set s)) (single (place set i s)))
 
 -- what is prepared for any other: the mask of each move
-pub record MovesOf (set : ℕ) (m : Moves) : Type 0 where
-  pub of : m.set ≡ set
-  pub mask0 : m.m0 ≡ moving state_width set 0
-  pub mask1 : m.m1 ≡ moving state_width set 1
-  pub mask2 : m.m2 ≡ moving state_width set 2
-  pub mask3 : m.m3 ≡ moving state_width set 3
-  pub mask4 : m.m4 ≡ moving state_width set 4
-  pub mask5 : m.m5 ≡ moving state_width set 5
+pub record MovesFor (set m0 m1 m2 m3 m4 m5 : ℕ) : Type 0 where
+  pub mask0 : m0 ≡ moving state_width set 0
+  pub mask1 : m1 ≡ moving state_width set 1
+  pub mask2 : m2 ≡ moving state_width set 2
+  pub mask3 : m3 ≡ moving state_width set 3
+  pub mask4 : m4 ≡ moving state_width set 4
+  pub mask5 : m5 ≡ moving state_width set 5
 
 -- the word w cut to S, before move i
 unfoldable pub closing : ℕ → ℕ → ℕ → ℕ → ℕ

@@ -25,6 +25,7 @@ struct Runs {
     low: u64,
     far: usize,
     high: u64,
+    ghost made: { M.RunsFor set near low far high },
 }
 
 // The states of a set that go down in each move, where they stand before it: in move i they go down by 2 ^ i.
@@ -37,6 +38,7 @@ struct Moves {
     m3: u64,
     m4: u64,
     m5: u64,
+    ghost made: { M.MovesFor set m0 m1 m2 m3 m4 m5 },
 }
 
 // State s, if it has so far to go.
@@ -63,43 +65,45 @@ fn going(set: States, far: usize) -> u64
     mask
 }
 
-// Near is what the lowest state has to go, far what the highest has. Of one or two runs no state has anything else to go.
-fn runs_of(set: States) -> Runs
-    ensures { M.RunsOf set.0 result }
-{
-    let near = lowest(set.0) % STATE_WIDTH;
-    let above = u64::leading_zeros(set.0) as usize;
-    let members = u64::count_ones(set.0) as usize;
-    let far = (2 * STATE_WIDTH - above - members) % STATE_WIDTH;
-    let low = going(set, near);
-    let high = going(set, far);
-    Runs {
-        set: set.0,
-        near: near,
-        low: low,
-        far: far,
-        high: high,
+impl Runs {
+    // Near is what the lowest state has to go, far what the highest has. Of one or two runs no state has anything else to go.
+    fn of(set: States) -> Runs
+        ensures { result.set ≡ set.0 }
+    {
+        let near = lowest(set.0) % STATE_WIDTH;
+        let above = u64::leading_zeros(set.0) as usize;
+        let members = u64::count_ones(set.0) as usize;
+        let far = (2 * STATE_WIDTH - above - members) % STATE_WIDTH;
+        let low = going(set, near);
+        let high = going(set, far);
+        Runs {
+            set: set.0,
+            near: near,
+            low: low,
+            far: far,
+            high: high,
+        }
     }
-}
 
-// The word cut to the set, where no state has anything else to go.
-fn by_runs(r: Runs, w: u64) -> u64
-    requires { M.RunsOf r.set r × (union r.low r.high ≡ r.set) }
-    ensures { result ≡ close_up state_width r.set w }
-{
-    let first = (r.low & w) >> r.near;
-    if r.near == r.far {
-        return first;
+    // The word cut to the set, where no state has anything else to go.
+    fn close_up(self, w: u64) -> u64
+        requires { union self.low self.high ≡ self.set }
+        ensures { result ≡ close_up state_width self.set w }
+    {
+        let first = (self.low & w) >> self.near;
+        if self.near == self.far {
+            return first;
+        }
+        first | ((self.high & w) >> self.far)
     }
-    first | ((r.high & w) >> r.far)
-}
 
-fn cut_runs(r: Runs, words: &[u64], out: &mut [u64], count: usize)
-    requires { M.RunsOf r.set r × (union r.low r.high ≡ r.set) × (count ≤ length words.now) × (count ≤ length out.old) }
-    ensures { out.new ≡ put_at 0 (M.cut_words r.set words.now 0 count) out.old }
-{
-    for j in 0..count {
-        out[j] = by_runs(r, words[j]);
+    fn cut(self, words: &[u64], out: &mut [u64], count: usize)
+        requires { (union self.low self.high ≡ self.set) × (count ≤ length words.now) × (count ≤ length out.old) }
+        ensures { out.new ≡ put_at 0 (M.cut_words self.set words.now 0 count) out.old }
+    {
+        for j in 0..count {
+            out[j] = self.close_up(words[j]);
+        }
     }
 }
 
@@ -128,54 +132,6 @@ fn move_mask(set: States, i: usize) -> u64
     mask
 }
 
-fn moves_of(set: States) -> Moves
-    ensures { M.MovesOf set.0 result }
-{
-    let m0 = move_mask(set, 0);
-    let m1 = move_mask(set, 1);
-    let m2 = move_mask(set, 2);
-    let m3 = move_mask(set, 3);
-    let m4 = move_mask(set, 4);
-    let m5 = move_mask(set, 5);
-    Moves {
-        set: set.0,
-        m0: m0,
-        m1: m1,
-        m2: m2,
-        m3: m3,
-        m4: m4,
-        m5: m5,
-    }
-}
-
-// The word cut to the set, bits closed up: in four moves where nothing goes down in the last two.
-fn close_up(m: Moves, w: u64) -> u64
-    requires { M.MovesOf m.set m }
-    ensures { result ≡ close_up state_width m.set w }
-{
-    let a = m.set & w;
-    let b = (a ^ (a & m.m0)) | ((a & m.m0) >> 1);
-    let c = (b ^ (b & m.m1)) | ((b & m.m1) >> 2);
-    let d = (c ^ (c & m.m2)) | ((c & m.m2) >> 4);
-    let e = (d ^ (d & m.m3)) | ((d & m.m3) >> 8);
-    if m.m4 | m.m5 == 0 {
-        return e;
-    }
-    let f = (e ^ (e & m.m4)) | ((e & m.m4) >> 16);
-    (f ^ (f & m.m5)) | ((f & m.m5) >> 32)
-}
-
-// So many words from a place on.
-fn cut_words(m: Moves, words: &[u64], out: &mut [u64], at: usize, count: usize)
-    requires { M.MovesOf m.set m × (at + count ≤ length words.now) × (at + count ≤ length out.old) }
-    ensures { out.new ≡ put_at at (M.cut_words m.set words.now at count) out.old }
-{
-    for i in 0..count {
-        let k = at + i;
-        out[k] = close_up(m, words[k]);
-    }
-}
-
 // Whether the piece at one place is the one at another.
 fn same_piece(words: &[u64], one: usize, other: usize) -> bool
     requires { (one + piece_words ≤ length words.now) × (other + piece_words ≤ length words.now) }
@@ -192,33 +148,82 @@ fn copy_piece(out: &mut [u64], from: usize, to: usize)
     out.copy_within(from..from + PIECE, to);
 }
 
-// One piece: where it is the same as the one so far back, what came of that is copied.
-fn cut_piece(m: Moves, back: usize, words: &[u64], out: &mut [u64], at: usize)
-    requires { M.MovesOf m.set m × M.CutUpTo m.set words.now out.old at × (at + piece_words ≤ length words.now) × (at + piece_words ≤ length out.old) }
-    ensures { out.new ≡ put_at at (M.cut_words m.set words.now at piece_words) out.old }
-{
-    if back < PIECE {
-        cut_words(m, words, &mut *out, at, PIECE);
-    } else if at < back {
-        cut_words(m, words, &mut *out, at, PIECE);
-    } else if same_piece(words, at - back, at) {
-        copy_piece(&mut *out, at - back, at);
-    } else {
-        cut_words(m, words, &mut *out, at, PIECE);
+impl Moves {
+    fn of(set: States) -> Moves
+        ensures { result.set ≡ set.0 }
+    {
+        let m0 = move_mask(set, 0);
+        let m1 = move_mask(set, 1);
+        let m2 = move_mask(set, 2);
+        let m3 = move_mask(set, 3);
+        let m4 = move_mask(set, 4);
+        let m5 = move_mask(set, 5);
+        Moves {
+            set: set.0,
+            m0: m0,
+            m1: m1,
+            m2: m2,
+            m3: m3,
+            m4: m4,
+            m5: m5,
+        }
     }
-}
 
-// Whole pieces, and the words behind them.
-fn cut_pieces(m: Moves, back: usize, words: &[u64], out: &mut [u64], count: usize)
-    requires { M.MovesOf m.set m × (count ≤ length words.now) × (count ≤ length out.old) }
-    ensures { out.new ≡ put_at 0 (M.cut_words m.set words.now 0 count) out.old }
-{
-    let mut at = 0;
-    while at + PIECE <= count {
-        cut_piece(m, back, words, &mut *out, at);
-        at += PIECE;
+    // The word cut to the set, bits closed up: in four moves where nothing goes down in the last two.
+    fn close_up(self, w: u64) -> u64
+        ensures { result ≡ close_up state_width self.set w }
+    {
+        let a = self.set & w;
+        let b = (a ^ (a & self.m0)) | ((a & self.m0) >> 1);
+        let c = (b ^ (b & self.m1)) | ((b & self.m1) >> 2);
+        let d = (c ^ (c & self.m2)) | ((c & self.m2) >> 4);
+        let e = (d ^ (d & self.m3)) | ((d & self.m3) >> 8);
+        if self.m4 | self.m5 == 0 {
+            return e;
+        }
+        let f = (e ^ (e & self.m4)) | ((e & self.m4) >> 16);
+        (f ^ (f & self.m5)) | ((f & self.m5) >> 32)
     }
-    cut_words(m, words, &mut *out, at, count - at);
+
+    // So many words from a place on.
+    fn cut_words(self, words: &[u64], out: &mut [u64], at: usize, count: usize)
+        requires { (at + count ≤ length words.now) × (at + count ≤ length out.old) }
+        ensures { out.new ≡ put_at at (M.cut_words self.set words.now at count) out.old }
+    {
+        for i in 0..count {
+            let k = at + i;
+            out[k] = self.close_up(words[k]);
+        }
+    }
+
+    // One piece: where it is the same as the one so far back, what came of that is copied.
+    fn cut_piece(self, back: usize, words: &[u64], out: &mut [u64], at: usize)
+        requires { M.CutUpTo self.set words.now out.old at × (at + piece_words ≤ length words.now) × (at + piece_words ≤ length out.old) }
+        ensures { out.new ≡ put_at at (M.cut_words self.set words.now at piece_words) out.old }
+    {
+        if back < PIECE {
+            self.cut_words(words, &mut *out, at, PIECE);
+        } else if at < back {
+            self.cut_words(words, &mut *out, at, PIECE);
+        } else if same_piece(words, at - back, at) {
+            copy_piece(&mut *out, at - back, at);
+        } else {
+            self.cut_words(words, &mut *out, at, PIECE);
+        }
+    }
+
+    // Whole pieces, and the words behind them.
+    fn cut(self, back: usize, words: &[u64], out: &mut [u64], count: usize)
+        requires { (count ≤ length words.now) × (count ≤ length out.old) }
+        ensures { out.new ≡ put_at 0 (M.cut_words self.set words.now 0 count) out.old }
+    {
+        let mut at = 0;
+        while at + PIECE <= count {
+            self.cut_piece(back, words, &mut *out, at);
+            at += PIECE;
+        }
+        self.cut_words(words, &mut *out, at, count - at);
+    }
 }
 
 // The first `count` words cut to the set, bits closed up. Layers mostly repeat so far back.
@@ -226,11 +231,11 @@ pub fn cut(set: States, back: usize, words: &[u64], out: &mut [u64], count: usiz
     requires { (count ≤ length words.now) × (count ≤ length out.old) }
     ensures { out.new ≡ put_at 0 (M.cut_words set.0 words.now 0 count) out.old }
 {
-    let r = runs_of(set);
+    let r = Runs::of(set);
     if r.low | r.high == r.set {
-        cut_runs(r, words, &mut *out, count);
+        r.cut(words, &mut *out, count);
         return;
     }
-    let m = moves_of(set);
-    cut_pieces(m, back, words, &mut *out, count);
+    let m = Moves::of(set);
+    m.cut(back, words, &mut *out, count);
 }

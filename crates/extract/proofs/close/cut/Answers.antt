@@ -1,29 +1,23 @@
 -- A set of one or two runs is cut by these, any other by moves.
-use mathlib.Core.Path.{sym, ap, subst, ◌∙◌}
+use mathlib.Core.Path.{ap, ◌∙◌}
 use Prim.Native.Nat.{ℕ}
 use borrow.Author.Rules.{rules}
 use Rattle.words.specs.Memory.{put_at}
-use Rattle.extract.specs.Moves.{RunsOf, MovesOf, cut_words}
+use Rattle.extract.specs.Moves.{cut_words}
 use Rattle.extract.proofs.close.cut.Goals as goal
 
-pub cut_runs-requires : goal.cut_runs-requires
-cut_runs-requires c =
-    let r = c.runs_of-r in
-    (subst (λ (x : ℕ). RunsOf x r.result) (sym r.ensures.of) r.ensures, c.if-r.true, search rules, search rules)
+pub cut-requires : goal.cut-requires
+cut-requires c =
+    (c.if-r.true, search rules, search rules)
 
 pub returns-then-r : goal.returns-then-r
 returns-then-r c =
-    let r = c.runs_of-r in
+    let r = c.of-r in
     let a = c.args in
-    c.cut_runs.ensures ∙ ap (λ (x : ℕ). put_at 0 (cut_words x a.words.now 0 a.count) a.out.now) r.ensures.of
-
-pub cut_pieces-requires : goal.cut_pieces-requires
-cut_pieces-requires c =
-    let m = c.moves_of-m in
-    (subst (λ (x : ℕ). MovesOf x m.result) (sym m.ensures.of) m.ensures, search rules, search rules)
+    c.cut.ensures ∙ ap (λ (x : ℕ). put_at 0 (cut_words x a.words.now 0 a.count) a.out.now) r.ensures
 
 pub returns : goal.returns
 returns c =
     let a = c.args in
-    c.cut_pieces.ensures
-    ∙ ap (λ (x : ℕ). put_at 0 (cut_words x a.words.now 0 a.count) a.out.now) c.moves_of-m.ensures.of
+    c.cut-2.ensures
+    ∙ ap (λ (x : ℕ). put_at 0 (cut_words x a.words.now 0 a.count) a.out.now) c.of-m.ensures

@@ -7,14 +7,13 @@ use native.Mathlib.Omega.{arith}
 use native.Mathlib.Nat.{zero-add}
 use Prim.Native.Nat.{ℕ}
 use mathlib.Core.Path.{sym, ap, ◌∙◌}
-use Rattle.extract.proofs.close.cut_runs.Goals as goal
+use Rattle.extract.proofs.close.Runs.cut.Goals as goal
 
 pub loop-j-init : goal.loop-j-init
 loop-j-init c = list_none (omega arith)
 
-pub by_runs-requires : goal.by_runs-requires
-by_runs-requires c =
-    (c.requires.0, c.requires.1)
+pub close_up-requires : goal.close_up-requires
+close_up-requires c = c.requires.0
 
 pub bounds-out-j : goal.bounds-out-j
 bounds-out-j c = omega (arith, c.loop-j.invariant.long)
@@ -23,7 +22,7 @@ pub loop-j-preserved : goal.loop-j-preserved
 loop-j-preserved c =
     let a = c.args in
     list_more c.loop-j.invariant (omega arith) (sym (zero-add _))
-    (c.by_runs.ensures ∙ ap (λ (x : ℕ). close_up state_width a.r.set (get_or a.words.now x 0)) (sym (zero-add _)))
+    (c.close_up.ensures ∙ ap (λ (x : ℕ). close_up state_width a.self.set (get_or a.words.now x 0)) (sym (zero-add _)))
 
 pub shape_of-out : goal.shape_of-out
 shape_of-out c = c.loop-j.invariant.long

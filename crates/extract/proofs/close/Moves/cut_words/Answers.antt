@@ -2,14 +2,10 @@ use Rattle.words.proofs.Writes.{list_none, list_more, list_done}
 use Rattle.extract.specs.Moves.{cut_words}
 use native.Mathlib.Omega.{arith}
 use mathlib.Core.Path.{refl}
-use Rattle.extract.proofs.close.cut_words.Goals as goal
+use Rattle.extract.proofs.close.Moves.cut_words.Goals as goal
 
 pub loop-i-init : goal.loop-i-init
 loop-i-init c = list_none (omega arith)
-
-pub close_up-requires : goal.close_up-requires
-close_up-requires c =
-    c.requires.0
 
 pub bounds-out-k : goal.bounds-out-k
 bounds-out-k c = omega (arith, c.loop-i.invariant.long)

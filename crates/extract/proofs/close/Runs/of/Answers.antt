@@ -2,7 +2,7 @@
 use native.Mathlib.Omega.{arith}
 use lib.Count.{leading_le, ones-le}
 use Rattle.words.specs.Width.{state_width}
-use Rattle.extract.proofs.close.runs_of.Goals as goal
+use Rattle.extract.proofs.close.Runs.of.Goals as goal
 
 pub overflow_cast-above : goal.overflow_cast-above
 overflow_cast-above c = omega (arith, leading_le state_width c.args.set.0)
