@@ -3,7 +3,7 @@ use Rattle.rules.specs.Plan.{plan_count}
 use Rattle.words.specs.Width.{prop_width}
 use Rattle.graph.specs.Limits.{max_depth}
 use lib.ListN.{length, drop}
-use Prim.Native.Nat.{◌+◌, ◌-◌, ◌*◌, ◌≤◌}
+use Prim.Native.Nat.{◌+◌, ◌*◌, ◌≤◌}
 use mathlib.Core.Path.{◌≡◌}
 use Rattle.plan.proofs.output.count.Given as goal
 
