@@ -32,8 +32,7 @@ use Rattle.words.proofs.Writes.{Lists, list_none, list_more, list_whole, put_len
 use Rattle.graph.specs.Format.{actions_of}
 use Rattle.graph.specs.File.{Taken}
 use Rattle.graph.specs.declared.format.Counts.{Counts}
-use Rattle.graph.specs.Checks.{Room}
-use Rattle.plan.specs.Search.{listed_actions, listed_shape, Tables, Live, Lent}
+use Rattle.plan.specs.Search.{listed_actions, Tables, Live}
 
 adds_next : (i : ℕ) (f : ℕ → ℕ) (q : ℕ) → union (start_label i f q) (keep (bit q (f i)) (single i)) ≡ start_label (i + 1) f q
 unfolding start_label join_over
@@ -214,19 +213,3 @@ goals_live n set goal row h e =
       inside = subst (λ (m : ℕ). goal < 2 ^ m) (sym long) h;
       rest = λ p l b. ap (λ (w : List ℕ). get_or w p 0) e ∙ get_d_list_over _ (omega arith) ∙ ap (λ (x : Bool). choose x set 0) b;
     }
-
--- with what is lent, the lists that were read and the goals are what the descent asks
-pub descends : {file : List ℕ} {c : Counts} {words needs₀ owners₀ adders₀ needed₀ plan out needs owners adders needed : List ℕ} (set goal : ℕ) → Taken file c
-    → Lent c goal words needs₀ owners₀ adders₀ needed₀ plan out → needs ≡ list_over c.effects (condition (actions_of file c))
-    → owners ≡ list_over c.effects (actions_of file c).owner → adders ≡ list_over c.props (start_label c.effects (actions_of file c).add)
-    → needed ≡ list_over (length needed₀) (λ q. union (label_in needed₀ q) (keep (bit q goal) set))
-    → Tables needs owners adders × Room (listed_shape needs adders) (length plan) words × (length needed ≡ length adders) × Live goal needed
-descends {file} {c} {words} {needs₀} {owners₀} {adders₀} {needed₀} {plan} {out} {needs} {owners} {adders} {needed} set goal t l e o f g =
-    let n = needs_long file c t needs owners adders e o f in
-    let a = adders_long file c t needs owners adders e o f in
-    let w = goals_spread c.props set goal needed₀ needed l.nothing g in (
-      read_tables file c t needs owners adders e o f,
-      subst (λ (S : Shape). Room S (length plan) words) (λ i. record { props = sym a i; vertices = sym n i + sym a i }) l.room,
-      ap length w ∙ length_list_over c.props _ ∙ sym a,
-      goals_live c.props set goal needed l.goal_in w,
-    )

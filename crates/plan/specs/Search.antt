@@ -12,9 +12,6 @@ use Rattle.rules.specs.declared.Shape.{Shape}
 use Rattle.words.specs.Width.{prop_width}
 use Rattle.words.specs.Rows.{Inside}
 use Rattle.graph.specs.Limits.{max_actions, max_effects}
-use Rattle.graph.specs.Format.{shape_in}
-use Rattle.graph.specs.Checks.{Room}
-use Rattle.graph.specs.declared.format.Counts.{Counts}
 use Rattle.plan.specs.declared.layer.Took.{Took}
 use Rattle.plan.specs.declared.layer.Marked.{Marked}
 
@@ -75,16 +72,6 @@ pub record LayerLists (wanted : List ℕ) (among : ℕ) (labels needs owners add
   pub wide : length wanted ≡ length adders
   pub live : Live among wanted
   pub labelled : length needs + length adders ≤ length labels
-
--- what the plan's memory is asked to be, for a level and a goal: the lists are as long as they must be, and empty
-pub record Lent (c : Counts) (goal : ℕ) (words needs owners adders needed plan out : List ℕ) : Type 0 where
-  pub room : Room (shape_in c) (length plan) words
-  pub goal_in : goal < 2 ^ c.props
-  pub each_need : length needs ≡ c.effects
-  pub each_owner : length owners ≡ c.effects
-  pub each_prop : adders ≡ list_over c.props (λ p. 0)
-  pub nothing : needed ≡ list_over c.props (λ p. 0)
-  pub fits : length plan ≤ length out
 
 -- what a layer's answer says, with what it left in the memory
 abbrev pub covered_as : Option Marked → List ℕ → Covered

@@ -17,7 +17,7 @@ ghost use Rattle.graph.specs.Verdict.{laid};
 ghost use Rattle.graph.specs.Format.{actions_of, shape_in};
 ghost use Rattle.graph.specs.Checks.{Room};
 ghost use Rattle.plan.specs.Plan.{plan_verdict, made, planned_verdict, plan_taken, plan_rule};
-ghost use Rattle.plan.specs.Search.{Lent};
+ghost use Rattle.plan.specs.Search.{listed_actions, listed_shape};
 
 use crate::descent::descend;
 use crate::layer::Effects;
@@ -105,31 +105,43 @@ fn read_effects(file: &View<'_>, needs: &mut [u32], owners: &mut [u8], adders: &
     columns_of_square(adders, &mut adds[..]);
 }
 
+// What the search goes by, read from the file into the lent memory.
+fn lent_effects<'a>(
+    file: &View<'_>,
+    needs: &'a mut [u32],
+    owners: &'a mut [u8],
+    adders: &'a mut [u64],
+) -> Effects<'a>
+    requires { (length needs.old ≡ file.now.counts.effects) × (length owners.old ≡ file.now.counts.effects) × (adders.old ≡ list_over file.now.counts.props (λ p. 0)) }
+    ensures { (result.needs.now ≡ list_over file.now.counts.effects (D.condition (actions_of file.now.bytes.now file.now.counts)))
+        × (result.owners.now ≡ list_over file.now.counts.effects (actions_of file.now.bytes.now file.now.counts).owner)
+        × (result.adders.now ≡ list_over file.now.counts.props (start_label file.now.counts.effects (actions_of file.now.bytes.now file.now.counts).add)) }
+{
+    read_effects(file, &mut *needs, &mut *owners, &mut *adders);
+    Effects {
+        needs,
+        owners,
+        adders,
+    }
+}
+
 // The plan of a level, made in the lent memory and copied once it is whole: cause 14, or the words.
 fn plan_in(
-    file: &View<'_>,
+    effects: &Effects<'_>,
     set: States,
     goal: Props,
     words: &[u64],
-    needs: &mut [u32],
-    owners: &mut [u8],
-    adders: &mut [u64],
     needed: &mut [u64],
     plan: &mut [u32],
     out: &mut [u32],
 ) -> Result<Planned, Refusal>
-    requires { Lent file.now.counts goal.0 words.now needs.old owners.old adders.old needed.old plan.old out.old }
-    ensures { (depth : ℕ) → (plan_verdict result ≡ made (planned_verdict depth (P.descend (actions_of file.now.bytes.now file.now.counts) words.now (length plan.old) (list_over file.now.counts.props (λ p. keep (W.bit p goal.0) set.0)) [])))
-        × (out.new ≡ laid (planned_verdict depth (P.descend (actions_of file.now.bytes.now file.now.counts) words.now (length plan.old) (list_over file.now.counts.props (λ p. keep (W.bit p goal.0) set.0)) [])) out.old) }
+    requires { Room (listed_shape effects.now.needs.now effects.now.adders.now) (length plan.old) words.now × (goal.0 < 2 ^ length effects.now.adders.now)
+        × (needed.old ≡ list_over (length effects.now.adders.now) (λ p. 0)) × (length plan.old ≤ length out.old) }
+    ensures { (depth : ℕ) → (plan_verdict result ≡ made (planned_verdict depth (P.descend (listed_actions effects.now.needs.now effects.now.owners.now effects.now.adders.now) words.now (length plan.old) (list_over (length effects.now.adders.now) (λ p. keep (W.bit p goal.0) set.0)) [])))
+        × (out.new ≡ laid (planned_verdict depth (P.descend (listed_actions effects.now.needs.now effects.now.owners.now effects.now.adders.now) words.now (length plan.old) (list_over (length effects.now.adders.now) (λ p. keep (W.bit p goal.0) set.0)) [])) out.old) }
 {
-    read_effects(file, &mut *needs, &mut *owners, &mut *adders);
     spread(&mut *needed, goal, set.0);
-    let effects = Effects {
-        needs: &*needs,
-        owners: &*owners,
-        adders: &*adders,
-    };
-    let got = descend(&mut *needed, goal.0, words, &effects, &mut *plan);
+    let got = descend(&mut *needed, goal.0, words, effects, &mut *plan);
     if let Err(t) = got {
         return Err(Refusal::Uncovered(t));
     }
@@ -170,14 +182,12 @@ fn plan_over(
     let mut adders = [0u64; PROP_WIDTH];
     let mut needed = [0u64; PROP_WIDTH];
     let mut plan = [0u32; MAX_DEPTH];
+    let effects = lent_effects(file, &mut needs[..e], &mut owners[..e], &mut adders[..n]);
     plan_in(
-        file,
+        &effects,
         set,
         goal,
         words,
-        &mut needs[..e],
-        &mut owners[..e],
-        &mut adders[..n],
         &mut needed[..n],
         &mut plan[..t],
         out,

@@ -1,6 +1,8 @@
--- The lists that are read are the file's actions, so the descent is theirs. Nothing is written before the words are whole; then they are copied and counted.
+-- Nothing is written before the words are whole; then they are copied and counted.
 use mathlib.Core.List.{[]}
 use mathlib.Core.Path.{◌≡◌, sym, ap, ◌∙◌}
+use mathlib.Core.List.{List}
+use Prim.Native.Nat.{ℕ}
 use native.Mathlib.Omega.{arith}
 use lib.ListN.{length}
 use Rattle.rules.specs.Word.{bit}
@@ -8,41 +10,52 @@ use Rattle.rules.specs.Over.{keep}
 use Rattle.rules.specs.Lists.{list_over}
 use Rattle.rules.specs.Plan.{descend}
 use Rattle.rules.proofs.Layers.{length_list_over}
-use Rattle.graph.specs.Format.{actions_of}
-use Rattle.plan.specs.Search.{planned_as}
+use Rattle.plan.specs.Search.{listed_actions, planned_as}
 use Rattle.plan.proofs.Answers.{plan_refused, plan_given, ends_stuck, ends_whole}
-use Rattle.plan.proofs.Readings.{descends, read_descend, goals_spread}
+use Rattle.plan.proofs.Readings.{goals_live, goals_spread}
 use Rattle.plan.proofs.plan_in.Goals as goal
-use Rattle.plan.proofs.plan_in.Goals.{After-descend-got}
-
--- the descent is that of the file's actions, from the goals
-falls : (c : After-descend-got)
-    → let a = c.args in
-    planned_as c.descend-got.result c.descend-got.new.plan
-    ≡ descend (actions_of a.file.now.bytes.now a.file.now.counts) a.words.now (length a.plan.now) (list_over a.file.now.counts.props (λ p. keep (bit p a.goal.0) a.set.0)) []
-falls c =
-    let a = c.args in
-    let read = c.read_effects.ensures in
-    c.descend-got.ensures
-    ∙ read_descend a.file.now.bytes.now a.file.now.counts c.args.file.now.taken _ _ _ read.0 read.1 read.2 a.words.now (length a.plan.now) a.set.0 a.goal.0 _
-    (goals_spread a.file.now.counts.props a.set.0 a.goal.0 _ _ c.requires.nothing c.spread.ensures)
+use Rattle.plan.proofs.plan_in.Goals.{After-spread, After-descend-got}
 
 pub spread-requires : goal.spread-requires
-spread-requires c = omega (arith, ap length c.requires.nothing, length_list_over c.args.file.now.counts.props (λ p. 0), c.args.file.now.taken.ranged.props)
+spread-requires c =
+    omega (arith, ap length c.requires.2, length_list_over (length c.args.effects.now.adders.now) (λ p. 0), c.args.effects.now.tables.props)
 
-pub invariant_of-effects : goal.invariant_of-effects
-invariant_of-effects c = record {
-  tables = (descends c.args.set.0 c.args.goal.0 c.args.file.now.taken c.requires c.read_effects.ensures.0 c.read_effects.ensures.1 c.read_effects.ensures.2 c.spread.ensures).0;
-}
+-- the goals are what is needed at the level
+goals : (c : After-spread)
+    → let a = c.args in
+    c.spread.new.row ≡ list_over (length a.effects.now.adders.now) (λ p. keep (bit p a.goal.0) a.set.0)
+goals c =
+    let a = c.args in
+    goals_spread (length a.effects.now.adders.now) a.set.0 a.goal.0 _ _ c.requires.2 c.spread.ensures
 
 pub descend-got-requires : goal.descend-got-requires
 descend-got-requires c =
-    let d = descends c.args.set.0 c.args.goal.0 c.args.file.now.taken c.requires c.read_effects.ensures.0 c.read_effects.ensures.1 c.read_effects.ensures.2 c.spread.ensures in
-    (d.1, d.2, d.3)
+    let g = goals (goal.at.descend-got-requires c).After-spread in
+    (c.requires.0, ap length g ∙ length_list_over _ _, goals_live _ c.args.set.0 c.args.goal.0 _ c.requires.1 g)
+
+-- the descent is that from the goals
+falls : (c : After-descend-got)
+    → let a = c.args in
+    let e = a.effects.now in
+    planned_as c.descend-got.result c.descend-got.new.plan
+    ≡ descend (listed_actions e.needs.now e.owners.now e.adders.now) a.words.now (length a.plan.now) (list_over (length e.adders.now) (λ p. keep (bit p a.goal.0) a.set.0)) []
+falls c =
+    let a = c.args in
+    let e = a.effects.now in
+    c.descend-got.ensures
+    ∙ ap (λ (l : List ℕ). descend (listed_actions e.needs.now e.owners.now e.adders.now) a.words.now (length a.plan.now) l [])
+    (goals_spread (length e.adders.now) a.set.0 a.goal.0 _ _ c.requires.2 c.spread.ensures)
 
 pub returns-in-Err : goal.returns-in-Err
 returns-in-Err c = λ depth.
     plan_refused _ _ _ _ (ends_stuck depth _ _ (sym (ap (λ r. planned_as r c.descend-got.new.plan) c.in-Err.is) ∙ falls (goal.at.returns-in-Err c).After-descend-got))
+
+pub copy-requires : goal.copy-requires
+copy-requires c =
+    omega (arith, c.requires.3, c.descend-got.auto.plan)
+
+pub count-requires : goal.count-requires
+count-requires c = omega (arith, c.requires.0.deep, c.descend-got.auto.plan)
 
 pub returns : goal.returns
 returns c =
