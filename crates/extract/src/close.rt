@@ -1,6 +1,6 @@
 // The bits of words closed up. The states of a set of one or two runs go down in one or two shifts; those of any other in moves, of
 // which there are at most six. Masks are prepared for a set once, and are handed on by value, so that they stay in registers.
-ghost use Rattle.std.specs.Prelude.{◌≡◌, ◌+◌, ◌-◌, ◌%◌, ◌^◌, ◌<◌, ◌≤◌, length, get_or};
+ghost use Rattle.std.specs.Prelude.{◌≡◌, ◌+◌, ◌-◌, ◌%◌, ◌^◌, ◌<◌, ◌≤◌, length, get_or, IfSome};
 ghost use Rattle.rules.specs.Test.{same};
 ghost use Rattle.rules.specs.Word.{bit, single, union};
 ghost use Rattle.rules.specs.Over.{keep};
@@ -26,6 +26,7 @@ struct Runs {
     far: usize,
     high: u64,
     ghost made: { M.RunsFor set near low far high },
+    ghost all: { union low high ≡ set },
 }
 
 // The states of a set that go down in each move, where they stand before it: in move i they go down by 2 ^ i.
@@ -66,9 +67,9 @@ fn going(set: States, far: usize) -> u64
 }
 
 impl Runs {
-    // Near is what the lowest state has to go, far what the highest has. Of one or two runs no state has anything else to go.
-    fn of(set: States) -> Runs
-        ensures { result.set ≡ set.0 }
+    // Near is what the lowest state has to go, far what the highest has; none where some state has anything else to go, as of three runs or more.
+    fn of(set: States) -> Option<Runs>
+        ensures { IfSome result (λ r. r.set ≡ set.0) }
     {
         let near = lowest(set.0) % STATE_WIDTH;
         let above = u64::leading_zeros(set.0) as usize;
@@ -76,18 +77,20 @@ impl Runs {
         let far = (2 * STATE_WIDTH - above - members) % STATE_WIDTH;
         let low = going(set, near);
         let high = going(set, far);
-        Runs {
-            set: set.0,
-            near: near,
-            low: low,
-            far: far,
-            high: high,
+        if low | high != set.0 {
+            return None;
         }
+        Some(Runs {
+            set: set.0,
+            near,
+            low,
+            far,
+            high,
+        })
     }
 
-    // The word cut to the set, where no state has anything else to go.
+    // The word cut to the set, bits closed up.
     fn close_up(self, w: u64) -> u64
-        requires { union self.low self.high ≡ self.set }
         ensures { result ≡ close_up state_width self.set w }
     {
         let first = (self.low & w) >> self.near;
@@ -98,7 +101,7 @@ impl Runs {
     }
 
     fn cut(self, words: &[u64], out: &mut [u64], count: usize)
-        requires { (union self.low self.high ≡ self.set) × (count ≤ length words.now) × (count ≤ length out.old) }
+        requires { (count ≤ length words.now) × (count ≤ length out.old) }
         ensures { out.new ≡ put_at 0 (M.cut_words self.set words.now 0 count) out.old }
     {
         for j in 0..count {
@@ -152,20 +155,14 @@ impl Moves {
     fn of(set: States) -> Moves
         ensures { result.set ≡ set.0 }
     {
-        let m0 = move_mask(set, 0);
-        let m1 = move_mask(set, 1);
-        let m2 = move_mask(set, 2);
-        let m3 = move_mask(set, 3);
-        let m4 = move_mask(set, 4);
-        let m5 = move_mask(set, 5);
         Moves {
             set: set.0,
-            m0: m0,
-            m1: m1,
-            m2: m2,
-            m3: m3,
-            m4: m4,
-            m5: m5,
+            m0: move_mask(set, 0),
+            m1: move_mask(set, 1),
+            m2: move_mask(set, 2),
+            m3: move_mask(set, 3),
+            m4: move_mask(set, 4),
+            m5: move_mask(set, 5),
         }
     }
 
@@ -231,11 +228,8 @@ pub fn cut(set: States, back: usize, words: &[u64], out: &mut [u64], count: usiz
     requires { (count ≤ length words.now) × (count ≤ length out.old) }
     ensures { out.new ≡ put_at 0 (M.cut_words set.0 words.now 0 count) out.old }
 {
-    let r = Runs::of(set);
-    if r.low | r.high == r.set {
-        r.cut(words, &mut *out, count);
-        return;
+    match Runs::of(set) {
+        Some(runs) => runs.cut(words, out, count),
+        None => Moves::of(set).cut(back, words, out, count),
     }
-    let m = Moves::of(set);
-    m.cut(back, words, &mut *out, count);
 }

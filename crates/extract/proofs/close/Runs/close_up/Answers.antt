@@ -5,8 +5,8 @@ use Rattle.extract.proofs.close.Runs.close_up.Goals as goal
 
 pub returns-then-self : goal.returns-then-self
 returns-then-self c =
-    run_close c.args.self.set _ _ _ _ _ (omega arith) c.args.self.made.low_is c.args.self.made.high_is c.requires c.if-self.true
+    run_close c.args.self.set _ _ _ _ _ (omega arith) c.args.self.made.low_is c.args.self.made.high_is c.args.self.all c.if-self.true
 
 pub returns : goal.returns
 returns c =
-    runs_close c.args.self.set _ _ _ _ _ (omega arith) c.args.self.made.low_is c.args.self.made.high_is c.requires
+    runs_close c.args.self.set _ _ _ _ _ (omega arith) c.args.self.made.low_is c.args.self.made.high_is c.args.self.all

@@ -12,9 +12,6 @@ use Rattle.extract.proofs.close.Runs.cut.Goals as goal
 pub loop-j-init : goal.loop-j-init
 loop-j-init c = list_none (omega arith)
 
-pub close_up-requires : goal.close_up-requires
-close_up-requires c = c.requires.0
-
 pub bounds-out-j : goal.bounds-out-j
 bounds-out-j c = omega (arith, c.loop-j.invariant.long)
 
