@@ -1,12 +1,13 @@
 -- Where the word led tells whether the list has ended; nothing is written before.
 use mathlib.Core.Path.{sym, ◌∙◌}
+use native.Mathlib.Omega.{arith}
 use Rattle.graph.specs.Format.{actions_of}
 use Rattle.run.specs.Even.{Tells, Led}
 use Rattle.run.proofs.Courses.{sets_length}
 use Rattle.run.proofs.Runs.{narrow_of}
 use Rattle.run.proofs.Tasks.{checked}
 use Rattle.run.proofs.Reports.{reported_refused, reported_accepted}
-use Rattle.run.proofs.Evens.{tells_of, fit_of, led_of, led_lacks, led_ends, led_counts}
+use Rattle.run.proofs.Evens.{tells_of, fit_of, known_by, led_of, led_lacks, led_ends, led_counts}
 use Rattle.run.proofs.run_evenly_in.Goals as goal
 use Rattle.run.proofs.run_evenly_in.Goals.{After-read_effects, After-walk_evenly-led}
 
@@ -15,6 +16,14 @@ tells : (c : After-read_effects) →
     let file = c.args.task.now.file in
     Tells (actions_of file.bytes.now file.counts) c.read_needs.new.needs c.read_owned-owned.result c.read_effects.new.when c.read_effects.new.goes
 tells c = tells_of c.args.task.now.file.taken c.read_needs.ensures c.read_owned-owned.ensures c.read_effects.ensures.0 c.read_effects.ensures.1
+
+pub invariant_of-evens : goal.invariant_of-evens
+invariant_of-evens c = record { fit = fit_of (tells (goal.at.invariant_of-evens c).After-read_effects) }
+
+pub walk_evenly-led-requires : goal.walk_evenly-led-requires
+unfolding actions_of
+walk_evenly-led-requires c =
+    (known_by _ (tells (goal.at.walk_evenly-led-requires c).After-read_effects) c.args.task.now.known, omega arith, omega arith)
 
 -- and where it led
 led : (c : After-walk_evenly-led) →
@@ -25,8 +34,9 @@ led c = led_of (checked c.args.task.now c.requires.0)
     (tells_of c.args.task.now.file.taken c.read_needs.ensures c.read_owned-owned.ensures c.read_effects.ensures.0 c.read_effects.ensures.1)
     c.start_course.ensures c.walk_evenly-led.ensures
 
-pub invariant_of-evens : goal.invariant_of-evens
-invariant_of-evens c = record { fit = fit_of (tells (goal.at.invariant_of-evens c).After-read_effects) }
+pub lacking-requires : goal.lacking-requires
+unfolding actions_of
+lacking-requires c = (known_by _ (tells (goal.at.lacking-requires c).After-read_effects) c.args.task.now.known, c.if-led-task.true)
 
 pub returns-then-lacking : goal.returns-then-lacking
 returns-then-lacking c =
@@ -35,6 +45,9 @@ returns-then-lacking c =
 
 pub run_rows-requires : goal.run_rows-requires
 run_rows-requires c = (c.requires.0, led (goal.at.run_rows-requires c).After-walk_evenly-led)
+
+pub lay-requires : goal.lay-requires
+lay-requires c = c.requires.0
 
 pub returns : goal.returns
 returns c =

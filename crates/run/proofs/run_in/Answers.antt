@@ -4,7 +4,7 @@ use Rattle.graph.specs.Format.{actions_of}
 use Rattle.run.specs.Run.{ran_verdict, end_rule}
 use Rattle.run.proofs.Courses.{sets_length}
 use Rattle.run.proofs.Runs.{narrow_of}
-use Rattle.run.proofs.Steps.{Words, run_ends, run_counts, run_lacks}
+use Rattle.run.proofs.Steps.{Words, tables_of, run_ends, run_counts, run_lacks}
 use Rattle.run.proofs.Tasks.{checked}
 use Rattle.run.proofs.Reports.{reported_refused, reported_accepted}
 use Rattle.run.proofs.run_in.Goals as goal
@@ -14,6 +14,10 @@ words : (c : After-read_steps) → let file = c.args.task.now.file in
     Words (actions_of file.bytes.now file.counts) c.read_steps.new.needs c.read_steps.new.leave c.read_steps.new.bring
 unfolding actions_of
 words c = let e = c.read_steps.ensures in record { needed = e.0; left = e.1; brought = e.2 }
+
+pub walk-did-requires : goal.walk-did-requires
+unfolding actions_of
+walk-did-requires c = tables_of (words (goal.at.walk-did-requires c).After-read_steps) c.args.task.now.known
 
 pub returns-then-did-task : goal.returns-then-did-task
 unfolding end_rule ran_verdict
@@ -32,3 +36,9 @@ returns c =
     reported_accepted _ _ _ _ _ _ _ (ap ran_verdict (sym (run_ends passed p (words (goal.at.returns c).After-read_steps) begins c.walk-did.ensures ended)))
     (sym (sets_length _ _ _ (λ s h. (narrow_of _ _ passed.taken).starts s h) _))
     (run_counts passed p (words (goal.at.returns c).After-read_steps) begins c.walk-did.ensures ended) c.lay.ensures
+
+pub read_steps-requires : goal.read_steps-requires
+read_steps-requires c = let p = c.requires in (p.1, p.2)
+
+pub lay-requires : goal.lay-requires
+lay-requires c = c.requires.0
