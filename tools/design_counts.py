@@ -1,6 +1,6 @@
 #!/usr/bin/env python3
 """design_counts.py [COMMIT]: counts, in crates/*/src of a commit or of the work tree, the places that docs/DESIGN-PASS.md speaks of.
-With -v each place is listed. A place that stays has a line '// Kept (point N): reason' in or right above it."""
+With -v each place is listed. A place that stays has a line '// Kept (point N): reason' in or right above it; a fact of several contracts has one in each file."""
 import collections, re, subprocess, sys
 
 args = [a for a in sys.argv[1:] if a != '-v']
@@ -56,7 +56,10 @@ def functions(name, text):
 
 
 def kept(f, point):
-    return f'Kept (point {point})' in f.body or any(f'Kept (point {point})' in c for c in f.comment)
+    """Whether a line in the function or right above it says why it stays, or one above an earlier function of the file that begins 'here and below'."""
+    line = f'Kept (point {point})'
+    return line in f.body or any(line in c for c in f.comment) or any(
+        g.file == f.file and g.line < f.line and any(f'{line}: here and below' in c for c in g.comment) for g in fns)
 
 
 rows = collections.OrderedDict()
@@ -170,7 +173,7 @@ for f in fns:
         place(5, 'function with eight or more parameters', f'{f.file}:{f.line} {f.name} ({len(names)})', kept(f, 5))
 for fact, users in facts.items():
     if len(users) >= 3:
-        place(5, 'fact asked for in three or more contracts', f'{fact}: {len(users)} in ' + ', '.join(sorted({u.file[7:] for u in users})), all(kept(u, 5) for u in users))
+        place(5, 'fact asked for in three or more contracts', f'{fact}: {len(users)} in ' + ', '.join(sorted({u.file[7:] for u in users})), all(any(kept(u, 5) for u in users if u.file == name) for name in {u.file for u in users}))
 
 # 6. memory with a place or a length beside it
 for f in fns:
