@@ -25,6 +25,7 @@ impl Bytes {
         Bytes([0; BYTES])
     }
 
+    // Kept (point 4): it stores a byte, as the script says, and prints nothing.
     pub fn put(&mut self, line: Line) {
         if let Some(b) = self.0.get_mut(line.size(Column::File)) {
             *b = (line.number(Column::Depth) % 256) as u8;

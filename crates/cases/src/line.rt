@@ -44,6 +44,7 @@ impl<'a> Line<'a> {
     }
 
     // The number in a column, 0 where the line ends before the column does.
+    // Kept (point 4): `parse` would turn the blanks away with which a column is filled up.
     pub fn number(self, column: Column) -> u32 {
         let at = column as usize;
         let digits = self.0.get(at..at + WIDTH).unwrap_or_default();

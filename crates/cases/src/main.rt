@@ -38,6 +38,7 @@ const ENTRIES: usize = 6;
 const FRESH_ENTRY: u16 = 9;
 
 // With no text nothing is said.
+// Kept (point 4): it prints by `Display`, and says only whether anything is printed.
 fn say_built(to: &mut impl Write, line: Line, answer: Answer) -> io::Result<()> {
     if line.text().is_empty() {
         return Ok(());
@@ -46,6 +47,8 @@ fn say_built(to: &mut impl Write, line: Line, answer: Answer) -> io::Result<()> 
 }
 
 // Lends as many of the room's elements as the line says to a call that writes them: what it answers, and what they then are.
+// Kept (point 4): it prints by `Display`; what it adds is the call between.
+// Kept (point 5): the closure is the caller's; a struct around it would ask the same where it is made.
 fn say_output<T: Display, F: FnOnce(&mut [T]) -> Answer>(
     to: &mut impl Write,
     line: Line,
@@ -62,6 +65,8 @@ fn say_output<T: Display, F: FnOnce(&mut [T]) -> Answer>(
 }
 
 // A call that writes sets.
+// Kept (point 4): as says `say_output`.
+// Kept (point 5): as says `say_output`.
 fn say_sets<F: FnOnce(&mut [u32]) -> Answer>(
     to: &mut impl Write,
     line: Line,

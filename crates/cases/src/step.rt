@@ -26,6 +26,7 @@ pub struct NoSuchStep;
 impl TryFrom<u8> for Step {
     type Error = NoSuchStep;
 
+    // Kept (point 7): the one place where a letter of the script becomes a step; behind it there are steps only.
     fn try_from(letter: u8) -> Result<Step, NoSuchStep> {
         match letter {
             b'e' => Ok(Step::PutByte),

@@ -54,6 +54,8 @@ fn going_at(s: usize, gap: usize, far: usize) -> u64
 }
 
 // The states of the set that have so far to go: one member after the other, `under` of them lie below it.
+// Kept (point 2): `move_mask` differs in what it asks and takes of a member. Of one loop over a closure a contract could say only what the
+// closure's own says, so a law for any such closure would be as long as both.
 fn going(set: States, far: usize) -> u64
     ensures { result ≡ M.going set.0 far }
 {
@@ -100,6 +102,8 @@ impl Runs {
         first | ((self.high & w) >> self.far)
     }
 
+    // Kept (point 6): as says `cut` below.
+    // Kept (point 3): after `zip` of `iter_mut` nothing is known of the list that is written.
     fn cut(self, words: &[u64], out: &mut [u64], count: usize)
         requires { (count ≤ length words.now) × (count ≤ length out.old) }
         ensures { out.new ≡ put_at 0 (M.cut_words self.set words.now 0 count) out.old }
@@ -144,6 +148,7 @@ fn same_piece(words: &[u64], one: usize, other: usize) -> bool
 }
 
 // The piece at one place copied to a later one.
+// Kept (point 6): both pieces lie in one list, and one is written: places are what `copy_within` takes.
 fn copy_piece(out: &mut [u64], from: usize, to: usize)
     requires { (from + piece_words ≤ to) × (to + piece_words ≤ length out.old) }
     ensures { out.new ≡ put_at to (list_over piece_words (λ i. get_or out.old (from + i) 0)) out.old }
@@ -183,6 +188,8 @@ impl Moves {
     }
 
     // So many words from a place on.
+    // Kept (point 6): as says `cut_piece`.
+    // Kept (point 3): after `zip` of `iter_mut` nothing is known of the list that is written.
     fn cut_words(self, words: &[u64], out: &mut [u64], at: usize, count: usize)
         requires { (at + count ≤ length words.now) × (at + count ≤ length out.old) }
         ensures { out.new ≡ put_at at (M.cut_words self.set words.now at count) out.old }
@@ -194,6 +201,7 @@ impl Moves {
     }
 
     // One piece: where it is the same as the one so far back, what came of that is copied.
+    // Kept (point 6): the piece is read beside the one `back` words earlier in the same lists, so it takes these and its place.
     fn cut_piece(self, back: usize, words: &[u64], out: &mut [u64], at: usize)
         requires { M.CutUpTo self.set words.now out.old at × (at + piece_words ≤ length words.now) × (at + piece_words ≤ length out.old) }
         ensures { out.new ≡ put_at at (M.cut_words self.set words.now at piece_words) out.old }
@@ -210,6 +218,8 @@ impl Moves {
     }
 
     // Whole pieces, and the words behind them.
+    // Kept (point 6): as says `cut` below.
+    // Kept (point 3): a piece is read beside the one `back` words earlier, so `chunks` of the list do not do.
     fn cut(self, back: usize, words: &[u64], out: &mut [u64], count: usize)
         requires { (count ≤ length words.now) × (count ≤ length out.old) }
         ensures { out.new ≡ put_at 0 (M.cut_words self.set words.now 0 count) out.old }
@@ -224,6 +234,8 @@ impl Moves {
 }
 
 // The first `count` words cut to the set, bits closed up. Layers mostly repeat so far back.
+// Kept (point 6): `laid` in the rule of `extract` speaks of all of `out`. With `words[..count]` and `out[..count]` here, what is said
+// of the parts would have to be carried back to the whole lists.
 pub fn cut(set: States, back: usize, words: &[u64], out: &mut [u64], count: usize)
     requires { (count ≤ length words.now) × (count ≤ length out.old) }
     ensures { out.new ≡ put_at 0 (M.cut_words set.0 words.now 0 count) out.old }

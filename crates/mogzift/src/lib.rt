@@ -95,6 +95,7 @@ pub fn mogzift_level_within(
     tell(answer, found, say_levels)
 }
 
+// Kept (point 5): the C interface, whose parameters these are.
 pub fn mogzift_level_share(
     file: &[u8],
     depth: usize,

@@ -40,6 +40,8 @@ pub fn tell<T: Drop, F: FnOnce(T) -> [u64; 3]>(
 }
 
 // Of a page, an extract or a text: how much it wrote.
+// Kept (point 4): no `From<usize> for [u64; 3]`, by the orphan rule: trait and types are others'. With a type of our own around the
+// three numbers, `From` would have to tell a count from a depth, both of which are a `usize`.
 pub fn say_count(count: usize) -> [u64; 3]
     ensures { result ≡ count_says count }
 {
@@ -47,6 +49,7 @@ pub fn say_count(count: usize) -> [u64; 3]
 }
 
 // Of a build.
+// Kept (point 4): as says `say_count`.
 pub fn say_build(built: Built) -> [u64; 3]
     ensures { result ≡ build_says (counted_words built) }
 {
@@ -54,6 +57,7 @@ pub fn say_build(built: Built) -> [u64; 3]
 }
 
 // Of a rest: its kind tells whether there is one.
+// Kept (point 4): as says `say_count`.
 pub fn say_rest(rest: Option<usize>) -> [u64; 3]
     ensures { result ≡ rest_says (rest_said rest) }
 {
@@ -64,6 +68,7 @@ pub fn say_rest(rest: Option<usize>) -> [u64; 3]
 }
 
 // Of a level: its kind tells it.
+// Kept (point 4): as says `say_count`.
 pub fn say_level(found: Level) -> [u64; 3]
     ensures { result ≡ level_says (level_said found) }
 {
@@ -86,6 +91,7 @@ fn entry(found: Level) -> u64
 }
 
 // Of two levels.
+// Kept (point 4): as says `say_count`.
 pub fn say_levels(levels: Levels) -> [u64; 3]
     ensures { result ≡ levels_says (levels_said levels) }
 {
@@ -93,6 +99,7 @@ pub fn say_levels(levels: Levels) -> [u64; 3]
 }
 
 // Of a run.
+// Kept (point 4): as says `say_count`.
 pub fn say_run(ran: Ran) -> [u64; 3]
     ensures { result ≡ run_says (record { sets = ran.sets; idle = ran.idle }) }
 {
@@ -100,6 +107,7 @@ pub fn say_run(ran: Ran) -> [u64; 3]
 }
 
 // Of a plan.
+// Kept (point 4): as says `say_count`.
 pub fn say_plan(plan: Planned) -> [u64; 3]
     ensures { result ≡ plan_says (record { level = plan.level; count = plan.marked }) }
 {
@@ -107,6 +115,7 @@ pub fn say_plan(plan: Planned) -> [u64; 3]
 }
 
 // Of a depth.
+// Kept (point 4): as says `say_count`.
 pub fn say_depth(depth: usize) -> [u64; 3]
     ensures { result ≡ depth_says depth }
 {

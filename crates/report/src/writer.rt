@@ -23,6 +23,7 @@ impl<'a> Writer<'a> {
         Writer { out, end: 0 }
     }
 
+    // Kept (point 4): it copies text that there is, and prints nothing by hand.
     pub fn put(&mut self, text: &[u8])
         requires { Fits self.old text.now }
         ensures { Adds self.old text.now self.new }

@@ -46,6 +46,7 @@ const OUT: usize = 14;
 
 const FILL: usize = 15;
 
+// Kept (point 1): the place in a case where the answer stands, and no kind of answer.
 const ANSWER: usize = 16;
 
 const FIRST: usize = 17;
@@ -205,6 +206,7 @@ impl<'a> Case<'a> {
     }
 
     // Fills what is lent, and calls.
+    // Kept (point 5): the closure is the caller's; a struct around it would ask the same where it is made.
     fn written<T: Element, F: FnOnce(&mut [T]) -> Answer>(self, out: &mut [T], call: F) -> Outcome
         requires { F.IsAlwaysCallable call }
     {
@@ -214,6 +216,7 @@ impl<'a> Case<'a> {
     }
 
     // Lends as much of the room as the case says.
+    // Kept (point 5): as says `written`.
     fn lent<T: Element, F: FnOnce(&mut [T]) -> Answer>(self, room: &mut [T], call: F) -> Outcome
         requires { F.IsAlwaysCallable call }
     {

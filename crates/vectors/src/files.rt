@@ -9,6 +9,7 @@ use crate::{calls, levels};
 use std::io;
 use std::io::Write;
 
+// Kept (point 1): two kinds of file, of which neither is the lack of the other, so no Option.
 #[derive(Clone, Copy)]
 pub enum File {
     Calls,
@@ -131,6 +132,7 @@ impl Judge {
     }
 
     // How many of each kind agree, of as many as the head announces.
+    // Kept (point 4): it prints by `writeln!` and the kind's `Display`; one for the judge would lack the kinds and the head.
     fn say(&self, out: &mut impl Write, kinds: &[Kind], head: Numbers) -> io::Result<()> {
         for (i, kind) in kinds.iter().enumerate() {
             let n = self.agree[*kind as usize];

@@ -43,6 +43,7 @@ pub fn fill<T: Element>(out: &mut [T], base: u64) {
 const START: u64 = 0xCBF2_9CE4_8422_2325;
 
 // The digest `d` with one byte more.
+// Kept (point 4): a step of the digest, and no conversion: FNV-1a is this one product.
 fn with_byte(d: u64, b: u8) -> u64 {
     (d ^ u64::from(b)).wrapping_mul(0x100_0000_01B3)
 }
@@ -56,6 +57,7 @@ pub fn digest_bytes(bytes: &[u8]) -> u64 {
 }
 
 // With a word's 8 bytes, lowest first.
+// Kept (point 4): a step of the digest; the conversion is `to_le_bytes`.
 fn with_word(d: u64, x: u64) -> u64 {
     with_bytes(d, &x.to_le_bytes())
 }
