@@ -5,7 +5,7 @@ use mathlib.Core.Path.{◌≡◌, refl, sym, ap, ap₂, subst, ◌∙◌}
 use mathlib.Core.Logic.{by_cases}
 use mathlib.Core.List.{List, ◌++◌}
 use native.Mathlib.Decide.{dec_le}
-use native.Mathlib.Nat.{le_refl, zero-add, add_comm, add_assoc, suc-mul, zero-mul, mul-zero, one-mul, add-mul, mul-le-mul_right, add-sub_of_le}
+use native.Mathlib.Nat.{le_refl, add_comm, add_assoc, suc-mul, zero-mul, mul-zero, one-mul, add-mul, mul-le-mul_right, add-sub_of_le}
 use native.Mathlib.Nat.{mod-lt, mod-eq_of_lt, mod-eq-sub-mod, mul-add-mod_self_right, div-add-mod', mul_assoc}
 use native.Mathlib.Omega.{arith}
 use lib.ListN.{length, get_or, take, drop, length-drop}
@@ -21,7 +21,7 @@ use Rattle.rules.proofs.Layers.{run_append, list_append, length_list_over, get_d
 use Rattle.words.specs.Memory.{put_at}
 use Rattle.layers.specs.Step.{step_words}
 use Rattle.build.specs.Steps.{Ended, Left}
-use Rattle.words.proofs.Writes.{Lists, list_all, list_done, list_front, same_word, put_none, put_length, put_put, put_word, put_front}
+use Rattle.words.proofs.Writes.{Lists, list_all, list_front, same_word, put_none, put_length, put_put, put_word, put_front}
 use Rattle.build.proofs.Builds.{step_length}
 
 -- so many words written, and more behind them

@@ -61,6 +61,7 @@ pub struct Outcome {
 
 // Writes the action layer at the front and the next proposition layer behind it; the layer and its table become that one.
 // `spare` gets what the adders of each proposition are together with; that and what is together in the layer before make the next layer.
+// Kept (point 6): the action layer goes to the front of the words and the next layer to `at`: one slice, cut here.
 pub fn step(
     words: &mut [u64],
     at: usize,

@@ -11,6 +11,7 @@ use together::effects::{Layer, Tables};
 use words::tables::{ROW, put_apart};
 
 // Words from `to` on.
+// Kept (point 6): one list behind the other into the same words: the place is where the one before ended.
 fn put_words(words: &mut [u64], to: usize, from: &[u64])
     requires { to + length from.now ≤ length words.old }
     ensures { words.new ≡ put_at to from.now words.old }
@@ -20,6 +21,8 @@ fn put_words(words: &mut [u64], to: usize, from: &[u64])
 }
 
 // The pairs of n elements, row by row.
+// Kept (point 3): each row is shorter by one than the one before, and is cut out of words, labels and table at other places.
+// Kept (point 6): as `put_words`.
 fn put_pairs(words: &mut [u64], to: usize, n: usize, labels: &[u64], t: &[u64])
     requires { Laid n labels.now t.now × (to + pairs n ≤ length words.old) }
     ensures { words.new ≡ put_at to (run_over n (row_of n (apart labels.now t.now))) words.old }
@@ -39,6 +42,8 @@ fn put_pairs(words: &mut [u64], to: usize, n: usize, labels: &[u64], t: &[u64])
 }
 
 // The pairs of each effect: with the later effects, then with each of n propositions. Where they end.
+// Kept (point 3): as `put_pairs`: i is a place in four lists.
+// Kept (point 6): as `put_words`.
 fn put_rows(
     words: &mut [u64],
     to: usize,

@@ -25,6 +25,7 @@ struct Seen {
 }
 
 // Looks at the words of a table at the members of a set, rising, until nothing is left. The words are `step` apart, from `base` on.
+// Kept (point 6): the words lie `step` apart from `base` on, one row or one column: a slice and a step would be no less.
 fn look_at(table: &[u64], base: usize, step: usize, set: u64, both: u64, before: usize) -> Seen
     requires { (set < 2 ^ row_length) × ((i : ℕ) → i < row_length → base + i * step < length table.now) × (before ≤ P.most_looks) }
     ensures { (S.scan_of row_length set (λ i. S.look (P.word_at table.now base step i)) (S.scan_at both before) ≡ S.scan_at result.left result.looked) × (result.looked ≤ before + row_length) }
@@ -50,6 +51,7 @@ fn all_but(set: u64, v: usize) -> u64
 }
 
 // How many vertices other than v add a proposition: `size` is how many there are, and `upper` the effects among them.
+// Kept (point 5): here and below, the number of adders: a pair of a set and its count with that invariant would be made in `pair_looks` for each pair of propositions.
 fn others_than(upper: u64, size: usize, v: usize) -> usize
     requires { (v < row_length) × (upper < 2 ^ row_length) × (size ≡ ones upper + 1) }
     ensures { result ≡ ones (W.without upper (W.single v)) + 1 }
@@ -162,6 +164,7 @@ pub struct Done {
 }
 
 // The labels of the next layer, into the table, the row of labels and the memory; what changed.
+// Kept (point 3): three lists are written at p and two tables read on the diagonal: as iterators four `zip`s, two of them over `step_by(ROW + 1)`.
 fn new_labels(words: &mut [u64], n: usize, labels: &mut [u64], t: &mut [u64], spare: &[u64]) -> u64
     requires { (n ≤ row_length) × (n ≤ length words.old) × (n ≤ length labels.old) × (length t.old ≡ table_length) × (length spare.now ≡ table_length) }
     ensures { E.Owned n spare.now t.old t.new result
@@ -182,6 +185,8 @@ fn new_labels(words: &mut [u64], n: usize, labels: &mut [u64], t: &mut [u64], sp
 
 // The pairs of p with each later proposition: into the table, either way round, and into the memory, that of p and q at `at + q`; and their looks.
 // Kept (point 5): as one `&mut Layer` in place of `labels` and `t` its contract would also have to say that the labels stay.
+// Kept (point 3): q is a place in five lists, either way round in two of them.
+// Kept (point 6): `at` is where the row of p would begin had it all propositions, so that the word of p and q lies at `at + q`.
 fn finish_row(
     words: &mut [u64],
     at: usize,

@@ -8,6 +8,7 @@ ghost use Rattle.together.specs.Cells.{Cutting, with_prop};
 use words::tables::{clear_cells, clear_column};
 
 // The table has a row for each effect.
+// Kept (point 2): one function for this and `cut_columns` would take `clear_cells` or `clear_column` as a closure, and its contract say by a relation between cells what the closure clears, which is all that the two clauses say.
 pub fn cut_rows(r: &mut [u64], dels: &[u32])
     requires { Cutting dels.now r.old }
     ensures { (i q : ℕ) → i < length dels.now → q < row_length → cell r.new i q ≡ with_prop dels.now r.old i q }

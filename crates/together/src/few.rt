@@ -67,6 +67,7 @@ fn few_effect(
 }
 
 // Copies row i, without the words that a set names.
+// Kept (point 5): here and below, the width: a type for PART or ROW would give its number to each loop over a row, and `Frame` has the number.
 fn keep_row(besides: &mut [u64], i: usize, r: &[u64], del: u64, width: usize)
     requires { Target besides.old i × Source r.now del × InParts width }
     ensures { RowPut (λ k. choose (W.bit k del) 0 (cell r.now i k)) width i besides.old besides.new }
@@ -76,6 +77,7 @@ fn keep_row(besides: &mut [u64], i: usize, r: &[u64], del: u64, width: usize)
 }
 
 // All effects, into rows of empty words; none is beside what it deletes.
+// Kept (point 3): i is the number of three rows that are written and of the effect that `few_effect` is told; `dels` is one list of the five in `effects`.
 fn few_effects(effects: Effects, tables: &mut Tables, width: usize)
     requires { InParts width × EmptyRows (length effects.needs.now) tables.old.mates }
     ensures { Kept tables.old tables.new
@@ -107,6 +109,7 @@ fn few_effects(effects: Effects, tables: &mut Tables, width: usize)
 }
 
 // Empty words at the front.
+// Kept (point 6): the front of a table that has a fixed size: `few` says how much of it is in use.
 fn clear(words: &mut [u64], count: usize)
     requires { count ≤ length words.old }
     ensures { words.new ≡ put_at 0 (list_over count (λ i. 0)) words.old }

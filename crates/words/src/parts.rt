@@ -53,6 +53,8 @@ impl Fold for Join {
 }
 
 // Words cut to a word.
+// Kept (point 6): here and below: a part of a row of a table by the place where it begins; a slice cut for each call would be named by the same place.
+// Kept (point 5): here and below: a table, a row and a part are slices of arrays that the caller lends; a struct of a table and the rows named would be made anew for each row.
 fn take_part(part: &mut [u64], words: &[u64], at: usize, own: u64)
     requires { (length part.old ≡ part_length) × (at + part_length ≤ length words.now) }
     ensures { part.new ≡ list_over part_length (λ k. common (get_or words.now (at + k) 0) own) }

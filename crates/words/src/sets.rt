@@ -121,6 +121,7 @@ impl Set for Props {
 }
 
 // A set of propositions as a word of 64 bits.
+// Kept (point 4): `u64::from` by the word that callers read: it is public, and `Props(set).word()` for each set would hide that nothing but the width changes.
 pub fn wide(set: u32) -> u64
     ensures { result ≡ set }
 {

@@ -25,6 +25,7 @@ pub fn put_apart(out: &mut [u64], own: u64, labels: &[u64], table: &[u64])
 }
 
 // Empties those words of a row that a set names.
+// Kept (point 6): a table and the number of its row, which the clause speaks of: the row alone, cut by the caller, would be the same two numbers there.
 pub fn clear_cells(table: &mut [u64], row: usize, set: u64)
     requires { (length table.old ≡ table_length) × (row < row_length) × (set < 2 ^ row_length) }
     ensures { table.new ≡ put_at (row * row_length) (list_over row_length (λ k. choose (bit k set) 0 (cell table.old row k))) table.old }
@@ -45,6 +46,7 @@ pub fn clear_column(table: &mut [u64], column: usize, set: u64)
 }
 
 // Column j of a table becomes row j of another.
+// Kept (point 3): a column of one table and a row of another: `to[j * ROW..].iter_mut().zip(from[j..].iter().step_by(ROW)).take(m)` has three adapters for the one line.
 fn turn_column(to: &mut [u64], from: &[u64], m: usize, j: usize)
     requires { (length to.old ≡ table_length) × (length from.now ≡ table_length) × (m ≤ row_length) × (j < row_length) }
     ensures { to.new ≡ put_at (j * row_length) (list_over m (λ i. cell from.now i j)) to.old }
