@@ -88,6 +88,8 @@ for name, text in files.items():
         for m in re.finditer(r'^(?:pub )?const ([A-Z_]+): (usize|u64) = \d+;', text, re.M):
             crate = '\n'.join(t for n, t in files.items() if n.split('/')[1] == name.split('/')[1])
             c = m.group(1)
+            if f'index({c})' in crate:
+                continue  # a place in a row
             if f'{c} =>' in crate or f'a::{c}' in crate or f'show::{c}' in crate or re.search(r'(say_name|say_line|say_both|answer:)[^;\n]*\b%s\b' % c, crate):
                 place(1, 'number for a kind', f'{name}: {c}', False)
 for f in fns:
