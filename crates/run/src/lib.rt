@@ -96,6 +96,7 @@ struct Shared {
 }
 
 // Version 1: of the start states of the set. Only the members cost time.
+// Kept (point 5): as `start_course` says.
 fn shared_by_members(file: &View<'_>, set: States) -> Shared
     requires { Some file.now.counts.states set.0 }
     ensures { (result.all ≡ meet_of file.now.counts.states set.0 (start_of file.now.bytes.now file.now.counts) (first prop_width))
@@ -128,6 +129,7 @@ fn shared_by_all(file: &View<'_>) -> Shared
 }
 
 // Version 1: what some state of the set lacks at the start, and above that what some state of it has.
+// Kept (point 5): with the task, whose type says the same of the set, in place of `file` and `set`, here and in `lay`, runs of 1000 steps took 1.5 times as long.
 fn start_course(file: &View<'_>, set: States) -> u64
     requires { Some file.now.counts.states set.0 }
     ensures { result ≡ course file.now.counts.states set.0 (start_of file.now.bytes.now file.now.counts) }
@@ -176,6 +178,7 @@ fn move_states(set: States, course: u64, out: &mut [u32])
 }
 
 // Version 1: the end sets of all states, at the front of the output.
+// Kept (point 5): as `start_course` says.
 fn lay(file: &View<'_>, set: States, course: u64, out: &mut [u32])
     requires { Some file.now.counts.states set.0 × (file.now.counts.states ≤ length out.old) }
     ensures { out.new ≡ put_at 0 (sets_of file.now.counts.states (start_of file.now.bytes.now file.now.counts) set.0 course) out.old }
