@@ -35,6 +35,7 @@ pub fn descend(
         ≡ P.descend (listed_actions effects.now.needs.now effects.now.owners.now effects.now.adders.now) words.now (length plan.old) needed.old [] }
 {
     let mut live = goal;
+    // Kept (point 3): by `plan.iter_mut().enumerate().rev()` nothing is known of the plan, since no adapter of `iter_mut` says what it is after it.
     for t in (0..plan.len()).rev() {
         let answer = fall(&mut *needed, live, words, t, effects);
         let Some(layer) = answer else {

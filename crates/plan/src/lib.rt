@@ -89,24 +89,8 @@ fn read_members(file: &View<'_>, needs: &mut [u32], owners: &mut [u8], adders: &
     }
 }
 
-// The same, by what is less work: the adders are also the columns of a square.
-fn read_effects(file: &View<'_>, needs: &mut [u32], owners: &mut [u8], adders: &mut [u64])
-    requires { (length needs.old ≡ file.now.counts.effects) × (length owners.old ≡ file.now.counts.effects) × (adders.old ≡ list_over file.now.counts.props (λ p. 0)) }
-    ensures { (needs.new ≡ list_over file.now.counts.effects (D.condition (actions_of file.now.bytes.now file.now.counts)))
-        × (owners.new ≡ list_over file.now.counts.effects (actions_of file.now.bytes.now file.now.counts).owner)
-        × (adders.new ≡ list_over file.now.counts.props (start_label file.now.counts.effects (actions_of file.now.bytes.now file.now.counts).add)) }
-{
-    if few_adds(file) {
-        read_members(file, needs, owners, adders);
-        return;
-    }
-    let mut adds = [0u32; PROP_WIDTH];
-    read_sets(file, needs, owners, &mut adds[..]);
-    columns_of_square(adders, &mut adds[..]);
-}
-
-// What the search goes by, read from the file into the lent memory.
-fn lent_effects<'a>(
+// What the search goes by, read into the lent memory by what is less work: the adders are also the columns of a square.
+fn read_effects<'a>(
     file: &View<'_>,
     needs: &'a mut [u32],
     owners: &'a mut [u8],
@@ -117,7 +101,17 @@ fn lent_effects<'a>(
         × (result.owners.now ≡ list_over file.now.counts.effects (actions_of file.now.bytes.now file.now.counts).owner)
         × (result.adders.now ≡ list_over file.now.counts.props (start_label file.now.counts.effects (actions_of file.now.bytes.now file.now.counts).add)) }
 {
-    read_effects(file, &mut *needs, &mut *owners, &mut *adders);
+    if few_adds(file) {
+        read_members(file, &mut *needs, &mut *owners, &mut *adders);
+        return Effects {
+            needs,
+            owners,
+            adders,
+        };
+    }
+    let mut adds = [0u32; PROP_WIDTH];
+    read_sets(file, &mut *needs, &mut *owners, &mut adds[..]);
+    columns_of_square(&mut *adders, &mut adds[..]);
     Effects {
         needs,
         owners,
@@ -182,7 +176,7 @@ fn plan_over(
     let mut adders = [0u64; PROP_WIDTH];
     let mut needed = [0u64; PROP_WIDTH];
     let mut plan = [0u32; MAX_DEPTH];
-    let effects = lent_effects(file, &mut needs[..e], &mut owners[..e], &mut adders[..n]);
+    let effects = read_effects(file, &mut needs[..e], &mut owners[..e], &mut adders[..n]);
     plan_in(
         &effects,
         set,

@@ -96,6 +96,7 @@ struct Shared {
 }
 
 // Version 1: of the start states of the set. Only the members cost time.
+// Kept (point 5): as `start_course` says.
 fn shared_by_members(file: &View<'_>, set: States) -> Shared
     requires { Some file.now.counts.states set.0 }
     ensures { (result.all ≡ meet_of file.now.counts.states set.0 (start_of file.now.bytes.now file.now.counts) (first prop_width))
@@ -128,13 +129,15 @@ fn shared_by_all(file: &View<'_>) -> Shared
 }
 
 // Version 1: what some state of the set lacks at the start, and above that what some state of it has.
-fn start_course(task: &Task<'_>) -> u64
-    ensures { result ≡ course task.now.file.counts.states task.now.set.0 (start_of task.now.file.bytes.now task.now.file.counts) }
+// Kept (point 5): with the task, whose type says the same of the set, in place of `file` and `set`, here and in `lay`, runs of 1000 steps took 1.5 times as long.
+fn start_course(file: &View<'_>, set: States) -> u64
+    requires { Some file.now.counts.states set.0 }
+    ensures { result ≡ course file.now.counts.states set.0 (start_of file.now.bytes.now file.now.counts) }
 {
-    let shared = if task.set.0 == States::first(task.file.counts.states).0 {
-        shared_by_all(&task.file)
+    let shared = if set.0 == States::first(file.counts.states).0 {
+        shared_by_all(file)
     } else {
-        shared_by_members(&task.file, task.set)
+        shared_by_members(file, set)
     };
     pack(
         Props::first(PROP_WIDTH).without(Props(shared.all)),
@@ -175,14 +178,15 @@ fn move_states(set: States, course: u64, out: &mut [u32])
 }
 
 // Version 1: the end sets of all states, at the front of the output.
-fn lay(task: &Task<'_>, course: u64, out: &mut [u32])
-    requires { task.now.file.counts.states ≤ length out.old }
-    ensures { out.new ≡ put_at 0 (sets_of task.now.file.counts.states (start_of task.now.file.bytes.now task.now.file.counts) task.now.set.0 course) out.old }
+// Kept (point 5): as `start_course` says.
+fn lay(file: &View<'_>, set: States, course: u64, out: &mut [u32])
+    requires { Some file.now.counts.states set.0 × (file.now.counts.states ≤ length out.old) }
+    ensures { out.new ≡ put_at 0 (sets_of file.now.counts.states (start_of file.now.bytes.now file.now.counts) set.0 course) out.old }
 {
     // By a copy of the view, of which no store to the output can be a part: else a run of ten steps took 1.1 to 1.2 times as long.
-    let view = task.file;
+    let view = *file;
     view.lay_starts(&mut *out);
-    move_states(task.set, course, &mut out[..view.counts.states]);
+    move_states(set, course, &mut out[..view.counts.states]);
 }
 
 // Version 1: of each action what the steps go by, what it needs, what it leaves and what it brings.
@@ -217,12 +221,12 @@ fn run_in(
     ensures { Ends task.now.file.bytes.now task.now.file.counts task.now.set.0 task.now.list.now result out.old out.new }
 {
     read_steps(&task.file, &mut *needs, &mut *leave, &mut *bring);
-    let from = start_course(task);
+    let from = start_course(&task.file, task.set);
     let did = walk(task.list, &*needs, &*leave, &*bring, from);
     if did.made < task.list.len() {
         return Err(Refusal::Precondition(did.made));
     }
-    lay(task, did.course, &mut *out);
+    lay(&task.file, task.set, did.course, &mut *out);
     Ok(Ran {
         sets: task.file.counts.states,
         idle: did.idle,
@@ -294,7 +298,7 @@ fn run_evenly_in(
         task.list,
         &evens,
         Walked {
-            course: start_course(task),
+            course: start_course(&task.file, task.set),
             made: 0,
             idle: 0,
         },
@@ -305,7 +309,7 @@ fn run_evenly_in(
         }
         return run_rows(task, &evens, led, &mut *out);
     }
-    lay(task, led.course, &mut *out);
+    lay(&task.file, task.set, led.course, &mut *out);
     Ok(Ran {
         sets: task.file.counts.states,
         idle: led.idle,

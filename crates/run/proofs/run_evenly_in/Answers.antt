@@ -46,8 +46,11 @@ returns-then-lacking c =
 pub run_rows-requires : goal.run_rows-requires
 run_rows-requires c = (c.requires.0, led (goal.at.run_rows-requires c).After-walk_evenly-led)
 
+pub start_course-requires : goal.start_course-requires
+start_course-requires c = c.args.task.now.some
+
 pub lay-requires : goal.lay-requires
-lay-requires c = c.requires.0
+lay-requires c = (c.args.task.now.some, c.requires.0)
 
 pub returns : goal.returns
 returns c =

@@ -40,5 +40,8 @@ returns c =
 pub read_steps-requires : goal.read_steps-requires
 read_steps-requires c = let p = c.requires in (p.1, p.2)
 
+pub start_course-from-requires : goal.start_course-from-requires
+start_course-from-requires c = c.args.task.now.some
+
 pub lay-requires : goal.lay-requires
-lay-requires c = c.requires.0
+lay-requires c = (c.args.task.now.some, c.requires.0)
