@@ -18,6 +18,7 @@ pub struct Owned<'a> {
     pub dels: &'a [u32],
     pub owners: &'a [u8],
     ghost listed: { I.Listed needs.now adds.now dels.now owners.now },
+    ghost few: { length needs.now ≤ row_length },
 }
 
 // Whether i deletes something that j needs or adds.
@@ -39,7 +40,7 @@ fn either_clobbers(sets: Owned, i: usize, j: usize) -> bool
 
 // Just j where it interferes with i, else no effect. Whose effects they are is looked at last, only where it matters.
 fn interferer(sets: Owned, i: usize, j: usize) -> u64
-    requires { (length sets.needs.now ≤ row_length) × (i < length sets.needs.now) × (j < length sets.needs.now) }
+    requires { (i < length sets.needs.now) × (j < length sets.needs.now) }
     ensures { result ≡ keep (I.interfere_in sets.entry.needs.now sets.entry.adds.now sets.entry.dels.now sets.entry.owners.now i j) (W.single j) }
 {
     if !either_clobbers(sets, i, j) {
@@ -53,7 +54,7 @@ fn interferer(sets: Owned, i: usize, j: usize) -> u64
 
 // The effects with which i interferes.
 fn interferers_of(sets: Owned, i: usize) -> u64
-    requires { (length sets.needs.now ≤ row_length) × (i < length sets.needs.now) }
+    requires { i < length sets.needs.now }
     ensures { result ≡ I.interferers_of sets.entry.needs.now sets.entry.adds.now sets.entry.dels.now sets.entry.owners.now i }
 {
     let mut joined = 0;
@@ -65,7 +66,7 @@ fn interferers_of(sets: Owned, i: usize) -> u64
 
 // Of each effect those with which it interferes.
 pub fn interferer_sets(sets: Owned, interferers: &mut [u64])
-    requires { (length sets.needs.now ≤ row_length) × (length interferers.old ≡ length sets.needs.now) }
+    requires { length interferers.old ≡ length sets.needs.now }
     ensures { interferers.new ≡ list_over (length sets.entry.needs.now) (I.interferers_of sets.entry.needs.now sets.entry.adds.now sets.entry.dels.now sets.entry.owners.now) }
 {
     for (i, found) in interferers.iter_mut().enumerate() {
