@@ -72,6 +72,7 @@ fn read_sets(file: &View<'_>, needs: &mut [u32], owners: &mut [u8], adds: &mut [
 }
 
 // Of each effect what it needs and its action, and of each proposition the effects that add it, found member by member.
+// Kept (point 5): as `lent_effects` says.
 fn read_members(file: &View<'_>, needs: &mut [u32], owners: &mut [u8], adders: &mut [u64])
     requires { (length needs.old ≡ file.now.counts.effects) × (length owners.old ≡ file.now.counts.effects) × (adders.old ≡ list_over file.now.counts.props (λ p. 0)) }
     ensures { (needs.new ≡ list_over file.now.counts.effects (D.condition (actions_of file.now.bytes.now file.now.counts)))
@@ -89,8 +90,26 @@ fn read_members(file: &View<'_>, needs: &mut [u32], owners: &mut [u8], adders: &
     }
 }
 
-// What the search goes by, read into the lent memory by what is less work: the adders are also the columns of a square.
-fn read_effects<'a>(
+// The same, by what is less work: the adders are also the columns of a square.
+// Kept (point 5): as `lent_effects` says.
+fn read_effects(file: &View<'_>, needs: &mut [u32], owners: &mut [u8], adders: &mut [u64])
+    requires { (length needs.old ≡ file.now.counts.effects) × (length owners.old ≡ file.now.counts.effects) × (adders.old ≡ list_over file.now.counts.props (λ p. 0)) }
+    ensures { (needs.new ≡ list_over file.now.counts.effects (D.condition (actions_of file.now.bytes.now file.now.counts)))
+        × (owners.new ≡ list_over file.now.counts.effects (actions_of file.now.bytes.now file.now.counts).owner)
+        × (adders.new ≡ list_over file.now.counts.props (start_label file.now.counts.effects (actions_of file.now.bytes.now file.now.counts).add)) }
+{
+    if few_adds(file) {
+        read_members(file, needs, owners, adders);
+        return;
+    }
+    let mut adds = [0u32; PROP_WIDTH];
+    read_sets(file, needs, owners, &mut adds[..]);
+    columns_of_square(adders, &mut adds[..]);
+}
+
+// What the search goes by, read from the file into the lent memory.
+// Kept (point 5): with `read_effects` in this function, plans of dense problems took up to 1.2 times as long.
+fn lent_effects<'a>(
     file: &View<'_>,
     needs: &'a mut [u32],
     owners: &'a mut [u8],
@@ -101,17 +120,7 @@ fn read_effects<'a>(
         × (result.owners.now ≡ list_over file.now.counts.effects (actions_of file.now.bytes.now file.now.counts).owner)
         × (result.adders.now ≡ list_over file.now.counts.props (start_label file.now.counts.effects (actions_of file.now.bytes.now file.now.counts).add)) }
 {
-    if few_adds(file) {
-        read_members(file, &mut *needs, &mut *owners, &mut *adders);
-        return Effects {
-            needs,
-            owners,
-            adders,
-        };
-    }
-    let mut adds = [0u32; PROP_WIDTH];
-    read_sets(file, &mut *needs, &mut *owners, &mut adds[..]);
-    columns_of_square(&mut *adders, &mut adds[..]);
+    read_effects(file, &mut *needs, &mut *owners, &mut *adders);
     Effects {
         needs,
         owners,
@@ -176,7 +185,7 @@ fn plan_over(
     let mut adders = [0u64; PROP_WIDTH];
     let mut needed = [0u64; PROP_WIDTH];
     let mut plan = [0u32; MAX_DEPTH];
-    let effects = read_effects(file, &mut needs[..e], &mut owners[..e], &mut adders[..n]);
+    let effects = lent_effects(file, &mut needs[..e], &mut owners[..e], &mut adders[..n]);
     plan_in(
         &effects,
         set,

@@ -45,14 +45,14 @@ returns-then-depth-t c = plan_refused _ _ _ _ (no_level_lem _ _ _ _ _ _ (met (go
 long : (c : Else-depth-t) → length {A = ℕ} (take c.first_met-t.result (replicate max_depth 0)) ≡ c.first_met-t.result
 long c = length-take-le {A = ℕ} c.first_met-t.result (replicate max_depth 0) (le_trans c.if-depth-t.false c.requires.0.deep)
 
-pub slice_bounds-read_effects-end : goal.slice_bounds-read_effects-end
-slice_bounds-read_effects-end c = sym (length-take-le _ _ (omega (arith, c.args.file.now.taken.ranged.effects)))
+pub slice_bounds-lent_effects-end : goal.slice_bounds-lent_effects-end
+slice_bounds-lent_effects-end c = sym (length-take-le _ _ (omega (arith, c.args.file.now.taken.ranged.effects)))
 
-pub slice_bounds-read_effects-end-2 : goal.slice_bounds-read_effects-end-2
-slice_bounds-read_effects-end-2 c = sym (length-take-le _ _ (omega (arith, c.args.file.now.taken.ranged.effects)))
+pub slice_bounds-lent_effects-end-2 : goal.slice_bounds-lent_effects-end-2
+slice_bounds-lent_effects-end-2 c = sym (length-take-le _ _ (omega (arith, c.args.file.now.taken.ranged.effects)))
 
-pub slice_bounds-read_effects-end-3 : goal.slice_bounds-read_effects-end-3
-slice_bounds-read_effects-end-3 c = sym (length-take-le _ _ (omega (arith, c.args.file.now.taken.ranged.props)))
+pub slice_bounds-lent_effects-end-3 : goal.slice_bounds-lent_effects-end-3
+slice_bounds-lent_effects-end-3 c = sym (length-take-le _ _ (omega (arith, c.args.file.now.taken.ranged.props)))
 
 pub slice_bounds-plan_in-end : goal.slice_bounds-plan_in-end
 slice_bounds-plan_in-end c = sym (length-take-le _ _ (omega (arith, c.args.file.now.taken.ranged.props)))
@@ -60,8 +60,8 @@ slice_bounds-plan_in-end c = sym (length-take-le _ _ (omega (arith, c.args.file.
 pub slice_bounds-plan_in-end-2 : goal.slice_bounds-plan_in-end-2
 slice_bounds-plan_in-end-2 c = sym (long (goal.at.slice_bounds-plan_in-end-2 c).Else-depth-t)
 
-pub read_effects-effects-requires : goal.read_effects-effects-requires
-read_effects-effects-requires c = (
+pub lent_effects-effects-requires : goal.lent_effects-effects-requires
+lent_effects-effects-requires c = (
   length-take-le _ _ (omega (arith, c.args.file.now.taken.ranged.effects)),
   length-take-le _ _ (omega (arith, c.args.file.now.taken.ranged.effects)),
   zeros _ prop_width c.args.file.now.taken.ranged.props,
@@ -71,7 +71,7 @@ pub plan_in-requires : goal.plan_in-requires
 plan_in-requires c =
     let a = c.args in
     let file = a.file.now in
-    let r = c.read_effects-effects.ensures in
+    let r = c.lent_effects-effects.ensures in
     let n = needs_long file.bytes.now file.counts file.taken _ _ _ r.0 r.1 r.2 in
     let m = adders_long file.bytes.now file.counts file.taken _ _ _ r.0 r.1 r.2 in (
       subst (λ (S : Shape). Room S (length {A = ℕ} (take c.first_met-t.result (replicate max_depth 0))) a.words.now) (λ i. record { props = sym m i; vertices = sym n i + sym m i })
@@ -86,7 +86,7 @@ unfolding actions_of
 returns c =
     let a = c.args in
     let file = a.file.now in
-    let r = c.read_effects-effects.ensures in
+    let r = c.lent_effects-effects.ensures in
     let m = adders_long file.bytes.now file.counts file.taken _ _ _ r.0 r.1 r.2 in
     equal_rule_lem a.out.now _ _
     (ap (planned_verdict a.depth)
