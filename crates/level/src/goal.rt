@@ -41,6 +41,7 @@ fn clashing(layer: &[u64], n: usize, set: States, p: usize, above: u64) -> usize
 // The place of such a mutex word of two goals, where the labels meet the goal; the layer's size where there is none. Each goal goes with those above it.
 // Kept (point 1): the clause speaks of the place by the definition Judged, in which the layer's size stands for none: `failing` and `failing_at` hand it on.
 // Kept (point 3): a `for` would hold the iterator, whose members that are left are what each goal goes with.
+// Kept (point 5): here and below: a type of the layers of n propositions would be made in `at` and `failing_at`, and taken apart again where Judged speaks of the list and of n.
 fn clash(layer: &[u64], n: usize, set: States, goal: Props) -> usize
     requires { (n ≤ prop_width) × (length layer.now ≡ size n) × (goal.0 < 2 ^ n) × So (all_of n goal.0 (label_meets layer.now set.0)) }
     ensures { Judged n layer.now set.0 goal.0 result }

@@ -369,6 +369,7 @@ fn set_in(labels: &[u64; ROW], s: usize) -> u32
 }
 
 // The sets of all states.
+// Kept (point 5): the output is lent by the caller, as long as there are states.
 pub fn lay_labels(labels: &[u64; ROW], out: &mut [u32])
     requires { length out.old ≤ state_width }
     ensures { out.new ≡ list_over (length out.old) (set_in labels.now) }

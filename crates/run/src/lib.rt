@@ -146,6 +146,7 @@ fn start_course(file: &View<'_>, set: States) -> u64
 }
 
 // Version 1: the states of the set move, the others keep what they started with.
+// Kept (point 5): here and below: the output is lent by the caller; in `Task` it would be borrowed for as long as the file is read, and no call could write it and read the task.
 fn move_members(set: States, course: u64, out: &mut [u32])
     requires { (set.0 < 2 ^ length out.old) × (length out.old ≤ state_width) }
     ensures { out.new ≡ sets_of (length out.old) (λ s. get_or out.old s 0) set.0 course }

@@ -59,6 +59,7 @@ fn free_of(layer: &[u64], n: usize, p: usize, above: u64, states: States, short:
 
 // Of these states those for which no two goals are mutex. Each goal goes with those above it.
 // Kept (point 3): a `for` would hold the iterator, whose members that are left are what each goal goes with.
+// Kept (point 5): here and below: as `clash` of `level` says; `needs_apart` and `holders` speak of the list and of n.
 fn free_in(layer: &[u64], n: usize, goal: Props, states: States, short: States) -> States
     requires { (n ≤ prop_width) × (length layer.now ≡ size n) × (goal.0 < 2 ^ n) }
     ensures { Looked (without states.0 (needs_apart n layer.now goal.0)) short.0 result.0 }

@@ -11,6 +11,7 @@ use crate::members::{Members, single};
 use crate::sets::{Props, Set};
 
 // Joins `t` to the word of each member. Only the members cost time, and where `t` is empty they do not.
+// Kept (point 5): here and below: the row is the front of a longer array, as long as there are propositions, so that no array type has its length.
 pub fn spread(row: &mut [u64], set: Props, t: u64)
     requires { length row.old ≤ prop_width }
     ensures { row.new ≡ list_over (length row.old) (λ q. W.union (label_in row.old q) (keep (W.bit q set.0) t)) }
