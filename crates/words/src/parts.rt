@@ -64,6 +64,7 @@ fn take_part(part: &mut [u64], words: &[u64], at: usize, own: u64)
     }
 }
 
+// Kept (point 6): as `take_part`.
 fn put_part(dest: &mut [u64], to: usize, part: &[u64])
     requires { (length part.now ≡ part_length) × (to + part_length ≤ length dest.old) }
     ensures { dest.new ≡ put_at to part.now dest.old }
@@ -74,6 +75,7 @@ fn put_part(dest: &mut [u64], to: usize, part: &[u64])
     }
 }
 
+// Kept (point 6): as `take_part`.
 fn fold_part<F: Fold>(part: &mut [u64], table: &[u64], at: usize)
     requires { (length part.old ≡ part_length) × (at + part_length ≤ length table.now) }
     ensures { part.new ≡ list_over part_length (λ k. F.op (get_or part.old k 0) (get_or table.now (at + k) 0)) }
@@ -143,6 +145,7 @@ fn rows_for(own: u64, named: u64) -> u64
 }
 
 // Row `row` of a table: the start row cut to `own`, met with the named rows of another. `width` is PART or ROW.
+// Kept (point 6): as `take_part`.
 pub fn meet_row(
     dest: &mut [u64],
     row: usize,
@@ -162,6 +165,7 @@ pub fn meet_row(
 }
 
 // Row `row` of a table: that of `from`, joined with the named rows of another.
+// Kept (point 6): as `take_part`.
 pub fn join_row(dest: &mut [u64], row: usize, from: &[u64], table: &[u64], width: usize, named: u64)
     requires { Target dest.old row × (length from.now ≡ table_length) × Source table.now named × InParts width }
     ensures { dest.new ≡ put_at (row * row_length) (list_over width (λ k. union (cell from.now row k) (join_of row_length named (λ i. cell table.now i k)))) dest.old }
@@ -172,6 +176,7 @@ pub fn join_row(dest: &mut [u64], row: usize, from: &[u64], table: &[u64], width
 }
 
 // Row `row` of a table: the named rows of another, joined; they begin with no word of any.
+// Kept (point 6): as `take_part`.
 pub fn gather_row(dest: &mut [u64], row: usize, table: &[u64], width: usize, named: u64)
     requires { Target dest.old row × Source table.now named × InParts width }
     ensures { dest.new ≡ put_at (row * row_length) (list_over width (λ k. join_of row_length named (λ i. cell table.now i k))) dest.old }
