@@ -22,6 +22,7 @@ const LOW_2: u32 = 0x3333_3333;
 const LOW_1: u32 = 0x5555_5555;
 
 // The high bits of row i and the low bits of row i + w change places.
+// Kept (point 5): here and below: with `&mut [u32; PROP_WIDTH]` the proof of `columns_of_square` did not close: nothing says there that what was turned are words of 32 bits.
 fn swap_pair(rows: &mut [u32], i: usize, w: usize, low: u32)
     requires { (i + w < length rows.old) × (length rows.old ≡ prop_width) }
     ensures { rows.new ≡ swap_pair w low i rows.old }
