@@ -24,8 +24,8 @@ fn mate(effects: Effects, tables: &mut Tables, frame: Frame)
         return few(effects, tables, frame.width);
     }
     turn(
-        &mut tables.besides[..],
-        &tables.r[..],
+        &mut tables.besides,
+        &tables.r,
         effects.needs.len(),
         frame.props,
     );
@@ -45,8 +45,8 @@ fn mate(effects: Effects, tables: &mut Tables, frame: Frame)
         frame.span,
     );
     turn(
-        &mut tables.besides[..],
-        &tables.spare[..],
+        &mut tables.besides,
+        &tables.spare,
         frame.props,
         effects.needs.len(),
     );

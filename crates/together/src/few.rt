@@ -39,6 +39,7 @@ fn few_row(
 }
 
 // Effect i with those independent of it and with itself, which adds what it adds.
+// Kept (point 5): here and below: `row` and the like are parts of a table, lent by `few_effects`, and no arrays of their own.
 fn few_effect(
     i: usize,
     effects: Effects,

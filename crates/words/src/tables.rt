@@ -47,8 +47,8 @@ pub fn clear_column(table: &mut [u64], column: usize, set: u64)
 
 // Column j of a table becomes row j of another.
 // Kept (point 3): a column of one table and a row of another: `to[j * ROW..].iter_mut().zip(from[j..].iter().step_by(ROW)).take(m)` has three adapters for the one line.
-fn turn_column(to: &mut [u64], from: &[u64], m: usize, j: usize)
-    requires { (length to.old ≡ table_length) × (length from.now ≡ table_length) × (m ≤ row_length) × (j < row_length) }
+fn turn_column(to: &mut [u64; TABLE], from: &[u64; TABLE], m: usize, j: usize)
+    requires { (m ≤ row_length) × (j < row_length) }
     ensures { to.new ≡ put_at (j * row_length) (list_over m (λ i. cell from.now i j)) to.old }
 {
     for i in 0..m {
@@ -57,8 +57,8 @@ fn turn_column(to: &mut [u64], from: &[u64], m: usize, j: usize)
 }
 
 // Turns a table of m rows and n columns round.
-pub fn turn(to: &mut [u64], from: &[u64], m: usize, n: usize)
-    requires { (length to.old ≡ table_length) × (length from.now ≡ table_length) × (m ≤ row_length) × (n ≤ row_length) }
+pub fn turn(to: &mut [u64; TABLE], from: &[u64; TABLE], m: usize, n: usize)
+    requires { (m ≤ row_length) × (n ≤ row_length) }
     ensures { (i j : ℕ) → i < m → j < n → cell to.new j i ≡ cell from.now i j }
 {
     for j in 0..n {

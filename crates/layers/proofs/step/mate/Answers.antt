@@ -23,7 +23,7 @@ returns-then-not-frame c =
 pub turn-requires : goal.turn-requires
 turn-requires c = let wide = c.requires.wide in
     let few = parts_le wide.parts in
-    (omega arith, omega arith, omega (arith, wide.effects, few), omega (arith, wide.props, few))
+    (omega (arith, wide.effects, few), omega (arith, wide.props, few))
 
 pub pairs-requires : goal.pairs-requires
 pairs-requires c = record {
@@ -54,12 +54,8 @@ join_rows-requires c =
 pub turn-requires-2 : goal.turn-requires-2
 turn-requires-2 c =
     let wide = c.requires.wide in
-    let few = parts_le wide.parts in (
-      omega (arith, c.turn.auto.to, c.cut_columns.auto.turned),
-      omega (arith, c.join_rows.auto.to),
-      omega (arith, wide.props, few),
-      omega (arith, wide.effects, few),
-    )
+    let few = parts_le wide.parts in
+    (omega (arith, wide.props, few), omega (arith, wide.effects, few))
 
 pub returns : goal.returns
 returns c =

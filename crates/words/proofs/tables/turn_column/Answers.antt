@@ -11,8 +11,5 @@ pub loop-i-preserved : goal.loop-i-preserved
 unfolding cell
 loop-i-preserved c = list_more c.loop-i.invariant (omega arith) refl refl
 
-pub shape_of-to : goal.shape_of-to
-shape_of-to c = c.loop-i.invariant.long
-
 pub returns : goal.returns
 returns c = list_done c.loop-i.invariant (omega arith)
