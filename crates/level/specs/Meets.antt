@@ -1,13 +1,12 @@
 -- A goal in a layer, by its members: one proposition and one pair at a time; and what the searches over layers find.
-use Rattle.std.specs.Prelude.{ℕ, suc, ◌+◌, ◌≤◌, ◌<◌, ◌≡◌, Bool, false, List, length, get_or}
+use Rattle.std.specs.Prelude.{ℕ, suc, ◌+◌, ◌≤◌, ◌<◌, ◌≡◌, Bool, false, List, get_or}
 use Rattle.std.proofs.Math.Bool.{So}
-use Rattle.rules.specs.Test.{◌implies◌, fails, same, below, choose}
+use Rattle.rules.specs.Test.{◌implies◌, fails, below, choose}
 use Rattle.rules.specs.Word.{bit, common, within, meets}
 use Rattle.rules.specs.Over.{all_below}
 use Rattle.rules.specs.Layer.{size, label_in, mutex_in, props_in}
 use Rattle.rules.specs.Level.{goal_met}
 use Rattle.rules.specs.declared.Shape.{Shape}
-use Rattle.graph.specs.Limits.{max_layer}
 
 -- f holds at each member of the set, of n
 unfoldable pub all_of : ℕ → ℕ → (ℕ → Bool) → Bool
@@ -46,19 +45,3 @@ pub record PassedOver (S : Shape) (words : List ℕ) (k set place shows from fou
   pub rises : from ≤ found
   pub within : found ≤ suc k
   pub each : (t : ℕ) → from ≤ t → t < found → common (get_or (props_in S words t) place 0) set ≡ shows → ⊥
-
--- the words have the same one at i after two places
-abbrev pub same_at : List ℕ → ℕ → ℕ → ℕ → Bool
-same_at words one other i = same (get_or words (one + i) 0) (get_or words (other + i) 0)
-
--- what the code asks that compares so many words after two places: no more than a layer, and they are there
-pub record Both (words : List ℕ) (one other count : ℕ) : Type 0 where
-  pub few : count ≤ max_layer
-  pub one_has : one + count ≤ length words
-  pub other_has : other + count ≤ length words
-
--- and that goes on from one of them: those before it are the same
-pub record Begun (words : List ℕ) (one other from count : ℕ) : Type 0 where
-  pub both : Both words one other count
-  pub within : from ≤ count
-  pub equal : So (all_below from (same_at words one other))

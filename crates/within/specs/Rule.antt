@@ -11,7 +11,7 @@ use Rattle.graph.specs.File.{file_rule}
 use Rattle.graph.specs.Build.{build_for, looks_for, Counted, counted}
 use Rattle.graph.specs.declared.format.Counts.{Counts}
 use Rattle.within.specs.declared.Levels as C
-use Rattle.level.specs.Rule.{level_said, level_taken, level_rule}
+use Rattle.level.specs.Rule.{level_said, level_rule}
 
 -- the set of state s in a list
 abbrev pub set_of : List ℕ → ℕ → ℕ
@@ -56,10 +56,6 @@ pub record Levels : Type 0 where
 -- two single calls' answers as one: turned away where one of them is
 unfoldable pub both : Verdict Level → Verdict Level → Verdict Levels
 both first second = and_then first (λ l. and_then second (λ m. accepted (record { first = l; second = m })))
-
--- the file being taken: causes 6 to 9, or the levels
-unfoldable pub levels_taken : Counts → ℕ → ℕ → ℕ → List ℕ → List ℕ → Verdict Levels
-levels_taken c depth set goal possible sure = both (level_taken c depth set goal possible) (level_taken c depth set goal sure)
 
 -- 'both graphs are lent to the level call': each answer is the single call's on its words
 unfoldable pub levels_rule : List ℕ → ℕ → ℕ → ℕ → List ℕ → List ℕ → Verdict Levels
