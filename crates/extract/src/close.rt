@@ -54,8 +54,8 @@ fn going_at(s: usize, gap: usize, far: usize) -> u64
 }
 
 // The states of the set that have so far to go: one member after the other, `under` of them lie below it.
-// Kept (point 2): `move_mask` differs in what it asks and takes of a member. Of one loop over a closure a contract could say only what the
-// closure's own says, so a law for any such closure would be as long as both.
+// Kept (point 2): `move_mask` differs in what it asks and takes of a member. One loop over a trait would have two instances with `far` and
+// the move in them, each with the law that its loop has here.
 fn going(set: States, far: usize) -> u64
     ensures { result ≡ M.going set.0 far }
 {

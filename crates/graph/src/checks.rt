@@ -1,7 +1,8 @@
 // The caller's checks that calls share: one for each cause, and the chain of causes 6 to 9 of a call that reads or writes a graph.
 ghost use Rattle.std.specs.Prelude.{◌≡◌, ◌≤◌};
+ghost use Rattle.rules.specs.Test.{below, choose};
 ghost use Rattle.words.specs.Width.{prop_width, state_width};
-ghost use Rattle.graph.specs.Verdict.{verdict};
+ghost use Rattle.graph.specs.Verdict.{verdict, accepted, turned_away};
 ghost use Rattle.graph.specs.Checks as C;
 ghost use Rattle.graph.specs.File.{Ranged};
 
@@ -46,29 +47,32 @@ pub fn check_goal(props: usize, goal: Props) -> Result<(), Refusal>
     Ok(())
 }
 
+// Whether there is as much as is wanted; `why` is the refusal where there is less.
+fn check_room(wanted: usize, have: usize, why: Refusal) -> Result<(), Refusal>
+    ensures { verdict result ≡ choose (below have wanted) (turned_away why) (accepted tt) }
+{
+    if have < wanted {
+        return Err(why);
+    }
+    Ok(())
+}
+
 // Cause 9.
-// Kept (point 2): one function for this and `check_output` would take the cause, `Refusal::Memory` or `Refusal::Output`, as a closure, and its contract say what the refusal of that number is; the two, with a clause each by memory_rule and output_rule, would call it.
 pub fn check_memory(wanted: usize, have: usize) -> Result<(), Refusal>
     ensures { verdict result ≡ C.memory_rule wanted have }
 {
-    if have < wanted {
-        return Err(Refusal::Memory(wanted));
-    }
-    Ok(())
+    check_room(wanted, have, Refusal::Memory(wanted))
 }
 
 // Cause 10.
 pub fn check_output(wanted: usize, have: usize) -> Result<(), Refusal>
     ensures { verdict result ≡ C.output_rule wanted have }
 {
-    if have < wanted {
-        return Err(Refusal::Output(wanted));
-    }
-    Ok(())
+    check_room(wanted, have, Refusal::Output(wanted))
 }
 
 // Causes 7 and 8, for a call that takes a set of states and a goal.
-// Kept (point 5): Ranged, as in `format`.
+// Kept (point 5): here and below: with a `View` in place of the counts more would be asked, a file that has them.
 pub fn check_asked(c: Counts, set: States, goal: Props) -> Result<(), Refusal>
     requires { Ranged c }
     ensures { verdict result ≡ C.asked_rule c set.0 goal.0 }

@@ -13,7 +13,8 @@ use crate::write::put_props;
 use words::parts::meet_row;
 
 // The table of these labels; `spare` is any table.
-// Kept (point 3): p is the row that is written, and the labels are lent as a whole besides; by `labels[..n].iter().enumerate()` p would stay.
+// Kept (point 3): by `labels[..n].iter().enumerate()` p stays, as the row that is written, and each label is one of the cut list, which the proof has to lead
+// back to the labels; it was tried, and is longer by that.
 fn start_table(t: &mut [u64], labels: &[u64], spare: &[u64], n: usize, width: usize)
     requires { Starting n width labels.now t.old spare.now }
     ensures { (p q : ℕ) → p < n → q < width → cell t.new p q ≡ W.common (get_or labels.now q 0) (get_or labels.now p 0) }

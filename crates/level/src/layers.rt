@@ -47,7 +47,7 @@ pub struct Layers<'a> {
 
 impl<'a> Layers<'a> {
     // Causes 6 to 9, or the layers: `asked` is what was found of the set and the goal, `Ok` for a call that takes neither.
-    // Kept (point 5): Ranged, as in `graph::format`.
+    // Kept (point 5): the counts as `check_graph` has them, which are handed on to it.
     pub fn lent(
         c: Counts,
         depth: usize,

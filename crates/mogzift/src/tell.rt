@@ -40,8 +40,8 @@ pub fn tell<T: Drop, F: FnOnce(T) -> [u64; 3]>(
 }
 
 // Of a page, an extract or a text: how much it wrote.
-// Kept (point 4): no `From<usize> for [u64; 3]`, by the orphan rule: trait and types are others'. With a type of our own around the
-// three numbers, `From` would have to tell a count from a depth, both of which are a `usize`.
+// Kept (point 4): `From<Built> for [u64; 3]` and the like could stand only in `build` and the like, which know nothing of C's three numbers;
+// and one from `usize` would have to tell a count from a depth.
 pub fn say_count(count: usize) -> [u64; 3]
     ensures { result ≡ count_says count }
 {

@@ -62,8 +62,7 @@ fn read_sets(file: &View<'_>, needs: &mut [u32], owners: &mut [u8], adds: &mut [
         × (adds.new ≡ put_at 0 (list_over file.now.counts.effects (actions_of file.now.bytes.now file.now.counts).add) adds.old) }
 {
     let view = *file;
-    // Kept (point 3): the index is that of all three lists and of the effect that is read; zipped, nothing is known of the lists, since no adapter of `iter_mut`
-    // says what they are after it.
+    // Kept (point 3): `iter_mut` can go over one of the lists only, and the effect is read by the same index: the others would be written by it as they are.
     for e in 0..needs.len() {
         needs[e] = view.condition(e);
         owners[e] = view.owner(e) as u8;
@@ -80,8 +79,7 @@ fn read_members(file: &View<'_>, needs: &mut [u32], owners: &mut [u8], adders: &
         × (adders.new ≡ list_over file.now.counts.props (start_label file.now.counts.effects (actions_of file.now.bytes.now file.now.counts).add)) }
 {
     let view = *file;
-    // Kept (point 3): the index is that of both lists and of the effect that is read; zipped, nothing is known of the lists, since no adapter of `iter_mut`
-    // says what they are after it.
+    // Kept (point 3): `iter_mut` can go over one of the lists only, and the effect is read by the same index: the others would be written by it as they are.
     for e in 0..needs.len() {
         needs[e] = view.condition(e);
         let o = view.owner(e);

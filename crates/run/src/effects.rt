@@ -51,8 +51,7 @@ pub fn read_effects(file: &View<'_>, when: &mut [u64], goes: &mut [u64])
     ensures { (when.new ≡ list_over file.now.counts.effects (actions_of file.now.bytes.now file.now.counts).when)
         × (goes.new ≡ list_over file.now.counts.effects (goes_of (actions_of file.now.bytes.now file.now.counts))) }
 {
-    // Kept (point 3): the index is that of both lists and of the effect that is read; zipped, nothing is known of the lists, since no adapter of `iter_mut` says
-    // what they are after it.
+    // Kept (point 3): `iter_mut` can go over one of the lists only, and the effect is read by the same index: the others would be written by it as they are.
     for e in 0..when.len() {
         when[e] = wide(file.antecedent(e));
         goes[e] = pack(Props(file.added(e)), Props(file.deleted(e)));

@@ -155,8 +155,8 @@ fn fire(
 }
 
 // Takes `t` away from the word of each member. Only the members cost time, and where `t` is empty they do not.
-// Kept (point 2): `spread` joins where this takes away. One function would take `|x| x ^ (x & t)` or `|x| x | t`, and each contract with it name what the closure
-// answers in the place of the word.
+// Kept (point 2): `spread` joins where this takes away. One function over a trait with a law for each, as `Fold` is, would have two instances of as many lines
+// as this loop.
 // Kept (point 5): the row as `spread` of `words` has it, of any length up to the width.
 fn strip(row: &mut [u64], set: Props, t: u64)
     requires { length row.old ≤ prop_width }

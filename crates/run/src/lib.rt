@@ -199,8 +199,7 @@ fn read_steps(file: &View<'_>, needs: &mut [u64], leave: &mut [u64], bring: &mut
         × (leave.new ≡ list_over file.now.counts.actions (leaves_of (actions_of file.now.bytes.now file.now.counts)))
         × (bring.new ≡ list_over file.now.counts.actions (brings_of (actions_of file.now.bytes.now file.now.counts))) }
 {
-    // Kept (point 3): the index is that of all three lists and of the action that is read; zipped, nothing is known of the lists, since no adapter of `iter_mut`
-    // says what they are after it.
+    // Kept (point 3): `iter_mut` can go over one of the lists only, and the action is read by the same index: the others would be written by it as they are.
     for a in 0..needs.len() {
         let del = Props(file.deleted(a));
         let add = Props(file.added(a));

@@ -23,7 +23,7 @@ use level::layers::{Layers, Level};
 use words::sets::Props;
 
 // Causes 8 and 18, by the total of the weights.
-// Kept (point 5): Ranged, as in `graph::format`.
+// Kept (point 5): the counts as `check_goal` and `check_graph` have them.
 fn check_wanted(
     c: Counts,
     goal: Props,

@@ -83,7 +83,8 @@ fn few_effects(effects: Effects, tables: &mut Tables, width: usize)
     requires { InParts width × EmptyRows (length effects.needs.now) tables.old.mates }
     ensures { Kept tables.old tables.new
         × ((i j : ℕ) → i < length effects.entry.needs.now → j < row_length → cell tables.new.mates i j ≡ mate_of effects.entry.needs.now effects.entry.interferers.now tables.new.live tables.new.r i j)
-        × ((i p : ℕ) → i < length effects.entry.needs.now → p < width → cell tables.new.besides i p ≡ beside_for effects.entry.needs.now effects.entry.adds.now effects.entry.dels.now effects.entry.interferers.now tables.new.live tables.new.r i p) }
+        × ((i p : ℕ) → i < length effects.entry.needs.now → p < width → cell tables.new.besides i p ≡ beside_for effects.entry.needs.now effects.entry.adds.now effects.entry.dels.now effects.entry.interferers.now tables.new.live tables.new.r i p)
+        × (tables.new.spare ≡ tables.old.spare) }
 {
     for i in 0..effects.needs.len() {
         keep_row(
@@ -123,7 +124,8 @@ pub fn few(effects: Effects, tables: &mut Tables, width: usize)
     requires { InParts width }
     ensures { Kept tables.old tables.new
         × ((i j : ℕ) → i < length effects.entry.needs.now → j < row_length → cell tables.new.mates i j ≡ mate_of effects.entry.needs.now effects.entry.interferers.now tables.new.live tables.new.r i j)
-        × ((i p : ℕ) → i < length effects.entry.needs.now → p < width → cell tables.new.besides i p ≡ beside_for effects.entry.needs.now effects.entry.adds.now effects.entry.dels.now effects.entry.interferers.now tables.new.live tables.new.r i p) }
+        × ((i p : ℕ) → i < length effects.entry.needs.now → p < width → cell tables.new.besides i p ≡ beside_for effects.entry.needs.now effects.entry.adds.now effects.entry.dels.now effects.entry.interferers.now tables.new.live tables.new.r i p)
+        × (tables.new.spare ≡ tables.old.spare) }
 {
     clear(&mut tables.mates[..], effects.needs.len() * ROW);
     few_effects(effects, tables, width);

@@ -14,12 +14,13 @@ loop-i-init c =
       record { live = refl; r = refl },
       effects_none e.needs.now e.adds.now e.dels.now e.interferers.now t.live t.r
           c.requires.0 (omega arith) c.requires.1 (omega arith),
+      refl,
     )
 
 pub keep_row-requires : goal.keep_row-requires
 keep_row-requires c =
     let e = c.args.effects in
-    let (kept, rows) = c.loop-i.invariant in
+    let (kept, rows, spare) = c.loop-i.invariant in
     let few = e.listed.few in (
       record { whole = rows.with_adders_lem.long; inside = omega arith },
       record {
@@ -32,7 +33,7 @@ keep_row-requires c =
 pub few_effect-requires : goal.few_effect-requires
 few_effect-requires c =
     let e = c.args.effects in
-    let (kept, rows) = c.loop-i.invariant in
+    let (kept, rows, spare) = c.loop-i.invariant in
     let i = c.loop-i.i in
     let t = c.loop-i.tables in
     let few = e.listed.few in
@@ -47,14 +48,15 @@ few_effect-requires c =
 pub loop-i-preserved : goal.loop-i-preserved
 loop-i-preserved c =
     let e = c.args.effects in
-    let (kept, rows) = c.loop-i.invariant in
+    let (kept, rows, spare) = c.loop-i.invariant in
     let few = e.listed.few in (
       record { live = kept.live; r = kept.r },
       effects_more rows c.requires.0 (omega arith) (omega arith) (omega (arith, c.keep_row.auto.besides, rows.with_adders_lem.long)) c.from.ensures
           c.keep_row.ensures c.few_effect.ensures.0 c.few_effect.ensures.1,
+      spare,
     )
 
 pub returns : goal.returns
 returns c =
-    let (kept, rows) = c.loop-i.invariant in
-    (kept, λ i j h l. rows.pairs.is i j (omega arith) l, λ i p h l. rows.with_adders_lem.is i p (omega arith) l)
+    let (kept, rows, spare) = c.loop-i.invariant in
+    (kept, λ i j h l. rows.pairs.is i j (omega arith) l, λ i p h l. rows.with_adders_lem.is i p (omega arith) l, spare)
