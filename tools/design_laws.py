@@ -31,8 +31,6 @@ def signatures(commit):
             record = 'record ' in line
             while j < len(lines) and (lines[j].startswith(m[1] + ' ') or (record and lines[j].strip())):
                 j += 1
-            if m[1] and i and 'record ' in ''.join(lines[max(0, i - 40):i]) and lines[i - 1].startswith(m[1] + 'pub ') and not lines[i].startswith('    '):
-                pass
             found[(name.split('/')[1], name.split('/')[2], m[3])] = (re.sub(r'\s+', ' ', ' '.join(lines[i:j])).strip(), name)
     return found
 
