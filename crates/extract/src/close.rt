@@ -11,6 +11,7 @@ ghost use Rattle.words.specs.Memory.{put_at};
 ghost use Rattle.extract.specs.Moves.{most_moves, piece_words};
 ghost use Rattle.extract.specs.Moves as M;
 
+use words::equal::same_words;
 use words::members::{Members, lowest};
 use words::sets::{STATE_WIDTH, Set, States};
 
@@ -144,7 +145,7 @@ fn same_piece(words: &[u64], one: usize, other: usize) -> bool
     requires { (one + piece_words ≤ length words.now) × (other + piece_words ≤ length words.now) }
     ensures { M.SamePiece words.now one other result }
 {
-    words[one..one + PIECE] == words[other..other + PIECE]
+    same_words(&words[one..one + PIECE], &words[other..other + PIECE])
 }
 
 // The piece at one place copied to a later one.

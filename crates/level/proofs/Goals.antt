@@ -29,7 +29,8 @@ use Rattle.words.proofs.MemberLoops.{lowest_in, lowest_lt}
 use Rattle.words.proofs.Lowest.{others_above}
 use Rattle.words.proofs.Places.{pair_in, mutex_up, mutex_own}
 use Rattle.level.specs.Meets.{all_of, label_meets, pair_meets, Above, Found, shown_at, Judged}
-use Rattle.level.proofs.Searches.{not_so, xor_same}
+use Rattle.words.proofs.Compares.{xor_same}
+use Rattle.level.proofs.Searches.{not_so}
 
 -- ---- what the test of all members says, both ways
 

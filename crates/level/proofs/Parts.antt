@@ -1,21 +1,27 @@
 -- A proposition layer as it is read: cut out of the words, or word by word where it lies.
 -- Assumes nothing.
 use mathlib.Core.Path.{◌≡◌, sym, ap, ap₂, subst, ◌∙◌}
+use mathlib.Core.Bool.{Bool}
 use mathlib.Core.List.{List}
 use mathlib.Core.Logic.{by_cases}
 use Prim.Native.Nat.{ℕ, suc, ◌+◌, ◌-◌, ◌*◌, ◌≤◌, ◌<◌}
 use native.Mathlib.Decide.{dec_le}
 use native.Mathlib.Nat.{mul-le-mul, mul-le-mul_right}
+use native.Mathlib.Numerals.{add-one}
 use native.Mathlib.Omega.{arith}
 use lib.ListN.{length, get_or, take, drop, length-drop}
 use lib.Seq.{length-take-le, get_or-take, get_or-drop}
+use Rattle.rules.specs.Test.{same}
 use Rattle.rules.specs.Word.{common}
+use Rattle.rules.specs.Over.{all_below}
 use Rattle.rules.specs.Layer.{size, stride, props_in}
+use Rattle.rules.specs.Level.{layer_rests}
 use Rattle.rules.specs.declared.Shape.{Shape}
+use Rattle.rules.proofs.Overs.{all_eq}
 use Rattle.rules.proofs.Layouts.{count_stride, props_fit}
 use Rattle.graph.specs.Checks.{Room}
 use Rattle.graph.specs.Limits.{max_depth, max_layer}
-use Rattle.level.specs.Meets.{PassedOver}
+use Rattle.level.specs.Meets.{PassedOver, same_at}
 
 module _ {S : Shape} {k : ℕ} {w : List ℕ} (room : Room S k w) (t : ℕ) (h : t ≤ k) where
   -- layer t, up to the depth, lies within the words
@@ -51,6 +57,35 @@ layer_length w at count h =
 pub word_at : (S : Shape) (w : List ℕ) (t i : ℕ) → i < size S.props → get_or (props_in S w t) i 0 ≡ get_or w (t * stride S + i) 0
 unfolding props_in
 word_at S w t i h = get_or-take (size S.props) _ i 0 h ∙ get_or-drop (t * stride S) w i 0
+
+-- words from a place on, cut out of two lists, are the same where those are
+pub cut_same : (one other : List ℕ) (at n : ℕ) {k m : ℕ} {x : Bool} → k ≡ n → m ≡ n → at + n ≤ length one
+    → x ≡ all_below (length (take k (drop at one))) (same_at (take k (drop at one)) (take m (drop at other)))
+    → x ≡ all_below n (λ i. same_at one other (at + i))
+cut_same one other at n {k} {m} {x} e f h told =
+    let long : length (take k (drop at one)) ≡ n = length-take-le k (drop at one) (omega (arith, length-drop at one)) ∙ e in
+    let word : (w : List ℕ) (j i : ℕ) → j ≡ n → i < n → get_or (take j (drop at w)) i 0 ≡ get_or w (at + i) 0 = λ w j i g l. get_or-take j (drop at w) i 0 (omega arith) ∙ get_or-drop at w i 0 in
+    told ∙ ap (λ (j : ℕ). all_below j (same_at (take k (drop at one)) (take m (drop at other)))) long
+    ∙ all_eq (λ i l. ap₂ same (word one k i e l) (word other m i f l))
+
+-- and words at the front
+pub front_same : (one other : List ℕ) (n : ℕ) {x : Bool} → length (take n one) ≡ n
+    → x ≡ all_below (length (take n one)) (same_at (take n one) (take n other)) → x ≡ all_below n (same_at one other)
+front_same one other n e told =
+    told ∙ ap (λ (j : ℕ). all_below j (same_at (take n one) (take n other))) e
+    ∙ all_eq (λ i l. ap₂ same (get_or-take n one i 0 l) (get_or-take n other i 0 l))
+
+-- the first words of a layer
+pub front_length : {S : Shape} {k : ℕ} {w : List ℕ} → Room S k w → (t count : ℕ) {l : List ℕ} → t ≤ k → count ≤ size S.props → l ≡ props_in S w t → length (take count l) ≡ count
+front_length room t count {l} h g e =
+    length-take-le count l (omega (arith, ap (λ (x : List ℕ). length x) e ∙ part_length _ _ _ (layer_fits room t h)))
+
+-- where all words of a layer are compared, that is whether it equals the next one
+pub rests_by : (S : Shape) (w : List ℕ) (t : ℕ) {count : ℕ} {x : Bool} → count ≡ size S.props
+    → x ≡ all_below count (same_at (props_in S w t) (props_in S w (t + 1))) → x ≡ layer_rests S w t
+unfolding layer_rests
+rests_by S w t e told =
+    told ∙ ap₂ (λ (n u : ℕ). all_below n (same_at (props_in S w t) (props_in S w u))) e (add-one t)
 
 -- ---- layers that lie a step apart
 

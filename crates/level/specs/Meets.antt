@@ -1,7 +1,7 @@
 -- A goal in a layer, by its members: one proposition and one pair at a time; and what the searches over layers find.
-use Rattle.std.specs.Prelude.{ℕ, suc, ◌+◌, ◌≤◌, ◌<◌, ◌≡◌, Bool, false, List, get_or}
+use Rattle.std.specs.Prelude.{ℕ, suc, ◌≤◌, ◌<◌, ◌≡◌, Bool, false, List, get_or}
 use Rattle.std.proofs.Math.Bool.{So}
-use Rattle.rules.specs.Test.{◌implies◌, fails, below, choose}
+use Rattle.rules.specs.Test.{◌implies◌, fails, same, below, choose}
 use Rattle.rules.specs.Word.{bit, common, within, meets}
 use Rattle.rules.specs.Over.{all_below}
 use Rattle.rules.specs.Layer.{size, label_in, mutex_in, props_in}
@@ -45,3 +45,7 @@ pub record PassedOver (S : Shape) (words : List ℕ) (k set place shows from fou
   pub rises : from ≤ found
   pub within : found ≤ suc k
   pub each : (t : ℕ) → from ≤ t → t < found → common (get_or (props_in S words t) place 0) set ≡ shows → ⊥
+
+-- two lists have the same word at i
+abbrev pub same_at : List ℕ → List ℕ → ℕ → Bool
+same_at one other i = same (get_or one i 0) (get_or other i 0)

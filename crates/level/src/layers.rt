@@ -1,13 +1,15 @@
 // The proposition layers up to a depth: the first that meets a goal, and whether and where one equals the next.
 ghost use Rattle.std.specs.Prelude.{◌≡◌, ◌+◌, ◌≤◌, ◌<◌, ◌^◌, length, IfOk};
+ghost use Rattle.std.proofs.Math.Bool.{So};
 ghost use Rattle.rules.specs.Test.{below};
+ghost use Rattle.rules.specs.Over.{all_below};
 ghost use Rattle.rules.specs.Layer.{size, props_in};
 ghost use Rattle.rules.specs.Level as L;
 ghost use Rattle.graph.specs.Verdict.{verdict, verdict_by};
 ghost use Rattle.graph.specs.Format.{shape_in};
 ghost use Rattle.graph.specs.File.{Ranged};
 ghost use Rattle.graph.specs.Checks.{Room, graph_rule};
-ghost use Rattle.level.specs.Meets.{Judged, shown_at, PassedOver};
+ghost use Rattle.level.specs.Meets.{Judged, shown_at, PassedOver, same_at};
 ghost use Rattle.level.specs.Rule as R;
 
 use crate::goal::failing;
@@ -16,6 +18,7 @@ use graph::format::Counts;
 use graph::layout::{layer_size, layer_start, stride};
 use graph::refusal::Refusal;
 use rules::Shape;
+use words::equal::same_words;
 use words::sets::{Props, Set, States};
 
 // What the layers say of a goal.
@@ -34,6 +37,44 @@ pub fn shown(n: usize, set: States, place: usize) -> u64
         return set.0;
     }
     0
+}
+
+// How many words are compared at once: at the front of two layers, and behind it.
+const FIRST: usize = 8;
+
+const BLOCK: usize = 16;
+
+// Whether two layers are the same that are so before a place: block by block, up to the first that differs.
+// Kept (point 3): it goes on by a block, whose length the compiler knows; of `chunks` it does not know it.
+// Kept (point 5): here and below: both layers are parts of the words that `Layers` has; a type of two lists of one length would be made for one call.
+// Kept (point 6): the place tells how far the layers are known to be the same.
+fn same_from(one: &[u64], other: &[u64], from: usize) -> bool
+    requires { (length other.now ≡ length one.now) × (from ≤ length one.now) × So (all_below from (same_at one.now other.now)) }
+    ensures { result ≡ all_below (length one.now) (same_at one.now other.now) }
+{
+    let mut at = from;
+    while BLOCK <= one.len() - at {
+        let end = at + BLOCK;
+        if !same_words(&one[at..end], &other[at..end]) {
+            return false;
+        }
+        at = end;
+    }
+    same_words(&one[at..], &other[at..])
+}
+
+// The same from the start. Two layers that differ do so mostly among the first labels.
+fn same_layers(one: &[u64], other: &[u64]) -> bool
+    requires { length other.now ≡ length one.now }
+    ensures { result ≡ all_below (length one.now) (same_at one.now other.now) }
+{
+    if one.len() < FIRST {
+        return same_words(one, other);
+    }
+    if !same_words(&one[..FIRST], &other[..FIRST]) {
+        return false;
+    }
+    same_from(one, other, FIRST)
 }
 
 // The words of a graph, read as layers up to a depth: there are as many words as that takes.
@@ -87,19 +128,20 @@ impl<'a> Layers<'a> {
 
     // The first layer from this one on whose word at the place shows that, and depth + 1 where none does: one word a layer is read.
     // Kept (point 1): the clause speaks of the layer by the definition PassedOver, in which depth + 1 stands for none.
-    // Kept (point 3): `self.words[from * step + place..].iter().step_by(step).take(end - from).position(..)` gives a place from `from` on, or None, of which the layer would have to be made again.
+    // Kept (point 3): by `for t in from..self.depth + 1`, and by `from..=self.depth`, each layer cost two operations more, and of small problems a level that is never met took up to 1.6 times as long.
     pub fn pass_over(&self, from: usize, set: States, place: usize, shows: u64) -> usize
         requires { (from ≤ self.now.depth + 1) × (place < size self.now.shape.props) }
         ensures { PassedOver self.now.shape self.now.words.now self.now.depth set.0 place shows from result }
     {
         let step = stride(self.shape);
-        let end = self.depth + 1;
-        for t in from..end {
+        let mut t = from;
+        while t <= self.depth {
             if self.words[t * step + place] & set.0 == shows {
                 return t;
             }
+            t += 1;
         }
-        end
+        t
     }
 
     // The first layer from 0 to depth that meets a goal of its propositions, and depth + 1 where none does. After a layer that does not, those are passed over in which the same word fails.
@@ -129,21 +171,24 @@ impl<'a> Layers<'a> {
         self.first_met_of(set, held)
     }
 
-    // Whether layer t equals the next one, labels and mutex words.
-    fn rests_at(&self, t: usize) -> bool
-        requires { t < self.now.depth }
-        ensures { result ≡ L.layer_rests self.now.shape self.now.words.now t }
+    // Whether the first words of layer t, so many, are those of the next one.
+    // In the loops that ask it, where the layers lie is then found by an addition.
+    #[inline(always)]
+    fn rests_at(&self, t: usize, count: usize) -> bool
+        requires { (t < self.now.depth) × (count ≤ size self.now.shape.props) }
+        ensures { result ≡ all_below count (same_at (props_in self.now.shape self.now.words.now t) (props_in self.now.shape self.now.words.now (t + 1))) }
     {
-        self.at(t) == self.at(t + 1)
+        same_layers(&self.at(t)[..count], &self.at(t + 1)[..count])
     }
 
-    // The first layer below depth that equals the next one, and depth where none does.
+    // The first layer below depth that equals the next one, labels and mutex words, and depth where none does.
     // Kept (point 1): the clause equates it with the definition first_rest, which has depth where no layer equals the next.
     pub fn first_rest(&self) -> usize
         ensures { result ≡ L.first_rest self.now.shape self.now.depth self.now.words.now }
     {
+        let count = layer_size(self.shape.props);
         for first in 0..self.depth {
-            if self.rests_at(first) {
+            if self.rests_at(first, count) {
                 return first;
             }
         }
@@ -154,8 +199,9 @@ impl<'a> Layers<'a> {
     pub fn rests(&self) -> bool
         ensures { result ≡ below (L.first_rest self.now.shape self.now.depth self.now.words.now) self.now.depth }
     {
+        let whole = layer_size(self.shape.props);
         for t in (0..self.depth).rev() {
-            if self.rests_at(t) {
+            if self.rests_at(t, whole) {
                 return true;
             }
         }

@@ -9,3 +9,4 @@ pub mod Spreads
 pub mod Squares
 pub mod Zeros
 pub mod FoldLaws
+pub mod Compares

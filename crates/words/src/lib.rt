@@ -2,6 +2,7 @@
 #![tactic(auto)]
 
 pub mod columns;
+pub mod equal;
 pub mod members;
 pub mod parts;
 pub mod sets;

@@ -29,4 +29,4 @@ pub loop-t-preserved : goal.loop-t-preserved
 loop-t-preserved c = passing_more c.loop-t.invariant (omega arith) c.if-self-t.false
 
 pub returns : goal.returns
-returns c = passing_end c.loop-t.invariant c.stride-step.ensures.0 c.requires.1 (omega arith)
+returns c = passing_done c.loop-t.invariant c.stride-step.ensures.0 c.requires.1

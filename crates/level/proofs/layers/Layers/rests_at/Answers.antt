@@ -1,23 +1,25 @@
--- `Layers::rests_at` meets its contract: the layers are equal when they are so word by word.
-use mathlib.Core.Path.{ap, ap₂, ◌∙◌}
+-- `Layers::rests_at` meets its contract: both layers are at least as long.
+use mathlib.Core.Path.{sym, ap₂, ◌∙◌}
 use mathlib.Core.List.{List}
-use Prim.Native.Nat.{ℕ}
-use native.Mathlib.Numerals.{add-one}
+use Prim.Native.Nat.{ℕ, ◌+◌}
 use native.Mathlib.Omega.{arith}
-use lib.Dec.{eqb}
-use lib.Pointwise.{pointwise}
-use Rattle.rules.specs.Layer.{size, props_in}
-use Rattle.rules.specs.Level.{layer_rests}
-use Rattle.rules.proofs.Equal.{equal_words}
-use Rattle.level.proofs.Parts.{layer_fits, part_length}
+use Rattle.rules.specs.Over.{all_below}
+use Rattle.level.specs.Meets.{same_at}
+use Rattle.level.proofs.Parts.{front_length, front_same}
 use Rattle.level.proofs.layers.Layers.rests_at.Goals as goal
 
+pub slice_bounds-same_layers-end : goal.slice_bounds-same_layers-end
+slice_bounds-same_layers-end c = sym (front_length c.args.self.now.room c.args.t c.args.count (omega arith) (omega arith) c.at.ensures)
+
+pub slice_bounds-same_layers-end-2 : goal.slice_bounds-same_layers-end-2
+slice_bounds-same_layers-end-2 c = sym (front_length c.args.self.now.room (c.args.t + 1) c.args.count (omega arith) (omega arith) c.at-2.ensures)
+
+pub same_layers-requires : goal.same_layers-requires
+same_layers-requires c =
+    front_length c.args.self.now.room (c.args.t + 1) c.args.count (omega arith) (omega arith) c.at-2.ensures
+    ∙ sym (front_length c.args.self.now.room c.args.t c.args.count (omega arith) (omega arith) c.at.ensures)
+
 pub returns : goal.returns
-unfolding layer_rests
 returns c =
-    let v = c.args.self.now in
-    let layer : ℕ → List ℕ = λ t. props_in v.shape v.words.now t in
-    c.eq.ensures
-    ∙ ap₂ (pointwise eqb) c.at.ensures (c.at-2.ensures ∙ ap layer (add-one c.args.t))
-    ∙ equal_words (size v.shape.props) _ _ (part_length _ _ _ (layer_fits v.room c.args.t (omega arith)))
-    (part_length _ _ _ (layer_fits v.room _ (omega arith)))
+    front_same _ _ c.args.count (front_length c.args.self.now.room c.args.t c.args.count (omega arith) (omega arith) c.at.ensures) c.same_layers.ensures
+    ∙ ap₂ (λ (one other : List ℕ). all_below c.args.count (same_at one other)) c.at.ensures c.at-2.ensures
