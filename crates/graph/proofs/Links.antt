@@ -157,9 +157,17 @@ unfolding goal_rule choose
 fit_goal n goal h = simp (below_of h)
 
 module _ (wanted have : ℕ) where
+  pub short_memory : have < wanted → refused 9 wanted ≡ memory_rule wanted have
+  unfolding memory_rule choose
+  short_memory h = simp (below_of h)
+
   pub long_memory : wanted ≤ have → accepted tt ≡ memory_rule wanted have
   unfolding memory_rule choose
   long_memory h = simp (below_not h)
+
+  pub short_output : have < wanted → refused 10 wanted ≡ output_rule wanted have
+  unfolding output_rule choose
+  short_output h = simp (below_of h)
 
   pub long_output : wanted ≤ have → accepted tt ≡ output_rule wanted have
   unfolding output_rule choose

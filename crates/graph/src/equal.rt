@@ -130,6 +130,7 @@ impl<'a> Plain<'a> {
     // The first action that equals an earlier one, and the number of actions where there is none. Each is put before those with its mark.
     // Kept (point 1): the clause equates it with the definition first_equal, which has the number of actions where none equals an earlier one; so are those of the three functions below.
     // Kept (point 3): `befores` is read from all places in the same pass, so that no iterator can hold it while `befores[a]` is written.
+    #[inline(always)]
     fn first_marked(&self, lasts: &mut [u8], befores: &mut [u8]) -> usize
         requires { Marked (actions_of self.now.bytes.now self.now.counts) 0 lasts.old × Chained (actions_of self.now.bytes.now self.now.counts) 0 befores.old }
         ensures { result ≡ first_equal (actions_of self.now.bytes.now self.now.counts) }
@@ -149,6 +150,8 @@ impl<'a> Plain<'a> {
     }
 
     // The same with no action marked yet.
+    // As `check_equal` says.
+    #[inline(always)]
     fn first_of_many(&self) -> usize
         ensures { result ≡ first_equal (actions_of self.now.bytes.now self.now.counts) }
     {
@@ -158,6 +161,8 @@ impl<'a> Plain<'a> {
     }
 
     // The same without marks, of few actions: to clear the marks takes longer.
+    // As `check_equal` says.
+    #[inline(always)]
     fn first_of_few(&self) -> usize
         ensures { result ≡ first_equal (actions_of self.now.bytes.now self.now.counts) }
     {
@@ -169,6 +174,8 @@ impl<'a> Plain<'a> {
     }
 
     // The same of any number of actions.
+    // As `check_equal` says.
+    #[inline(always)]
     fn first_equal(&self) -> usize
         ensures { result ≡ first_equal (actions_of self.now.bytes.now self.now.counts) }
     {
@@ -178,7 +185,8 @@ impl<'a> Plain<'a> {
         self.first_of_many()
     }
 
-    // Cause 15, of a file of version 1.
+    // Cause 15, of a file of version 1. As `check_actions` of `file` says.
+    #[inline(always)]
     pub(crate) fn check_equal(&self) -> Result<(), Refusal>
         ensures { verdict result ≡ equal_rule self.now.bytes.now self.now.counts }
     {

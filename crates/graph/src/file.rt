@@ -215,6 +215,8 @@ impl<'a> Whole<'a> {
     }
 
     // What is in some set of the file.
+    // As `check_actions` says.
+    #[inline(always)]
     fn joined_all(&self) -> u32
         ensures { result < 2 ^ self.now.counts.props → accepted tt ≡ R.sets_rule self.now.bytes.now self.now.counts }
     {
@@ -275,6 +277,8 @@ impl<'a> Whole<'a> {
     }
 
     // Cause 5: where no proposition of P or above is in all sets together, none has one.
+    // As `check_actions` says.
+    #[inline(always)]
     fn check_sets(&self) -> Result<(), Refusal>
         ensures { verdict result ≡ R.sets_rule self.now.bytes.now self.now.counts }
     {
@@ -310,6 +314,8 @@ impl<'a> Whole<'a> {
     }
 
     // Version 2: cause 16; where the largest number is that of an action, all are.
+    // As `check_actions` says.
+    #[inline(always)]
     fn check_owners(&self) -> Result<(), Refusal>
         requires { So (fails (F.plain self.now.counts)) }
         ensures { verdict result ≡ R.owners_rule self.now.bytes.now self.now.counts }
@@ -321,6 +327,8 @@ impl<'a> Whole<'a> {
     }
 
     // Causes 16 and 15: in version 1 each effect has its action, and in version 2 equal actions are not looked for.
+    // As a call of its own it would take the counts through memory, which each call pays for.
+    #[inline(always)]
     fn check_actions(&self) -> Result<(), Refusal>
         ensures { verdict result ≡ R.actions_rule self.now.bytes.now self.now.counts }
     {
@@ -332,6 +340,8 @@ impl<'a> Whole<'a> {
 }
 
 // Cause 5: with the most propositions no set has room for another.
+// As `check_actions` says.
+#[inline(always)]
 fn check_sets(file: &[u8], c: Counts) -> Result<(), Refusal>
     requires { Ranged c × (length file.now ≡ F.right_length c) }
     ensures { verdict result ≡ R.sets_rule file.now c }
