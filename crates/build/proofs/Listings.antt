@@ -158,7 +158,6 @@ module _ (file : List ℕ) (c : Counts) (needs adds dels owners adders interfere
             let k : i < c.effects = omega (arith, dels_same, needs_count) in
             subst (λ (x : ℕ). x < 2 ^ row_length) (sym (del_is i k)) (lt_of_lt_of_le (taken.del i k) (pow_mono le));
         interferers_long = interferers_same;
-        interferers_inside = interferers_inside;
         adders_few = omega (arith, adders_count, le);
         adders_inside = adders_inside;
       }

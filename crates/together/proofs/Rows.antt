@@ -2,6 +2,7 @@
 -- Assumes nothing.
 use Prim.Native.Nat.{ℕ, ◌+◌, ◌-◌, ◌*◌, ◌≤◌, ◌<◌, ◌^◌}
 use mathlib.Core.Path.{◌≡◌, refl, sym, ap, ap₂, subst, ◌∙◌}
+use mathlib.Core.Bool.{Bool}
 use mathlib.Core.Logic.{⊎_elim}
 use mathlib.Core.List.{List}
 use native.Mathlib.Omega.{arith}
@@ -12,12 +13,13 @@ use lib.Count.{count_trailing_zeros}
 use lib.ListN.{length, get_or, take, drop, set, length-drop}
 use lib.Pow.{pow_mono}
 use lib.Seq.{get_or-take, get_or-drop, length-take-le, get_or-set_same, get_or-set_other}
-use Rattle.rules.specs.Test.{same, choose}
+use Rattle.rules.specs.Test.{◌and◌, same, choose}
 use Rattle.rules.specs.Word.{bit, common, union, without, single, first}
 use Rattle.rules.specs.Over.{join_of, meet_of}
 use Rattle.rules.specs.Lists.{list_over}
-use Rattle.rules.proofs.Layers.{length_list_over}
-use Rattle.rules.proofs.Tests.{choose_held, choose_failed, holds_or, same_of, same_at, fails_at}
+use Rattle.rules.proofs.Layers.{length_list_over, list_over_eq}
+use Rattle.rules.proofs.Words.{bit_common, bit_first}
+use Rattle.rules.proofs.Tests.{choose_held, choose_failed, holds_or, same_of, same_at, fails_at, below_of}
 use Rattle.words.specs.Memory.{put_at}
 use Rattle.words.specs.Width.{word_width}
 use Rattle.words.specs.Rows.{row_length, table_length, cell, InParts, Inside}
@@ -142,6 +144,18 @@ module _ {all : ℕ} {t : List ℕ} {need left label p : ℕ} (m : Labels all t 
             e;
         upper = upper_more word_width m.upper inside e;
       }
+
+-- a set cut to the words of a row: it names those of them that the whole set names
+cut_bit : (x : ℕ) {named k : ℕ} → named ≡ common (first row_length) x → k < row_length → bit k named ≡ bit k x
+unfolding ◌and◌
+cut_bit x {named} {k} e l =
+    ap (bit k) e ∙ bit_common k (first row_length) x ∙ ap (λ (b : Bool). b and bit k x) (bit_first k row_length ∙ below_of l)
+
+pub cut_cleared : (x row : ℕ) (w : List ℕ) {named : ℕ} {w' : List ℕ} → named ≡ common (first row_length) x
+    → w' ≡ put_at (row * row_length) (list_over row_length (λ k. choose (bit k named) 0 (cell w row k))) w
+    → w' ≡ put_at (row * row_length) (list_over row_length (λ k. choose (bit k x) 0 (cell w row k))) w
+cut_cleared x row w {named} e put =
+    put ∙ ap (λ (l : List ℕ). put_at (row * row_length) l w) (list_over_eq (λ k l. ap (λ (b : Bool). choose b 0 (cell w row k)) (cut_bit x e l)))
 
 -- ---- a row of an effect with the effects: met, emptied where they interfere, and with itself
 

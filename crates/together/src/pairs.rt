@@ -7,9 +7,10 @@ ghost use Rattle.together.specs.Cells.{Pairing, Joining, with_effect};
 
 use crate::effects::Effects;
 use words::parts::{gather_row, join_row, meet_row};
+use words::sets::{Set, States};
 use words::tables::{ROW, clear_cells};
 
-// An effect with itself is there where it is; with one that it interferes with nowhere.
+// An effect with itself is there where it is; with one that it interferes with nowhere. Of its interferers only those count that a row has room for.
 pub fn pairs(effects: Effects, live: &[u64], turned: &[u64], mates: &mut [u64], span: usize)
     requires { Pairing span (length effects.needs.now) live.now turned.now mates.old }
     ensures { (i j : ℕ) → i < length effects.entry.needs.now → j < span → cell mates.new i j ≡ with_effect effects.entry.needs.now effects.entry.interferers.now live.now turned.now i j }
@@ -24,7 +25,8 @@ pub fn pairs(effects: Effects, live: &[u64], turned: &[u64], mates: &mut [u64], 
             span,
             u64::from(*need),
         );
-        clear_cells(&mut *mates, i, effects.interferers[i]);
+        let named = States::first(ROW).common(States(effects.interferers[i]));
+        clear_cells(&mut *mates, i, named.0);
         mates[i * ROW + i] = live[i];
     }
 }
