@@ -13,6 +13,8 @@ use Rattle.run.specs.declared.step.Walked.{Walked}
 use Rattle.run.specs.declared.step.Made.{Made}
 use Rattle.run.specs.declared.step.Unmade.{Unmade}
 use Rattle.run.specs.declared.step.Unmade.TheVariants as unmade
+use Rattle.run.specs.declared.step.Change.{Change}
+use Rattle.run.specs.declared.step.Change.TheVariants as change
 
 -- every number of the list is below n
 abbrev pub Known : ℕ → List ℕ → Type 0
@@ -79,10 +81,14 @@ unfoldable pub tried_on : ℕ → ℕ → ℕ → ℕ → Result Made Unmade
 tried_on w need leave bring =
     choose (same (common w need) 0) (Ok (record { left = common w leave; course = further leave bring w })) (Err unmade.Missing)
 
--- request Eight: 'changed some state of the set, changed none', as a number of idle steps: 1 for a step that leaves all of the word, and so changes no state
--- of the set; of a word and of what is left of it
+-- 1 for a step that leaves all of the word, and so changes no state of the set; of a word and of what is left of it
 unfoldable pub still : ℕ → ℕ → ℕ
 still w left = keep (fails (below left w)) 1
+
+-- 'changed some state of the set, changed none', as a number of idle steps
+unfoldable pub idle_by : Change → ℕ
+idle_by change.Some = 0
+idle_by change.None = 1
 
 -- ---- version 1: the steps of a list, whose actions' words stand in three lists
 

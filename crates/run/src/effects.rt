@@ -33,16 +33,15 @@ pub fn read_needs(file: &View<'_>, needs: &mut [u64])
     }
 }
 
-// The effects of each action.
-pub fn read_owned(file: &View<'_>) -> [u64; ROW]
-    ensures { result ≡ list_over row_length (effects_of (actions_of file.now.bytes.now file.now.counts)) }
+// The effects of each action, in a row of empty words: a row that is answered by value would be made twice, and the stack has little room for it.
+pub fn read_owned(file: &View<'_>, owned: &mut [u64; ROW])
+    requires { owned.old ≡ list_over row_length (λ a. 0) }
+    ensures { owned.new ≡ list_over row_length (effects_of (actions_of file.now.bytes.now file.now.counts)) }
 {
-    let mut owned = [0u64; ROW];
     for e in 0..file.counts.effects {
         let a = file.owner(e);
         owned[a] = owned[a] | single(e);
     }
-    owned
 }
 
 // Of each effect the antecedent, and what goes of the word where it fires in every state of the set.

@@ -8,7 +8,7 @@ ghost use Rattle.run.specs.Even as E;
 ghost use Rattle.run.specs.Even.{Foretold, TriedEvenly, GoesOn};
 
 use crate::effects::Evens;
-use crate::step::{ALL, Made, Unmade, Walked, counted, still};
+use crate::step::{ALL, Made, Unmade, Walked, change_of, counted};
 use graph::file::byte;
 use words::members::Members;
 use words::sets::PROP_WIDTH;
@@ -87,7 +87,7 @@ pub fn walk_evenly(list: &[u8], evens: &Evens<'_>, from: Walked) -> Walked
                 idle,
             };
         };
-        idle = counted(idle, still(course, made.left));
+        idle = counted(idle, change_of(course, made.left));
         course = made.course;
     }
     Walked {

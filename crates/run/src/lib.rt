@@ -286,7 +286,8 @@ fn run_evenly_in(
     ensures { Ends task.now.file.bytes.now task.now.file.counts task.now.set.0 task.now.list.now result out.old out.new }
 {
     read_needs(&task.file, &mut *needs);
-    let owned = read_owned(&task.file);
+    let mut owned = [0u64; ROW];
+    read_owned(&task.file, &mut owned);
     read_effects(&task.file, &mut *when, &mut *goes);
     let evens = Evens {
         needs: &*needs,

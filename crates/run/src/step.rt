@@ -72,6 +72,14 @@ pub fn try_step(course: u64, need: u64, leave: u64, bring: u64) -> Result<Made, 
     })
 }
 
+// What a step that was made changed: some state of the set, or none.
+// Kept (point 1): what a step answers is taken apart by `if let`, as document 01 asks; a bool would be asked by `if`.
+#[derive(Clone, Copy, PartialEq, Eq, Debug)]
+pub enum Change {
+    Some,
+    None,
+}
+
 // Whether a step leaves all of the word. What is left is never more, and so compared costs least.
 pub fn still(course: u64, left: u64) -> bool
     ensures { keep result 1 ≡ C.still course left }
@@ -79,12 +87,25 @@ pub fn still(course: u64, left: u64) -> bool
     course <= left
 }
 
-// The number of idle steps, with one more if this one is.
-pub fn counted(idle: usize, still: bool) -> usize
-    requires { idle + keep still 1 < 2 ^ word_width }
-    ensures { result ≡ idle + keep still 1 }
+// Of a word, and of what a step left of it.
+pub fn change_of(course: u64, left: u64) -> Change
+    ensures { C.idle_by result ≡ C.still course left }
 {
-    if still { idle + 1 } else { idle }
+    if still(course, left) {
+        return Change::None;
+    }
+    Change::Some
+}
+
+// The number of idle steps, with one more if the last step is one.
+pub fn counted(idle: usize, last: Change) -> usize
+    requires { idle + C.idle_by last < 2 ^ word_width }
+    ensures { result ≡ idle + C.idle_by last }
+{
+    if let Change::None = last {
+        return idle + 1;
+    }
+    idle
 }
 
 // Where the steps of a list led: up to the first that lacks its precondition, or through all of them.
@@ -105,7 +126,7 @@ pub fn walk(list: &[u8], needs: &[u64], leave: &[u64], bring: &[u64], from: u64)
     let mut left = 0u64;
     let mut idle = 0;
     for i in 0..list.len() {
-        idle = counted(idle, still(before, left));
+        idle = counted(idle, change_of(before, left));
         let a = byte(list, i);
         let did = try_step(course, needs[a], leave[a], bring[a]);
         let Ok(made) = did else {
@@ -122,6 +143,6 @@ pub fn walk(list: &[u8], needs: &[u64], leave: &[u64], bring: &[u64], from: u64)
     Walked {
         course,
         made: list.len(),
-        idle: counted(idle, still(before, left)),
+        idle: counted(idle, change_of(before, left)),
     }
 }

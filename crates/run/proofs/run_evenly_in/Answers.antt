@@ -1,6 +1,7 @@
 -- Where the word led tells whether the list has ended; nothing is written before.
-use mathlib.Core.Path.{sym, ◌∙◌}
+use mathlib.Core.Path.{refl, sym, ◌∙◌}
 use native.Mathlib.Omega.{arith}
+use Rattle.rules.specs.Lists.{list_over}
 use Rattle.graph.specs.Format.{actions_of}
 use Rattle.run.specs.Even.{Tells, Led}
 use Rattle.run.proofs.Courses.{sets_length}
@@ -14,8 +15,12 @@ use Rattle.run.proofs.run_evenly_in.Goals.{After-read_effects, After-walk_evenly
 -- what was read tells the file's actions
 tells : (c : After-read_effects) →
     let file = c.args.task.now.file in
-    Tells (actions_of file.bytes.now file.counts) c.read_needs.new.needs c.read_owned-owned.result c.read_effects.new.when c.read_effects.new.goes
-tells c = tells_of c.args.task.now.file.taken c.read_needs.ensures c.read_owned-owned.ensures c.read_effects.ensures.0 c.read_effects.ensures.1
+    Tells (actions_of file.bytes.now file.counts) c.read_needs.new.needs c.read_owned.new.owned c.read_effects.new.when c.read_effects.new.goes
+tells c = tells_of c.args.task.now.file.taken c.read_needs.ensures c.read_owned.ensures c.read_effects.ensures.0 c.read_effects.ensures.1
+
+pub read_owned-requires : goal.read_owned-requires
+unfolding list_over
+read_owned-requires c = refl
 
 pub invariant_of-evens : goal.invariant_of-evens
 invariant_of-evens c = record { fit = fit_of (tells (goal.at.invariant_of-evens c).After-read_effects) }
@@ -28,10 +33,10 @@ walk_evenly-led-requires c =
 -- and where it led
 led : (c : After-walk_evenly-led) →
     let task = c.args.task.now in
-    Led task.file.bytes.now task.file.counts task.set.0 task.list.now c.read_needs.new.needs c.read_owned-owned.result
+    Led task.file.bytes.now task.file.counts task.set.0 task.list.now c.read_needs.new.needs c.read_owned.new.owned
     c.read_effects.new.when c.read_effects.new.goes c.walk_evenly-led.result
 led c = led_of (checked c.args.task.now c.requires.0)
-    (tells_of c.args.task.now.file.taken c.read_needs.ensures c.read_owned-owned.ensures c.read_effects.ensures.0 c.read_effects.ensures.1)
+    (tells_of c.args.task.now.file.taken c.read_needs.ensures c.read_owned.ensures c.read_effects.ensures.0 c.read_effects.ensures.1)
     c.start_course.ensures c.walk_evenly-led.ensures
 
 pub lacking-requires : goal.lacking-requires

@@ -1,10 +1,12 @@
-use mathlib.Core.Path.{◌≡◌, refl, ap, ◌∙◌}
+use mathlib.Core.Path.{◌≡◌, ap, ◌∙◌}
+use mathlib.Core.List.{List}
 use Prim.Native.Nat.{ℕ, ◌<◌}
 use native.Mathlib.Omega.{arith}
 use lib.ListN.{length, length-set}
 use Rattle.rules.specs.Word.{single}
 use Rattle.rules.specs.Lists.{list_over}
 use Rattle.rules.specs.Shared.{start_label}
+use Rattle.rules.proofs.Layers.{length_list_over}
 use Rattle.words.specs.Rows.{row_length}
 use Rattle.words.proofs.Spreads.{columns_none, columns_more}
 use Rattle.graph.specs.Format.{actions_of}
@@ -19,7 +21,8 @@ owner_in c =
 
 pub loop-e-init : goal.loop-e-init
 unfolding list_over
-loop-e-init c = (omega arith, refl, columns_none row_length (λ e. single ((actions_of c.args.file.now.bytes.now c.args.file.now.counts).owner e)) _ refl)
+loop-e-init c =
+    (omega arith, ap (λ (l : List ℕ). length l) c.requires ∙ length_list_over row_length (λ a. 0), columns_none row_length (λ e. single ((actions_of c.args.file.now.bytes.now c.args.file.now.counts).owner e)) _ c.requires)
 
 pub loop-e-preserved : goal.loop-e-preserved
 loop-e-preserved c =

@@ -11,7 +11,7 @@ use Rattle.run.proofs.even.walk_evenly.Goals.{After-byte-a}
 pub counted-idle-requires : goal.counted-idle-requires
 counted-idle-requires c =
     let m = c.loop-i.invariant in
-    omega (arith, c.loop-i-test.true, m.few, c.still.ensures, still_le c.loop-i.course c.in-Ok.made.left)
+    omega (arith, c.loop-i-test.true, m.few, c.change_of.ensures, still_le c.loop-i.course c.in-Ok.made.left)
 
 pub loop-i-preserved : goal.loop-i-preserved
 loop-i-preserved c =
@@ -21,7 +21,7 @@ loop-i-preserved c =
     go_on_more l.invariant c.requires.0 c.in-Ok.made c.loop-i-test.true c.byte-a.ensures.0
     (subst (TriedEvenly a.evens.now.when.now a.evens.now.goes.now (get_or a.evens.now.owned.now x 0) (get_or a.evens.now.needs.now x 0) l.course) c.in-Ok.is
     c.step_evenly-did.ensures)
-    (c.counted-idle.ensures ∙ ap (λ (k : ℕ). l.idle + k) c.still.ensures)
+    (c.counted-idle.ensures ∙ ap (λ (k : ℕ). l.idle + k) c.change_of.ensures)
 
 pub returns : goal.returns
 returns c = go_on_done c.loop-i.invariant c.requires.0 c.loop-i-test.false

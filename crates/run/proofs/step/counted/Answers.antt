@@ -1,17 +1,27 @@
--- A step that is still is one more, any other is none.
+-- A change of none is one more, one of some is none.
 use Prim.Native.Nat.{ℕ, ◌+◌}
-use mathlib.Core.Path.{sym, ap, ◌∙◌}
+use mathlib.Core.Path.{◌≡◌, sym, ap, ◌∙◌}
 use native.Mathlib.Nat.{add-zero}
 use native.Mathlib.Omega.{arith}
-use Rattle.rules.proofs.Overs.{keep_held, keep_failed}
-use Rattle.rules.proofs.Tests.{is_fails}
+use Rattle.run.specs.Course.{idle_by}
+use Rattle.run.specs.declared.step.Change.{Change}
+use Rattle.run.specs.declared.step.Change.TheVariants.{Some, None}
 use Rattle.run.proofs.step.counted.Goals as goal
 
-pub returns-then-still : goal.returns-then-still
-returns-then-still c = ap (λ (x : ℕ). c.args.idle + x) (sym (keep_held 1 c.if-still.true))
+-- what is told of the change, as a number
+one : {x : Change} → x ≡ None → idle_by x ≡ 1
+unfolding idle_by
+one e = ap idle_by e
 
-pub returns-else-still : goal.returns-else-still
-returns-else-still c = sym (ap (λ (x : ℕ). c.args.idle + x) (keep_failed _ 1 (is_fails c.if-still.false)) ∙ add-zero _)
+none : {x : Change} → x ≡ Some → idle_by x ≡ 0
+unfolding idle_by
+none e = ap idle_by e
+
+pub returns-in-None : goal.returns-in-None
+returns-in-None c = ap (λ (x : ℕ). c.args.idle + x) (sym (one c.in-None.is))
 
 pub overflow_add-result : goal.overflow_add-result
-overflow_add-result c = omega (arith, keep_held 1 c.if-still.true, c.requires)
+overflow_add-result c = omega (arith, one c.in-None.is, c.requires)
+
+pub returns : goal.returns
+returns c = sym (ap (λ (x : ℕ). c.args.idle + x) (none c.in_default.is) ∙ add-zero _)

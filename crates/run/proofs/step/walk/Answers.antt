@@ -9,13 +9,13 @@ use Rattle.run.proofs.step.walk.Goals.{After-counted-idle}
 -- the idle steps before a step, from where it was tried
 idle_now : (c : After-counted-idle)
     → let l = c.loop-i in c.counted-idle.result ≡ l.idle + still l.before l.left
-idle_now c = c.counted-idle.ensures ∙ ap (λ (x : ℕ). c.loop-i.idle + x) c.still.ensures
+idle_now c = c.counted-idle.ensures ∙ ap (λ (x : ℕ). c.loop-i.idle + x) c.change_of.ensures
 
 pub loop-i-init : goal.loop-i-init
 loop-i-init c = walk_none c.requires
 
 pub counted-idle-requires : goal.counted-idle-requires
-counted-idle-requires c = omega (arith, c.still.ensures, idle_fits c.loop-i.invariant)
+counted-idle-requires c = omega (arith, c.change_of.ensures, idle_fits c.loop-i.invariant)
 
 pub returns-in_default : goal.returns-in_default
 returns-in_default c =
@@ -29,4 +29,4 @@ loop-i-preserved c =
     (idle_now (goal.at.loop-i-preserved c).After-counted-idle)
 
 pub counted-requires : goal.counted-requires
-counted-requires c = omega (arith, c.still-2.ensures, idle_fits c.loop-i.invariant)
+counted-requires c = omega (arith, c.change_of-2.ensures, idle_fits c.loop-i.invariant)
