@@ -85,6 +85,8 @@ fn support(
     requires { LayerLists wanted.now live labels.now effects.now.needs.now effects.now.owners.now effects.now.adders.now × (under.old ≡ list_over (length effects.now.adders.now) (λ q. 0)) }
     ensures { Covers (listed_actions effects.now.needs.now effects.now.owners.now effects.now.adders.now) labels.now wanted.now result under.new }
 {
+    // By a copy, of which no store to `under` can be a part.
+    let effects = *effects;
     let mut s = Took {
         left: 0,
         marks: 0,

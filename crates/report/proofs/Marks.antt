@@ -42,21 +42,21 @@ module _ (S : Shape) (depth : ℕ) (words : List ℕ) where
 
   module _ (deep : depth ≤ max_depth) where
     -- how long the text of the rest, of a level and of each line is
-    rest_short : length (rest_text (rest_of S depth words)) ≤ 3
+    pub rest_short : length (rest_text (rest_of S depth words)) ≤ 3
     unfolding rest_of choose
     rest_short = go (below (first_rest S depth words) depth) (λ e. below_at e)
       where
         go : (b : Bool) → (b ≡ true → first_rest S depth words < depth) → length (rest_text (choose b (rests_at (first_rest S depth words)) none)) ≤ 3
-        go true l = decimal_length 3 (first_rest S depth words) (omega arith) (omega (arith, l refl)) (omega (arith, l refl))
+        go true l = decimal_length 3 (first_rest S depth words) (omega (arith, l refl)) (omega arith)
         go false l = omega arith
 
-    cell_short : (set goal : ℕ) → length (cell_text (level_of S depth set goal words)) ≤ 4
+    pub cell_short : (set goal : ℕ) → length (cell_text (level_of S depth set goal words)) ≤ 4
     unfolding level_by level_of choose
     cell_short set goal = go (below (first_met S depth set goal words) (suc depth)) (below (first_rest S depth words) depth)
       where
         go : (a b : Bool) → length (cell_text (choose a (level (first_met S depth set goal words)) (choose b never not_by_depth))) ≤ 4
         go true b = let l = met_le S depth set words goal in
-            omega (arith, decimal_length 3 (first_met S depth set goal words) (omega arith) (omega arith) (omega arith))
+            omega (arith, decimal_length 3 (first_met S depth set goal words) (omega arith) (omega arith))
         go false true = omega arith
         go false false = omega arith
 
@@ -66,12 +66,12 @@ module _ (S : Shape) (depth : ℕ) (words : List ℕ) where
         let cell = λ (p : ℕ). cell_text (level_of S depth set (single p) words) in
         omega (arith, runs_length cell 4 S.props (λ p h. cell_short set (single p)), length-append (run_over S.props cell) (10 ∷ []))
 
-    state_short : (s : ℕ) → s < 100 → length (state_text S depth words s) ≤ 4 + 4 * S.props
+    pub state_short : (s : ℕ) → s < 100 → length (state_text S depth words s) ≤ 4 + 4 * S.props
     unfolding state_text
     state_short s h =
         omega (
           arith,
-          decimal_length 2 s (omega arith) h (omega arith),
+          decimal_length 2 s h (omega arith),
           line_short (single s),
           length-append (decimal s) (line_text S.props (λ p. level_of S depth (single s) (single p) words)),
         )
@@ -80,12 +80,12 @@ module _ (S : Shape) (depth : ℕ) (words : List ℕ) where
     unfolding all_text
     all_short states = omega (arith, line_short (first states))
 
-    head_short : length (head_text depth (rest_of S depth words)) ≤ head_room
+    pub head_short : length (head_text depth (rest_of S depth words)) ≤ head_room
     unfolding head_text
     head_short =
         omega (
           arith,
-          decimal_length 3 depth (omega arith) (omega arith) (omega arith),
+          decimal_length 3 depth (omega arith) (omega arith),
           rest_short,
           length-append (decimal depth) ((32 ∷ 114 ∷ 101 ∷ 115 ∷ 116 ∷ 32 ∷ []) ++ (rest_text (rest_of S depth words) ++ (10 ∷ []))),
           length-append (rest_text (rest_of S depth words)) (10 ∷ []),
@@ -116,8 +116,8 @@ unfolding refused_text
 refused_short number place h l =
     omega (
       arith,
-      decimal_length 20 number (omega arith) (omega arith) h,
-      decimal_length 20 place (omega arith) (omega arith) l,
+      decimal_length 20 number (omega (arith, h)) (omega arith),
+      decimal_length 20 place (omega (arith, l)) (omega arith),
       length-append (decimal number) ((32 ∷ []) ++ (decimal place ++ (10 ∷ []))),
       length-append (decimal place) (10 ∷ []),
     )

@@ -3,14 +3,16 @@
 use Prim.Native.Nat.{ℕ, zero, suc, ◌+◌, ◌-◌, ◌*◌, ◌/◌, ◌%◌, ◌^◌, ◌≤◌, ◌<◌}
 use mathlib.Core.Path.{◌≡◌, refl, sym, ap, ap₂, subst, ◌∙◌}
 use mathlib.Core.List.{List, [], ◌∷◌, ◌++◌}
+use mathlib.Core.Logic.{by_cases}
+use native.Mathlib.Decide.{dec_le}
 use native.Mathlib.Omega.{arith}
-use native.Mathlib.Nat.{suc-mul}
+use native.Mathlib.Nat.{suc-mul, pow-suc}
 use native.Mathlib.Numerals.{add-one}
 use borrow.Rule.Slice.PartMut.{put_mid}
 use lib.ListN.{length, take, drop, length-append}
 use lib.Seq.{drop-drop}
 use Rattle.std.specs.Fmt.{decimal as std_decimal}
-use Rattle.std.proofs.lemmas.Fmt.{decimal_by_steps, length-decimal-le}
+use Rattle.std.proofs.lemmas.Fmt.{decimal_by_steps}
 use Rattle.rules.specs.Test.{below, choose}
 use Rattle.rules.specs.Lists.{run_over}
 use Rattle.rules.proofs.Tests.{choose_failed, is_fails, below_of, below_not}
@@ -31,12 +33,12 @@ spell_enough (suc f) zero n h k = simp (below_of {i = n} {j = 10} (omega arith))
 spell_enough (suc f) (suc g) n h k = ap (λ (l : List ℕ). choose (below n 10) (digit n ∷ []) (l ++ (digit n ∷ []))) (spell_enough f g (n / 10) (omega arith)
     (omega arith))
 
-decimal_one : (n : ℕ) → n < 10 → (48 + n) ∷ [] ≡ decimal n
+pub decimal_one : (n : ℕ) → n < 10 → (48 + n) ∷ [] ≡ decimal n
 unfolding decimal spell choose digit
 decimal_one zero h = refl
 decimal_one (suc n) h = let e : suc n ≡ suc n % 10 = omega arith in ap (λ (d : ℕ). (48 + d) ∷ []) e ∙ sym (simp (below_of h))
 
-decimal_more : (n : ℕ) → 10 ≤ n → decimal (n / 10) ++ ((48 + n % 10) ∷ []) ≡ decimal n
+pub decimal_more : (n : ℕ) → 10 ≤ n → decimal (n / 10) ++ ((48 + n % 10) ∷ []) ≡ decimal n
 unfolding decimal spell digit
 decimal_more zero h = absurd (omega arith)
 decimal_more (suc n) h =
@@ -47,9 +49,17 @@ decimal_more (suc n) h =
 pub decimal_is : (n : ℕ) → n < 2 ^ 64 → std_decimal n ≡ decimal n
 decimal_is = decimal_by_steps (λ m l. l ≡ decimal m) decimal_one (λ m l h e. ap (λ (x : List ℕ). x ++ ((48 + m % 10) ∷ [])) e ∙ decimal_more m h)
 
+one_long : (n m : ℕ) → n < 10 → 1 ≤ m → length (decimal n) ≤ m
+one_long n m h l = subst (λ (x : List ℕ). length x ≤ m) (decimal_one n h) (omega arith)
+
 -- a number below the power k of ten has at most k digits
-pub decimal_length : (k n : ℕ) → 1 ≤ k → n < 10 ^ k → n < 2 ^ 64 → length (decimal n) ≤ k
-decimal_length k n l h small = subst (λ (x : List ℕ). length x ≤ k) (decimal_is n small) (length-decimal-le k n l h small)
+pub decimal_length : (k n : ℕ) → n < 10 ^ k → 1 ≤ k → length (decimal n) ≤ k
+decimal_length zero n h l = absurd (omega arith)
+decimal_length (suc zero) n h l = one_long n 1 (omega arith) (omega arith)
+decimal_length (suc (suc k)) n h l = by_cases (dec_le 10 n)
+    (λ q. subst (λ (x : List ℕ). length x ≤ suc (suc k)) (decimal_more n q)
+    (omega (arith, length-append (decimal (n / 10)) ((48 + n % 10) ∷ []), decimal_length (suc k) (n / 10) (omega (arith, pow-suc 10 (suc k))) (omega arith))))
+    (λ q. one_long n _ (omega arith) (omega arith))
 
 -- ---- text behind text
 
