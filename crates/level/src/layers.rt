@@ -172,7 +172,7 @@ impl<'a> Layers<'a> {
     }
 
     // Whether the first words of layer t, so many, are those of the next one.
-    // In the loops that ask it, where the layers lie is then found by an addition.
+    // In place where it is asked, so that what the shape tells is found once a loop.
     #[inline(always)]
     fn rests_at(&self, t: usize, count: usize) -> bool
         requires { (t < self.now.depth) × (count ≤ size self.now.shape.props) }

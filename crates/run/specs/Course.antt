@@ -85,7 +85,7 @@ tried_on w need leave bring =
 unfoldable pub still : ℕ → ℕ → ℕ
 still w left = keep (fails (below left w)) 1
 
--- 'changed some state of the set, changed none', as a number of idle steps
+-- request Eight: 'changed some state of the set, changed none', as a number of idle steps
 unfoldable pub idle_by : Change → ℕ
 idle_by change.Some = 0
 idle_by change.None = 1

@@ -2,7 +2,7 @@ use Prim.Native.Nat.{◌+◌, ◌*◌, ◌<◌}
 use native.Mathlib.Omega.{arith}
 use borrow.Author.Rules.{rules}
 use lib.ListN.{length}
-use Rattle.level.proofs.Parts.{passing_none, passing_more, passing_in, passing_done, passing_end}
+use Rattle.level.proofs.Parts.{passing_none, passing_more, passing_in, passing_done}
 use Rattle.level.proofs.layers.Layers.pass_over.Goals as goal
 use Rattle.level.proofs.layers.Layers.pass_over.Goals.{In-loop-t}
 
